@@ -3,9 +3,9 @@ ghost use Rattle.mig_around.specs.SaveTexts.{IsContextFront, unsound_in, judged_
 
 use crate::write::HVM_CONTEXT;
 use mig_guest::PartKey;
+use mig_guest::mig_machine_api::Machine;
 use mig_headers::Unsound;
 use mig_hvm::scan_context;
-use mig_machine_api::Machine;
 
 /// The key of the context.
 const CONTEXT: PartKey = PartKey {

@@ -3,7 +3,7 @@
 //! Responsible for: copying the parts that stand before the frames and room for those behind them, and marks for judging P2M
 //! frames, while there may still be no memory; writing the settings of the host as it is later over those that are held;
 //! judging a paused HVM host; and the records before the frames and behind them, END the last. Left to others: the machine
-//! (mig_machine_api), the frames and what is found in tables meanwhile (mig_rounds), judging a PV host and bringing its
+//! (mig_guest), the frames and what is found in tables meanwhile (mig_rounds), judging a PV host and bringing its
 //! contexts to their form in a stream (mig_pause), single records of parts (mig_canon), and what stands around the image.
 //!
 //! What the layers above rely on: what stands before the frames is what the canonical image has there of a guest with the

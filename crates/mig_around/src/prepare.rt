@@ -6,8 +6,8 @@ ghost use Rattle.mig_around.specs.KeptParts.{is_early as is_early_code, is_setti
 use crate::settings::{is_early, is_setting};
 use mig_bytes::Memory;
 use mig_guest::{Guest, PartKey};
+use mig_guest::mig_machine_api::Machine;
 use mig_headers::Kind;
-use mig_machine_api::Machine;
 use std::alloc::{AllocError, Global};
 
 /// Sets a part of the machine's host in a guest.

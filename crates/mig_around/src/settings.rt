@@ -4,7 +4,7 @@ ghost use Rattle.mig_around.specs.KeptParts.{is_early as is_early_code, is_setti
 
 use crate::write::HVM_CONTEXT;
 use mig_guest::{Guest, PartKey, is_fixed};
-use mig_machine_api::Machine;
+use mig_guest::mig_machine_api::Machine;
 
 /// The number of the pairs of an emulator.
 const EMULATOR_PAIRS: u32 = 258;

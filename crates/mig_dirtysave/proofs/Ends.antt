@@ -19,8 +19,8 @@ use Rattle.mig_records_pages.specs.Told.{FrameTold, telling_record, all_told}
 use Rattle.mig_records_pages.specs.Written.{WroteAll, WroteSome, IsRecordWithin, AreRecordsWithin}
 use Rattle.mig_records_pages.specs.Batches.{IsBehind}
 use Rattle.mig_records_pages.proofs.Written.{all_behind, some_behind}
-use Rattle.mig_machine_api.specs.History.{History, no_history}
-use Rattle.mig_machine_api.specs.MachineStates.{MachineState}
+use Rattle.mig_guest.specs.History.{History, no_history}
+use Rattle.mig_guest.specs.MachineStates.{MachineState}
 use Rattle.mig_rounds.specs.Parts.{total}
 use Rattle.mig_rounds.specs.Live.{FramesSaved}
 use Rattle.mig_rounds.proofs.Saves.{size_none}

@@ -4,7 +4,7 @@ use Rattle.std.specs.FinMap as maps
 use Rattle.mig_headers.specs.declared.unsound.Unsound.{Unsound}
 use Rattle.mig_headers.specs.declared.unsound.Unsound.TheVariants as unsounds
 use Rattle.mig_guest.specs.Hosts.{HostOf, HostFrame, IsValid}
-use Rattle.mig_machine_api.specs.Footprints.{footprint_of, footprint, table_in}
+use Rattle.mig_guest.specs.Footprints.{footprint_of, footprint, table_in}
 use Rattle.mig_rounds.specs.Forms.{superpage_in, superpage_slot, lost_in, lost_slot}
 use Rattle.mig_rounds.specs.Live.{IsUnsound}
 use Rattle.mig_around.proofs.Rows.{no_level, hvm_type}

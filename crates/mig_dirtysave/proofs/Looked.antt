@@ -14,10 +14,10 @@ use Rattle.mig_records_pages.specs.Told.{telling_record}
 use Rattle.mig_hosted.specs.View.{view}
 use Rattle.mig_wrap.specs.Canon.{wrapper_opening, wrapper_closing}
 use Rattle.mig_libxl.specs.Spelled.{AcceptedStream}
-use Rattle.mig_machine_api.specs.History.{History}
-use Rattle.mig_machine_api.specs.MachineStates.{MachineState}
-use Rattle.mig_machine_api.specs.Pfns.{Pfns, members, size}
-use Rattle.mig_machine_api.specs.Rounds.{Rounds, Tight, all_read, rounds_read}
+use Rattle.mig_guest.specs.History.{History}
+use Rattle.mig_guest.specs.MachineStates.{MachineState}
+use Rattle.mig_guest.specs.Pfns.{Pfns, members, size}
+use Rattle.mig_guest.specs.Rounds.{Rounds, Tight, all_read, rounds_read}
 use Rattle.mig_rounds.specs.Parts.{total, total_taken}
 use Rattle.mig_rounds.specs.Live.{IsTight, type_in}
 use Rattle.mig_pause.specs.Paused.{OnlyLooksUp, HasTypes}

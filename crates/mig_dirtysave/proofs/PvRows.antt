@@ -18,7 +18,7 @@ use Rattle.mig_pvtables.proofs.EachValue.{get_each}
 use Rattle.mig_pvtables.proofs.Searches.{first_found}
 use Rattle.mig_hosted.specs.Sound.{fault_in, find_gdt, unsoundness}
 use Rattle.mig_hosted.specs.View.{without_machine}
-use Rattle.mig_machine_api.specs.Footprints.{footprint, footprint_of, table_in, names_in, named_by}
+use Rattle.mig_guest.specs.Footprints.{footprint, footprint_of, table_in, names_in, named_by}
 use Rattle.mig_rounds.specs.Forms.{superpage_in, superpage_slot, is_lost, lost_in, lost_slot}
 use Rattle.mig_rounds.specs.Live.{IsUnsound}
 use Rattle.mig_standing.specs.Standing.{Standing, in_host, is_of_no_type, said_in, said_of}

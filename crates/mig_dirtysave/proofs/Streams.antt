@@ -24,7 +24,7 @@ use Rattle.mig_wrap.specs.Canon.{bare_guest, wrapper_opening, wrapper_closing}
 use Rattle.mig_libxl.specs.Spelled.{AcceptedStream}
 use Rattle.mig_wrap.proofs.Alike.{opening_alike, closing_alike}
 use Rattle.mig_wrap.proofs.AnyCanons.{around_is_accepted}
-use Rattle.mig_machine_api.specs.MachineStates.{MachineState}
+use Rattle.mig_guest.specs.MachineStates.{MachineState}
 use Rattle.mig_records_pages.specs.Told.{FrameTold, telling_frames, telling_record}
 use Rattle.mig_libxc.specs.Spelled.{Accepted}
 use Rattle.mig_rounds.specs.Live.{StaysSame, FramesSaved}

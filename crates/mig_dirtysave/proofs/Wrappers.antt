@@ -26,7 +26,7 @@ use Rattle.mig_wrap.proofs.Around.{closing_none, closing_some}
 use Rattle.mig_wrap.proofs.EmulatorParts.{IsEmulatorPart, in_order_holds}
 use Rattle.mig_wrap.proofs.EmulatorTexts.{short_emulator}
 use Rattle.mig_records_pages.specs.Written.{IsRecordWithin, AreRecordsWithin, WroteSome}
-use Rattle.mig_machine_api.specs.MachineStates.{MachineState}
+use Rattle.mig_guest.specs.MachineStates.{MachineState}
 use Rattle.mig_rounds.specs.Live.{StaysSame}
 use Rattle.mig_around.specs.KeptParts.{SameEmulators}
 use Rattle.mig_around.proofs.Codes.{emulator_setting}

@@ -6,8 +6,8 @@ ghost use Rattle.mig_headers.specs.declared.unsound.Unsound.{Unsound as UnsoundC
 ghost use Rattle.mig_guest.specs.Formed.{IsFormed};
 ghost use Rattle.mig_guest.specs.Hosts.{IsValid};
 ghost use Rattle.mig_records_pages.specs.Batches.{IsBehind};
-ghost use Rattle.mig_machine_api.specs.History.{no_history};
-ghost use Rattle.mig_machine_api.specs.MachineStates.{IsValidState};
+ghost use Rattle.mig_guest.specs.History.{no_history};
+ghost use Rattle.mig_guest.specs.MachineStates.{IsValidState};
 ghost use Rattle.mig_rounds.specs.Parts.{total};
 ghost use Rattle.mig_rounds.specs.Live.{StaysSame, HasRounds, IsTight, FramesSaved, SawTypes, AnswersTables, IsUnsound};
 ghost use Rattle.mig_wrap.specs.Canon.{wrapper_opening, wrapper_closing};
@@ -19,8 +19,8 @@ use crate::answer::SaveAnswer;
 use mig_around::write_before;
 use mig_bytes::Sink;
 use mig_guest::Guest;
+use mig_guest::mig_machine_api::Machine;
 use mig_headers::Unsound;
-use mig_machine_api::Machine;
 use mig_rounds::{Room, SendFault, Sent, send_frames};
 use mig_wrap::{write_closing, write_opening};
 

@@ -4,7 +4,7 @@ use Rattle.std.specs.List.{AllByRecursion, range_with_len}
 use Rattle.std.proofs.lemmas.Bool.{or_cases, eqb-true, false≢true}
 use Rattle.mig_headers.specs.declared.kind.Kind.{Kind}
 use Rattle.mig_guest.specs.Hosts.{HostOf}
-use Rattle.mig_machine_api.specs.Pfns.{Pfns, no_pfns, with_pfn, joined, size}
+use Rattle.mig_guest.specs.Pfns.{Pfns, no_pfns, with_pfn, joined, size}
 use Rattle.mig_script.specs.ScriptLines.{LineOf}
 use Rattle.mig_script.specs.ScriptLines.LineOf.{Write, Retype, Add, Remove, Exchange, Put, Dot}
 use Rattle.mig_lines.specs.Groups.{ran, ran_between}

@@ -3,9 +3,9 @@ use Rattle.std.proofs.Common.{◌≡◌, ℕ, Bool, true, false, cond, List, ref
 use Rattle.std.specs.Prelude.{◌==◌}
 use Rattle.std.specs.List.{list_any}
 use Rattle.std.proofs.Math.Path.{fun_ext}
-use Rattle.mig_machine_api.specs.MachineCalls.{LogTaken}
-use Rattle.mig_machine_api.specs.MachineStates.{MachineState, Ran}
-use Rattle.mig_machine_api.specs.Pfns.{Pfns, no_pfns}
+use Rattle.mig_guest.specs.MachineCalls.{LogTaken}
+use Rattle.mig_guest.specs.MachineStates.{MachineState, Ran}
+use Rattle.mig_guest.specs.Pfns.{Pfns, no_pfns}
 use Rattle.mig_faulty.specs.Forgetful.{without_pfns, forgotten, forgetting}
 
 -- what isn't in a set stays out of it

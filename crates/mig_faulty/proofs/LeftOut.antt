@@ -6,14 +6,14 @@ use Rattle.std.specs.List.{list_any, All}
 use Rattle.std.proofs.lemmas.List.Elements.{All-nil, All-cons}
 use Rattle.std.proofs.lemmas.Map.Views.{Contains-from_any, list_any-from_Contains}
 use Rattle.std.specs.Cmp.{nat_eq_equiv}
-use Rattle.mig_machine_api.specs.History.{LogTook}
+use Rattle.mig_guest.specs.History.{LogTook}
 use Rattle.std.proofs.lemmas.Bool.{eqb-true}
 use Rattle.std.proofs.lemmas.List.{get_or_past}
 use Rattle.std.proofs.lemmas.List.Folds.{list_any_more}
 use Rattle.std.proofs.lemmas.Nat.Bits.{bit_at-zero}
 use Rattle.std.proofs.Math.Path.{fun_ext}
-use Rattle.mig_machine_api.specs.Pfns.{Pfns, pfns_of_words}
-use Rattle.mig_pfnset.specs.Changes.{without_pfn}
+use Rattle.mig_guest.specs.Pfns.{Pfns, pfns_of_words}
+use Rattle.mig_guest.specs.Changes.{without_pfn}
 use Rattle.mig_faulty.specs.Forgetful.{without_pfns, log_forgotten}
 
 -- one number more is left out

@@ -1,7 +1,7 @@
 -- A machine of which chosen calls fail, and what it is to be that machine later on.
 use Rattle.std.specs.Prelude.{◌≡◌, ℕ, ◌≤◌, List, refl}
 use Rattle.std.specs.Coded.{Coded, code_by, coded×, coded_ℕ, coded_list}
-use Rattle.mig_machine_api.specs.MachineStates.{MachineState}
+use Rattle.mig_guest.specs.MachineStates.{MachineState}
 use Rattle.mig_machine.specs.Exact.{IsLaterMachine}
 use Rattle.mig_machine.specs.MachineSeen.{MachineSeen, machine_state, machine_code}
 

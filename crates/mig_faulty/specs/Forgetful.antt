@@ -2,9 +2,9 @@
 use Rattle.std.specs.Prelude.{◌≡◌, ℕ, ◌==◌, if◌then◌else◌, false, List, map, refl}
 use Rattle.std.specs.Coded.{Coded, code_by, coded×, coded_ℕ, coded_list}
 use Rattle.std.specs.List.{list_any}
-use Rattle.mig_machine_api.specs.History.{LogTook, History}
-use Rattle.mig_machine_api.specs.MachineStates.{MachineState}
-use Rattle.mig_machine_api.specs.Pfns.{Pfns}
+use Rattle.mig_guest.specs.History.{LogTook, History}
+use Rattle.mig_guest.specs.MachineStates.{MachineState}
+use Rattle.mig_guest.specs.Pfns.{Pfns}
 use Rattle.mig_machine.specs.Exact.{IsLaterMachine}
 use Rattle.mig_machine.specs.MachineSeen.{MachineSeen, machine_state, machine_code}
 

@@ -3,18 +3,18 @@ ghost use Rattle.std.specs.Prelude.{refl, ◌≡◌, ◌+◌, ◌/◌, ◌<◌, 
 ghost use Rattle.mig_bytes.specs.Faults.{HasCause};
 ghost use Rattle.mig_bytes.specs.Memory.{counted_up, IsListed};
 ghost use Rattle.mig_guest.specs.Hosts.{pfn_in};
-ghost use Rattle.mig_machine_api.specs.MachineCalls.{seen_at, page_peeked, Peeked, LookedUp, LogTaken, Paused};
-ghost use Rattle.mig_machine_api.specs.MachineStates.{IsValidState, Stays};
-ghost use Rattle.mig_machine_api.specs.Pfns.{pfns_of_words};
+ghost use Rattle.mig_guest.specs.MachineCalls.{seen_at, page_peeked, Peeked, LookedUp, LogTaken, Paused};
+ghost use Rattle.mig_guest.specs.MachineStates.{IsValidState, Stays};
+ghost use Rattle.mig_guest.specs.Pfns.{pfns_of_words};
 ghost use Rattle.mig_faulty.specs.Failing.{failing_state, IsLaterFailing};
 ghost use Rattle.mig_lines.proofs.CoursesRun.{later_itself, later_still};
 ghost use Rattle.mig_machine.specs.MachineSeen.{course_of};
 
 use mig_bytes::Failed;
 use mig_guest::PartKey;
+use mig_guest::mig_machine_api::{Machine, Seen};
 use mig_headers::Kind;
 use mig_machine::ScriptMachine;
-use mig_machine_api::{Machine, Seen};
 use std::marker::Model;
 
 /// A machine of which chosen calls fail.

@@ -3,18 +3,18 @@ ghost use Rattle.std.specs.Prelude.{refl, ◌≡◌, ◌+◌, ◌/◌, ◌<◌, 
 ghost use Rattle.mig_bytes.specs.Faults.{HasCause};
 ghost use Rattle.mig_guest.specs.Hosts.{pfn_in};
 ghost use Rattle.mig_machine.specs.MachineSeen.{machine_state, course_of};
-ghost use Rattle.mig_machine_api.specs.MachineCalls.{seen_at, page_peeked, Peeked, LookedUp, LogTaken, Paused};
-ghost use Rattle.mig_machine_api.specs.MachineStates.{IsValidState, Stays};
-ghost use Rattle.mig_machine_api.specs.Pfns.{Pfns, pfns_of_words};
+ghost use Rattle.mig_guest.specs.MachineCalls.{seen_at, page_peeked, Peeked, LookedUp, LogTaken, Paused};
+ghost use Rattle.mig_guest.specs.MachineStates.{IsValidState, Stays};
+ghost use Rattle.mig_guest.specs.Pfns.{Pfns, pfns_of_words};
 ghost use Rattle.mig_faulty.specs.Forgetful.{forgetful_state, without_pfns, IsLaterForgetful};
 ghost use Rattle.mig_lines.proofs.CoursesRun.{later_itself, later_still};
 
 use mig_bytes::Failed;
 use mig_guest::PartKey;
+use mig_guest::mig_machine_api::{Machine, Seen};
+use mig_guest::pfn_set::remove;
 use mig_headers::Kind;
 use mig_machine::ScriptMachine;
-use mig_machine_api::{Machine, Seen};
-use mig_pfnset::remove;
 use std::marker::Model;
 
 /// A machine that never logs chosen frame numbers: it isn't honest.

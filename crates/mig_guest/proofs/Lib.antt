@@ -12,3 +12,11 @@ pub mod NextEntries
 pub mod PartRows
 pub mod CodeParts
 pub mod Longs
+mod Members
+mod Prints
+mod RoundsRead
+pub mod Sizes
+pub mod MemberCounts
+pub mod Scans
+pub mod Changed
+pub mod Fills

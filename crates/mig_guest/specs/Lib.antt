@@ -9,3 +9,10 @@ pub mod PartCodes
 pub mod Longs
 pub mod Tables
 pub mod Formed
+pub mod Pfns
+pub mod History
+pub mod Footprints
+pub mod MachineStates
+pub mod MachineCalls
+pub mod Rounds
+pub mod Changes

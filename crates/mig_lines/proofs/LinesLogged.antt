@@ -20,9 +20,9 @@ use Rattle.mig_guest.proofs.PartOrder.{part_total, part_exact}
 use Rattle.mig_host.specs.HostView.{put_part_in}
 use Rattle.mig_host.specs.Changes.{put_or_stay, page_for}
 use Rattle.mig_guest.specs.PartCodes.{is_fixed}
-use Rattle.mig_machine_api.specs.Footprints.{footprint, footprint_of}
-use Rattle.mig_machine_api.specs.MachineStates.{IsSameShape}
-use Rattle.mig_machine_api.specs.Pfns.{Pfns, with_pfn}
+use Rattle.mig_guest.specs.Footprints.{footprint, footprint_of}
+use Rattle.mig_guest.specs.MachineStates.{IsSameShape}
+use Rattle.mig_guest.specs.Pfns.{Pfns, with_pfn}
 use Rattle.mig_script.specs.ScriptLines.{LineOf}
 use Rattle.mig_script.specs.ScriptLines.LineOf.{Write, Retype, Add, Remove, Exchange, Put, Dot}
 use Rattle.mig_lines.specs.HostLines.{applies, changed_by, after_line, after, pfn_changed, logs, with_logged, logged_after, is_allowed, is_key, has_length, key_of_numbers, is_unnamed, names_machine, new_frame, typed_as}

@@ -26,7 +26,7 @@ use Rattle.mig_guest.specs.Tables.{entry_of, is_blank_slot}
 use Rattle.mig_host.specs.HostView.{has_machine}
 use Rattle.mig_host.proofs.InOrder.{each_entry, found_passes, no_entry, none_passes, some_entry}
 use Rattle.mig_host.proofs.Machines.{only_pfn, no_pfn, pfn_of_machine}
-use Rattle.mig_machine_api.specs.Footprints.{Footprint, footprint_of, machine_named, named_by, names_in, table_in}
+use Rattle.mig_guest.specs.Footprints.{Footprint, footprint_of, machine_named, named_by, names_in, table_in}
 use Rattle.mig_lines.specs.HostLines.{is_machine, table_names, names_machine, may_come}
 
 -- ---- tests

@@ -13,8 +13,8 @@ use Rattle.mig_guest.specs.Hosts.{HostOf, HostFrame, HostFrames, machine_limit}
 use Rattle.mig_host.specs.HostView.{has_machine, put_frame, put_part_in}
 use Rattle.mig_host.specs.Changes.{raw_page_at, page_written, typed, exchanged, without_frame}
 use Rattle.mig_guest.specs.PartCodes.{is_fixed}
-use Rattle.mig_machine_api.specs.Footprints.{machine_named, table_in}
-use Rattle.mig_machine_api.specs.Pfns.{Pfns, with_pfn}
+use Rattle.mig_guest.specs.Footprints.{machine_named, table_in}
+use Rattle.mig_guest.specs.Pfns.{Pfns, with_pfn}
 use Rattle.mig_script.specs.ScriptLines.{LineOf}
 use Rattle.mig_script.specs.ScriptLines.LineOf.{Write, Retype, Add, Remove, Exchange, Put, Dot}
 

@@ -1,7 +1,7 @@
 -- What the lines of a script log between two calls.
 use Rattle.std.specs.Prelude.{ℕ, List}
 use Rattle.mig_guest.specs.Hosts.{HostOf}
-use Rattle.mig_machine_api.specs.Pfns.{Pfns, no_pfns}
+use Rattle.mig_guest.specs.Pfns.{Pfns, no_pfns}
 use Rattle.mig_script.specs.ScriptLines.{LineOf}
 use Rattle.mig_lines.specs.Groups.{ran, ran_between}
 use Rattle.mig_lines.specs.HostLines.{after, logged_after}

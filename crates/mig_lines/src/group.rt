@@ -1,12 +1,12 @@
 ghost use Rattle.std.specs.Prelude.{◌≡◌, ℕ, ◌+◌, ◌/◌, ◌<◌, ◌≤◌, length, drop, get_or, slice_get, Some};
-ghost use Rattle.mig_machine_api.specs.Pfns.{pfns_of_words};
+ghost use Rattle.mig_guest.specs.Pfns.{pfns_of_words};
 ghost use Rattle.mig_script.specs.ScriptLines.{line_said};
 ghost use Rattle.mig_lines.specs.Groups.{ends_group, first_group, first_length};
 ghost use Rattle.mig_lines.specs.HostLines.{after, after_line, logs, with_logged, logged_after, room_of, room_for};
 
 use crate::change::apply;
+use mig_guest::pfn_set::insert;
 use mig_host::Host;
-use mig_pfnset::insert;
 use mig_script::{Line, Script};
 
 /// Applies a line, and logs the frame number that it changed.

@@ -12,8 +12,8 @@ use Rattle.mig_hosted.specs.Sound.{unsoundness}
 use Rattle.mig_hosted.specs.View.{view}
 use Rattle.mig_wrap.specs.Canon.{wrapper_opening, wrapper_closing}
 use Rattle.mig_libxl.specs.Spelled.{AcceptedStream}
-use Rattle.mig_machine_api.specs.MachineStates.{IsSameShape}
-use Rattle.mig_machine_api.specs.Rounds.{Rounds, Tight, all_read}
+use Rattle.mig_guest.specs.MachineStates.{IsSameShape}
+use Rattle.mig_guest.specs.Rounds.{Rounds, Tight, all_read}
 use Rattle.mig_rounds.specs.Live.{HasRounds}
 use Rattle.mig_script.specs.ScriptLines.{LineOf}
 use Rattle.mig_machine.specs.MachineSeen.{MachineSeen, history_of, machine_state}

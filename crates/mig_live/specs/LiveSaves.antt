@@ -22,8 +22,8 @@ use Rattle.mig_script.specs.Scripts.{IsScript, IsBadLine, most_script_bytes}
 use Rattle.mig_lines.specs.Groups.{ran}
 use Rattle.mig_lines.specs.HostLines.{after}
 use Rattle.mig_machine.specs.MachineSeen.{MachineSeen, calls_of, is_paused, log_of, history_of}
-use Rattle.mig_machine_api.specs.History.{no_history}
-use Rattle.mig_machine_api.specs.Pfns.{no_pfns}
+use Rattle.mig_guest.specs.History.{no_history}
+use Rattle.mig_guest.specs.Pfns.{no_pfns}
 use Rattle.mig_paced.specs.Paced.{Paced, pfns_paced}
 use Rattle.mig_report.specs.declared.outcome.SaveSummary.{SaveSummary}
 

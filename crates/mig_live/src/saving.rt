@@ -17,9 +17,9 @@ ghost use Rattle.mig_live.specs.SaveSteps.{ReadsHostToSave, ReadsHostAndScript, 
 
 use mig_bytes::{Sink, Source, Stop};
 use mig_dirtysave::{SaveAnswer, Saver};
+use mig_guest::mig_machine_api::Machine;
 use mig_image::{Host, ImageAnswer, read_host};
 use mig_machine::{ScriptMachine, script_machine_is_at};
-use mig_machine_api::Machine;
 use mig_paced::rounds_are_paced;
 use mig_report::{Outcome, Refusal, SaveSummary, Status, finish, put_saved};
 use mig_script::{Script, ScriptAnswer};

@@ -2,8 +2,8 @@
 use Rattle.std.proofs.Common.{◌≡◌, ℕ, ◌+◌, ◌-◌, ◌^◌, ◌≤◌, ◌<◌, min, Bool, true, false, cond, List, [], ◌∷◌, length, Option, Some, None, is_some, unwrap_or, refl, sym, ap, subst, ◌∙◌, arith}
 use Rattle.std.specs.Option.{option_map}
 use Rattle.mig_guest.specs.Hosts.{HostOf}
-use Rattle.mig_machine_api.specs.History.{History, LogTook, Since, one_more, and_call, after_log, no_history}
-use Rattle.mig_machine_api.specs.Pfns.{Pfns, pfns_of_words, no_pfns}
+use Rattle.mig_guest.specs.History.{History, LogTook, Since, one_more, and_call, after_log, no_history}
+use Rattle.mig_guest.specs.Pfns.{Pfns, pfns_of_words, no_pfns}
 use Rattle.mig_script.specs.ScriptLines.{LineOf}
 use Rattle.mig_lines.specs.Courses.{IsLaterCourse}
 use Rattle.mig_lines.specs.Groups.{ran, ran_between}

@@ -2,8 +2,8 @@
 use Rattle.std.proofs.Common.{zero, suc, [], ◌∷◌, ◌++◌, take, drop, le_refl, map, Option, Some, arith, ◌≡◌, ℕ, ◌+◌, ◌≤◌, ◌<◌, List, length, slice_set, false, refl, ap, ◌∙◌}
 use Rattle.std.specs.Prelude.{slice_get}
 use Rattle.std.proofs.lemmas.Grind.{common_steps}
-use Rattle.mig_machine_api.specs.History.{Since, LogTook, nothing_asked}
-use Rattle.mig_machine_api.specs.Pfns.{pfns_of_words, no_pfns}
+use Rattle.mig_guest.specs.History.{Since, LogTook, nothing_asked}
+use Rattle.mig_guest.specs.Pfns.{pfns_of_words, no_pfns}
 use Rattle.mig_machine.specs.declared.notes.KeptLog.{KeptLog}
 use Rattle.mig_machine.specs.MachineSeen.{log_told}
 use Rattle.mig_machine.specs.Noted.{log_noted, logs_before}

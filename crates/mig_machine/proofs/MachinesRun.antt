@@ -1,6 +1,6 @@
 -- A machine that runs lines, and what it is at.
 use Rattle.std.proofs.Common.{◌≡◌, false, refl, arith}
-use Rattle.mig_machine_api.specs.MachineStates.{Ran}
+use Rattle.mig_guest.specs.MachineStates.{Ran}
 use Rattle.mig_lines.specs.Groups.{ran}
 use Rattle.mig_lines.specs.HostLines.{after}
 use Rattle.mig_lines.proofs.LinesLogged.{LinesRan}

@@ -2,9 +2,9 @@
 use Rattle.std.specs.Prelude.{◌≡◌, ℕ, ◌+◌, ◌-◌, ◌^◌, ◌≤◌, ◌<◌, min, List, [], ◌∷◌, length, true, false, if◌then◌else◌}
 use Rattle.std.specs.Option.{option_map}
 use Rattle.mig_guest.specs.Hosts.{HostOf}
-use Rattle.mig_machine_api.specs.History.{LogTook, History, one_more}
-use Rattle.mig_machine_api.specs.Pfns.{Pfns}
-use Rattle.mig_machine_api.specs.Rounds.{OfEachLog}
+use Rattle.mig_guest.specs.History.{LogTook, History, one_more}
+use Rattle.mig_guest.specs.Pfns.{Pfns}
+use Rattle.mig_guest.specs.Rounds.{OfEachLog}
 use Rattle.mig_lines.specs.Courses.{IsLaterCourse}
 use Rattle.mig_lines.specs.Groups.{ran, ran_between}
 use Rattle.mig_lines.specs.HostLines.{after, logged_after}

@@ -1,7 +1,7 @@
 -- What the fields of a machine are seen as, and what is true of them.
 use Rattle.std.specs.Prelude.{◌≡◌, ℕ, ◌+◌, ◌/◌, ◌≤◌, length, drop, false}
 use Rattle.mig_guest.specs.Hosts.{most_saved_width}
-use Rattle.mig_machine_api.specs.Pfns.{pfns_of_words}
+use Rattle.mig_guest.specs.Pfns.{pfns_of_words}
 use Rattle.mig_lines.specs.Groups.{lines_up_to}
 use Rattle.mig_lines.specs.HostLines.{room_for}
 use Rattle.mig_machine.specs.MachineSeen.{MachineSeen}

@@ -3,9 +3,9 @@
 use Rattle.std.specs.Prelude.{ℕ, ◌+◌, Bool, true, List, map, Option, is_some, unwrap_or, refl}
 use Rattle.std.specs.Coded.{Coded, code_by, coded×, coded_ℕ, coded_bool, coded_list, coded_option}
 use Rattle.mig_guest.specs.Hosts.{HostOf, host_code}
-use Rattle.mig_machine_api.specs.History.{History, LogTook, Since}
-use Rattle.mig_machine_api.specs.MachineStates.{MachineState}
-use Rattle.mig_machine_api.specs.Pfns.{Pfns, pfns_of_words}
+use Rattle.mig_guest.specs.History.{History, LogTook, Since}
+use Rattle.mig_guest.specs.MachineStates.{MachineState}
+use Rattle.mig_guest.specs.Pfns.{Pfns, pfns_of_words}
 use Rattle.mig_script.specs.ScriptLines.{LineOf, line_code}
 use Rattle.mig_lines.specs.Courses.{Course}
 

@@ -1,6 +1,6 @@
 ghost use Rattle.std.specs.Prelude.{◌≡◌, ℕ, ◌+◌, ◌/◌, ◌≤◌, length};
-ghost use Rattle.mig_machine_api.specs.MachineCalls.{seen_at, page_peeked};
-ghost use Rattle.mig_machine_api.specs.Pfns.{pfns_of_words, no_pfns};
+ghost use Rattle.mig_guest.specs.MachineCalls.{seen_at, page_peeked};
+ghost use Rattle.mig_guest.specs.Pfns.{pfns_of_words, no_pfns};
 ghost use Rattle.mig_machine.specs.MachineSeen.{machine_state, course_of};
 ghost use Rattle.mig_machine.specs.Exact.{IsLaterMachine};
 ghost use Rattle.mig_lines.proofs.CoursesRun.{later_itself, later_still};
@@ -8,10 +8,10 @@ ghost use Rattle.mig_lines.proofs.CoursesRun.{later_itself, later_still};
 use crate::machine::ScriptMachine;
 use mig_bytes::Failed;
 use mig_guest::{PartKey, is_fixed};
+use mig_guest::mig_machine_api::{Machine, Seen};
+use mig_guest::pfn_set::clear;
 use mig_headers::Kind;
 use mig_host::Host;
-use mig_machine_api::{Machine, Seen};
-use mig_pfnset::clear;
 use mig_pvtables::Frames;
 
 /// What the host has at a frame number; the raw page is copied, where there is one.

@@ -1,8 +1,8 @@
 ghost use Rattle.std.specs.Prelude.{◌≡◌, ◌≤◌, false};
 ghost use Rattle.mig_lines.specs.Groups.{ran};
 ghost use Rattle.mig_lines.specs.HostLines.{after};
-ghost use Rattle.mig_machine_api.specs.History.{no_history};
-ghost use Rattle.mig_machine_api.specs.Pfns.{no_pfns};
+ghost use Rattle.mig_guest.specs.History.{no_history};
+ghost use Rattle.mig_guest.specs.Pfns.{no_pfns};
 ghost use Rattle.mig_machine.specs.MachineSeen.{MachineSeen, calls_of, is_paused, log_of, history_of};
 ghost use Rattle.mig_machine.specs.Exact.{IsLaterMachine, IsExactFrom};
 

@@ -1,9 +1,9 @@
 ghost use Rattle.std.specs.Prelude.{◌≡◌, ℕ, ◌+◌, ◌/◌, ◌^◌, ◌≤◌, ◌<◌, length, IfOk};
-ghost use Rattle.mig_machine_api.specs.Pfns.{pfns_of_words, no_pfns};
+ghost use Rattle.mig_guest.specs.Pfns.{pfns_of_words, no_pfns};
 ghost use Rattle.std.specs.List.{All};
 
 use mig_bytes::Memory;
-use mig_pfnset::{clear, contains, insert, none};
+use mig_guest::pfn_set::{clear, contains, insert, none};
 use std::alloc::Global;
 
 /// How many logs can be taken.
@@ -31,7 +31,7 @@ pub(crate) struct KeptLog {
 }
 
 impl KeptLog {
-    ghost use Rattle.mig_machine_api.specs.History.{and_call};
+    ghost use Rattle.mig_guest.specs.History.{and_call};
     ghost use Rattle.mig_machine.specs.Noted.{log_in};
 
     /// Room for a log of frame numbers below the width.
@@ -97,7 +97,7 @@ pub(crate) struct Notes {
 }
 
 impl Notes {
-    ghost use Rattle.mig_machine_api.specs.History.{no_history, after_peek, after_call, after_log};
+    ghost use Rattle.mig_guest.specs.History.{no_history, after_peek, after_call, after_log};
     ghost use Rattle.mig_machine.specs.Noted.{history_in};
 
     /// Nothing was asked yet of a machine of this width.

@@ -5,9 +5,9 @@ use Rattle.std.specs.Option.{option_map}
 use Rattle.std.specs.FinMap as maps
 use Rattle.std.proofs.lemmas.List.Sums.{fold-append}
 use Rattle.mig_guest.specs.Hosts.{HostOf, HostFrame, IsValid, most_saved_width}
-use Rattle.mig_machine_api.specs.MachineCalls.{LogTaken}
-use Rattle.mig_machine_api.specs.MachineStates.{IsValidState}
-use Rattle.mig_machine_api.specs.Pfns.{Pfns, no_pfns}
+use Rattle.mig_guest.specs.MachineCalls.{LogTaken}
+use Rattle.mig_guest.specs.MachineStates.{IsValidState}
+use Rattle.mig_guest.specs.Pfns.{Pfns, no_pfns}
 use Rattle.mig_machine_tests.specs.Standing.{Asked, and_then, asked, nothing_yet, standing}
 use Rattle.mig_machine_tests.specs.declared.standing.Call.{Call}
 use Rattle.mig_machine_tests.specs.declared.standing.Call.TheVariants as calls

@@ -2,9 +2,9 @@
 use Rattle.std.specs.Prelude.{Bool, true, false, List}
 use Rattle.std.specs.List.{fold}
 use Rattle.mig_guest.specs.Hosts.{HostOf}
-use Rattle.mig_machine_api.specs.History.{History, no_history, after_peek, after_call, after_log}
-use Rattle.mig_machine_api.specs.MachineStates.{MachineState}
-use Rattle.mig_machine_api.specs.Pfns.{no_pfns}
+use Rattle.mig_guest.specs.History.{History, no_history, after_peek, after_call, after_log}
+use Rattle.mig_guest.specs.MachineStates.{MachineState}
+use Rattle.mig_guest.specs.Pfns.{no_pfns}
 use Rattle.mig_machine_tests.specs.declared.standing.Call.{Call}
 use Rattle.mig_machine_tests.specs.declared.standing.Call.TheVariants as calls
 

@@ -2,14 +2,14 @@ ghost use Rattle.std.specs.Prelude.{refl, ◌≡◌, [], ◌∷◌, ◌++◌, �
 ghost use Rattle.std.proofs.Common.{◌∙◌};
 ghost use Rattle.mig_bytes.specs.Faults.{HasCause};
 ghost use Rattle.mig_guest.specs.Hosts.{IsValid, most_saved_width};
-ghost use Rattle.mig_machine_api.specs.Pfns.{pfns_of_words, no_pfns};
+ghost use Rattle.mig_guest.specs.Pfns.{pfns_of_words, no_pfns};
 ghost use Rattle.mig_machine_tests.specs.Standing.{asked, standing};
 
 use mig_bytes::Failed;
 use mig_guest::{PartKey, is_fixed};
+use mig_guest::mig_machine_api::{Machine, Seen};
 use mig_headers::Kind;
 use mig_host::Host;
-use mig_machine_api::{Machine, Seen};
 use mig_pvtables::Frames;
 use std::alloc::Global;
 

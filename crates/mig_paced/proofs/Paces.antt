@@ -10,9 +10,9 @@ use Rattle.mig_headers.specs.declared.kind.Kind.{Kind}
 use Rattle.mig_headers.specs.declared.kind.Kind.TheVariants.{Pv, Hvm}
 use Rattle.mig_guest.specs.Hosts.{HostOf, most_saved_width}
 use Rattle.mig_script.specs.ScriptLines.{LineOf}
-use Rattle.mig_machine_api.specs.Pfns.{Pfns, no_pfns, joined, all_below, size, members}
-use Rattle.mig_machine_api.specs.History.{LogTook, History}
-use Rattle.mig_machine_api.specs.Rounds.{OfEachLog, to_read, GoesOn, AreCalls, Rounds, Tight, rounds_read, all_read}
+use Rattle.mig_guest.specs.Pfns.{Pfns, no_pfns, joined, all_below, size, members}
+use Rattle.mig_guest.specs.History.{LogTook, History}
+use Rattle.mig_guest.specs.Rounds.{OfEachLog, to_read, GoesOn, AreCalls, Rounds, Tight, rounds_read, all_read}
 use Rattle.mig_lines.specs.Touched.{touched}
 use Rattle.mig_machine.specs.MachineSeen.{MachineSeen, is_paused, history_of}
 use Rattle.mig_machine.specs.Exact.{asked_before, AreExact, StandRoundPause, IsExactFrom}

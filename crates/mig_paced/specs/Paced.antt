@@ -4,9 +4,9 @@ use Rattle.mig_headers.specs.declared.kind.Kind.{Kind}
 use Rattle.mig_guest.specs.Hosts.{HostOf}
 use Rattle.mig_script.specs.ScriptLines.{LineOf}
 use Rattle.mig_lines.specs.Touched.{touched}
-use Rattle.mig_machine_api.specs.History.{LogTook}
-use Rattle.mig_machine_api.specs.Pfns.{Pfns, all_below, joined, members, size}
-use Rattle.mig_machine_api.specs.Rounds.{AreCalls, Rounds}
+use Rattle.mig_guest.specs.History.{LogTook}
+use Rattle.mig_guest.specs.Pfns.{Pfns, all_below, joined, members, size}
+use Rattle.mig_guest.specs.Rounds.{AreCalls, Rounds}
 use Rattle.mig_machine.specs.MachineSeen.{MachineSeen, history_of}
 use Rattle.mig_machine.specs.Exact.{asked_before}
 

@@ -2,7 +2,7 @@ ghost use Rattle.std.specs.Prelude.{◌≡◌, ◌+◌, ◌≤◌, ℕ, List, le
 ghost use Rattle.mig_headers.specs.declared.kind.Kind.TheVariants.{Hvm};
 ghost use Rattle.mig_guest.specs.Hosts.{HostOf, most_saved_width};
 ghost use Rattle.mig_script.specs.ScriptLines.{LineOf};
-ghost use Rattle.mig_machine_api.specs.Rounds.{Rounds, Tight, all_read};
+ghost use Rattle.mig_guest.specs.Rounds.{Rounds, Tight, all_read};
 ghost use Rattle.mig_machine.specs.MachineSeen.{MachineSeen, is_paused, history_of};
 ghost use Rattle.mig_machine.specs.Exact.{IsExactFrom};
 ghost use Rattle.mig_paced.specs.Paced.{Paced, HasPaces, pfns_paced};

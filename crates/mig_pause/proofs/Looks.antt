@@ -1,6 +1,6 @@
 -- Look-ups in a paused machine, one after another.
 use Rattle.std.proofs.Common.{◌≡◌, refl, ◌∙◌}
-use Rattle.mig_machine_api.specs.MachineStates.{MachineState, Ran}
+use Rattle.mig_guest.specs.MachineStates.{MachineState, Ran}
 use Rattle.mig_pause.specs.Paused.{OnlyLooksUp}
 
 ran_none : (s : MachineState) → Ran s s s.log

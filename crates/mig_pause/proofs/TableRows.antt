@@ -13,7 +13,7 @@ use Rattle.mig_guest.specs.declared.table.Entry.TheVariants.{Blank, NotPresent, 
 use Rattle.mig_guest.specs.Hosts.{HostOf, HostFrame, HostFrames, pfn_in}
 use Rattle.mig_guest.specs.Longs.{long_at}
 use Rattle.mig_guest.specs.Tables.{entry}
-use Rattle.mig_machine_api.specs.Footprints.{footprint, footprint_of, names_in, named_by, table_in}
+use Rattle.mig_guest.specs.Footprints.{footprint, footprint_of, names_in, named_by, table_in}
 use Rattle.mig_pvtables.specs.BadEntries.{is_unknown}
 use Rattle.mig_pvtables.specs.Faults.{first_some, first_cause, slots}
 use Rattle.mig_pvtables.specs.Tables.{is_superpage}

@@ -8,7 +8,7 @@ use Rattle.mig_guest.specs.declared.part_key.PartKey.{PartKey}
 use Rattle.mig_guest.specs.Guests.{GuestOf}
 use Rattle.mig_guest.specs.Hosts.{HostOf, HostFrame, pfn_in}
 use Rattle.mig_guest.specs.Parts.{PartMap}
-use Rattle.mig_machine_api.specs.MachineStates.{MachineState, Ran}
+use Rattle.mig_guest.specs.MachineStates.{MachineState, Ran}
 use Rattle.mig_pvtables.specs.Blank.{each_value}
 use Rattle.mig_pvtables.specs.Faults.{first_cause}
 use Rattle.mig_pvtables.specs.VcpuContexts.{is_used_somewhere}

@@ -5,7 +5,7 @@ ghost use Rattle.mig_pvtables.specs.Faults.{fits_field};
 ghost use Rattle.mig_pause.specs.Paused.{types_seen, OnlyLooksUp};
 
 use mig_bytes::Failed;
-use mig_machine_api::Machine;
+use mig_guest::mig_machine_api::Machine;
 use mig_pagetypes::PageType;
 use mig_pvtables::is_type_of_field;
 

@@ -7,8 +7,8 @@ ghost use Rattle.mig_pause.specs.Paused.{standing_seen, HasTypes, first_in_table
 use crate::judging::{host_is_valid, judge};
 use mig_bytes::Failed;
 use mig_guest::Guest;
+use mig_guest::mig_machine_api::Machine;
 use mig_headers::Unsound;
-use mig_machine_api::Machine;
 use mig_pagetypes::PageType;
 use mig_pvtables::{blank_shared_info, blank_vcpus};
 

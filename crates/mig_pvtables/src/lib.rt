@@ -23,18 +23,12 @@ mod vcpu;
 
 pub use blanking::{blank, blank_shared_info, blank_vcpus, zero_p2m_frames};
 pub use frames::Frames;
-pub use law::{
-    blank_form_is_blank, blank_form_is_whole, faultless_table_is_within, hvm_guest_has_two_faults,
-    hvm_guest_is_blank, hvm_guest_is_whole, pv_guest_is_whole, some_blank_pv_guest_is_whole,
-    whole_as_its_blank_form, worked_pv_guest_is_whole,
-};
+pub use law::{blank_form_is_blank, blank_form_is_whole, faultless_table_is_within, hvm_guest_has_two_faults, hvm_guest_is_blank, hvm_guest_is_whole, pv_guest_is_whole, some_blank_pv_guest_is_whole, whole_as_its_blank_form, worked_pv_guest_is_whole};
 pub use listing::{frame_type, lacks, listed_pfn, misplaced_frame, sole_key};
 pub use mig_guest::Entry;
 pub use p2m::p2m_page;
 pub use rename::{BadEntry, Why, localise_table, normalise_table, rename_back, unknown_slot};
-pub use renaming_law::{
-    localised_table_comes_back, normalise_table_refuses_the_first, renamed_table_says_the_same,
-};
+pub use renaming_law::{localised_table_comes_back, normalise_table_refuses_the_first, renamed_table_says_the_same};
 pub use table::{check_table, entry, put_entry, superpage_slot};
 pub use testing::{WholeAnswer, is_type_of_field, whole};
 pub use vcpu::{FIELDS, VCPU_BASIC, gdt_ents, host_frame, put_vcpu_frame, vcpu_frame};

@@ -13,16 +13,16 @@ use Rattle.mig_guest.specs.Hosts as hosts
 use Rattle.mig_guest.specs.Hosts.{HostOf, HostFrame, HostFrames}
 use Rattle.mig_pvtables.proofs.EachValue.{get_each}
 use Rattle.mig_records_pages.specs.Told.{FrameTold}
-use Rattle.mig_machine_api.specs.Pfns.{Pfns, no_pfns, joined, members, size, all_below}
-use Rattle.mig_machine_api.specs.Footprints.{footprint, footprint_of}
-use Rattle.mig_machine_api.specs.History.{Since, History, nothing_asked, no_history, one_more, and_call}
-use Rattle.mig_machine_api.specs.MachineStates.{MachineState, IsValidState}
-use Rattle.mig_machine_api.specs.MachineCalls.{LogTaken, Paused}
-use Rattle.mig_machine_api.specs.Rounds.{Rounds, Tight, to_read, rounds_read, all_read}
+use Rattle.mig_guest.specs.Pfns.{Pfns, no_pfns, joined, members, size, all_below}
+use Rattle.mig_guest.specs.Footprints.{footprint, footprint_of}
+use Rattle.mig_guest.specs.History.{Since, History, nothing_asked, no_history, one_more, and_call}
+use Rattle.mig_guest.specs.MachineStates.{MachineState, IsValidState}
+use Rattle.mig_guest.specs.MachineCalls.{LogTaken, Paused}
+use Rattle.mig_guest.specs.Rounds.{Rounds, Tight, to_read, rounds_read, all_read}
 use Rattle.mig_rounds.specs.declared.found.Worst.{Worst}
 use Rattle.mig_rounds.specs.Forms.{form_of_print, type_of_print, superpage_slot, lost_slot}
 use Rattle.mig_rounds.specs.Findings.{judged, frame_sent, is_deferred}
-use Rattle.mig_pfnset.specs.Changes.{IsBelow}
+use Rattle.mig_guest.specs.Changes.{IsBelow}
 use Rattle.mig_rounds.specs.Parts.{rest, total, total_taken}
 use Rattle.mig_rounds.specs.Entries.{meant}
 use Rattle.mig_rounds.specs.Current.{Notes, no_notes, Current}

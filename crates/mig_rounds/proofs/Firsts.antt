@@ -7,8 +7,8 @@ use Rattle.mig_headers.specs.declared.unsound.Unsound.{Unsound}
 use Rattle.mig_headers.specs.declared.unsound.Unsound.TheVariants as unsounds
 use Rattle.mig_guest.specs.Frames.{FrameOf}
 use Rattle.mig_guest.specs.Hosts.{HostFrames}
-use Rattle.mig_machine_api.specs.Pfns.{Pfns}
-use Rattle.mig_machine_api.specs.Footprints.{Footprint, footprint}
+use Rattle.mig_guest.specs.Pfns.{Pfns}
+use Rattle.mig_guest.specs.Footprints.{Footprint, footprint}
 use Rattle.mig_rounds.specs.declared.found.Worst.{Worst}
 use Rattle.mig_rounds.specs.Forms.{table_of, superpage_in, superpage_slot, lost_in, lost_slot, form_of_print}
 use Rattle.mig_rounds.specs.Findings.{Finding, judge, judged, frame_sent, is_deferred}

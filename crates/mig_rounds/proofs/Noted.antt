@@ -6,8 +6,8 @@ use Rattle.std.proofs.lemmas.Bool.Decides.{nat_tests}
 use Rattle.std.proofs.lemmas.Grind.{common_steps}
 use Rattle.std.proofs.Math.Path.{fun_ext}
 use Rattle.mig_pagetypes.specs.declared.page_type.PageType.{PageType}
-use Rattle.mig_machine_api.specs.Pfns.{Pfns, pfns_of_words}
-use Rattle.mig_pfnset.specs.Changes.{IsBelow, put_pfn}
+use Rattle.mig_guest.specs.Pfns.{Pfns, pfns_of_words}
+use Rattle.mig_guest.specs.Changes.{IsBelow, put_pfn}
 use Rattle.mig_rounds.specs.Findings.{Finding, is_deferred, type_found}
 use Rattle.mig_rounds.specs.Current.{Notes, notes_of, noted}
 use Rattle.mig_rounds.proofs.Parts.{put_below}

@@ -4,8 +4,8 @@ use Rattle.std.specs.Prelude.{◌&&◌, ◌||◌, ◌==◌, ◌⊎◌}
 use Rattle.std.proofs.lemmas.Bool.{cases_lt}
 use Rattle.std.proofs.lemmas.Bool.Decides.{nat_tests}
 use Rattle.std.proofs.Math.Path.{fun_ext}
-use Rattle.mig_machine_api.specs.Pfns.{Pfns, no_pfns, joined, with_pfn}
-use Rattle.mig_pfnset.specs.Changes.{IsBelow, put_pfn}
+use Rattle.mig_guest.specs.Pfns.{Pfns, no_pfns, joined, with_pfn}
+use Rattle.mig_guest.specs.Changes.{IsBelow, put_pfn}
 use Rattle.mig_rounds.specs.Parts.{front, rest}
 
 -- ---- those below a number, and those from it on

@@ -11,12 +11,12 @@ use Rattle.mig_pagetypes.specs.PageTypes.{level_of, type_has_data}
 use Rattle.mig_guest.specs.Frames.{FrameOf, is_type_of}
 use Rattle.mig_guest.specs.Hosts.{HostFrame, HostFrames, HostOf, IsHostFrame}
 use Rattle.mig_guest.specs.Tables.{EachEntry, IsWithin}
-use Rattle.mig_machine_api.specs.declared.machine.Seen.{Seen}
-use Rattle.mig_machine_api.specs.declared.machine.Seen.TheVariants as seen
-use Rattle.mig_machine_api.specs.History.{History}
-use Rattle.mig_machine_api.specs.MachineStates.{MachineState, IsValidState}
-use Rattle.mig_machine_api.specs.MachineCalls.{Peeked, seen_of, seen_at, page_of, page_peeked}
-use Rattle.mig_machine_api.specs.Footprints.{footprint, footprint_of, table_in, names_in}
+use Rattle.mig_guest.specs.declared.mig_machine_api.Seen.{Seen}
+use Rattle.mig_guest.specs.declared.mig_machine_api.Seen.TheVariants as seen
+use Rattle.mig_guest.specs.History.{History}
+use Rattle.mig_guest.specs.MachineStates.{MachineState, IsValidState}
+use Rattle.mig_guest.specs.MachineCalls.{Peeked, seen_of, seen_at, page_of, page_peeked}
+use Rattle.mig_guest.specs.Footprints.{footprint, footprint_of, table_in, names_in}
 use Rattle.mig_rounds.specs.Forms.{superpage_in, lost_in, form_page}
 use Rattle.mig_rounds.specs.Findings.{Finding, judge, judged, found_as, frame_sent, NamesWithin, IsToldFrame, CanBeTold, ShowsOnly}
 use Rattle.mig_rounds.specs.declared.found.Found as finds

@@ -5,7 +5,7 @@ use Rattle.std.proofs.lemmas.List.{get_or_past}
 use Rattle.std.proofs.Math.Path.{fun_ext}
 use Rattle.mig_pagetypes.specs.declared.page_type.PageType.{PageType}
 use Rattle.mig_records_pages.specs.Told.{FrameTold}
-use Rattle.mig_machine_api.specs.Pfns.{Pfns, no_pfns, all_below, pfns_of_words}
+use Rattle.mig_guest.specs.Pfns.{Pfns, no_pfns, all_below, pfns_of_words}
 use Rattle.mig_rounds.specs.Current.{Notes, notes_of, no_notes}
 use Rattle.mig_rounds.specs.Unused.{IsUnused}
 

@@ -10,18 +10,18 @@ use Rattle.mig_headers.specs.declared.kind.Kind.TheVariants.{Pv, Hvm}
 use Rattle.mig_records_pages.specs.Told.{FrameTold}
 use Rattle.mig_records_pages.specs.Batches.{IsSent, IsBehind}
 use Rattle.mig_records_pages.proofs.Joins.{behind_anyway}
-use Rattle.mig_machine_api.specs.Pfns.{Pfns, no_pfns, members, size}
-use Rattle.mig_machine_api.specs.History.{LogTook, History, one_more, and_call}
-use Rattle.mig_machine_api.specs.MachineStates.{MachineState}
-use Rattle.mig_machine_api.specs.MachineCalls.{LogTaken}
-use Rattle.mig_machine_api.specs.Rounds.{GoesOn, AreCalls, to_read, rounds_read}
+use Rattle.mig_guest.specs.Pfns.{Pfns, no_pfns, members, size}
+use Rattle.mig_guest.specs.History.{LogTook, History, one_more, and_call}
+use Rattle.mig_guest.specs.MachineStates.{MachineState}
+use Rattle.mig_guest.specs.MachineCalls.{LogTaken}
+use Rattle.mig_guest.specs.Rounds.{GoesOn, AreCalls, to_read, rounds_read}
 use Rattle.mig_rounds.specs.Step.{most_calls}
-use Rattle.mig_pfnset.specs.Changes.{IsBelow}
+use Rattle.mig_guest.specs.Changes.{IsBelow}
 use Rattle.mig_rounds.specs.Parts.{front, rest, total, total_taken}
 use Rattle.mig_rounds.specs.Current.{Notes}
 use Rattle.mig_rounds.specs.Sends.{ReadsFront, SendsFront}
 use Rattle.mig_rounds.specs.Live.{StaysSame, AreRounds, Live, LiveSent}
-use Rattle.mig_pfnset.proofs.Sizes.{size-le}
+use Rattle.mig_guest.proofs.Sizes.{size-le}
 use Rattle.mig_rounds.proofs.Shapes.{stays_on, ran_stays, reads_stay}
 use Rattle.mig_rounds.proofs.Steps.{current_on, told_alike, total_even, behind_less}
 

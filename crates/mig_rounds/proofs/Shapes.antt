@@ -1,8 +1,8 @@
 -- What stays the same of a machine, from call to call.
 use Rattle.std.proofs.Common.{◌∙◌, ℕ}
 use Rattle.mig_guest.specs.Hosts.{HostOf}
-use Rattle.mig_machine_api.specs.Pfns.{Pfns}
-use Rattle.mig_machine_api.specs.MachineStates.{MachineState, IsSameShape, Ran}
+use Rattle.mig_guest.specs.Pfns.{Pfns}
+use Rattle.mig_guest.specs.MachineStates.{MachineState, IsSameShape, Ran}
 use Rattle.mig_rounds.specs.Sends.{ReadsFront}
 use Rattle.mig_rounds.specs.Live.{StaysSame}
 

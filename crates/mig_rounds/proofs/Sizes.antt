@@ -1,8 +1,8 @@
 -- How many members parts of sets have.
 use Rattle.std.proofs.Common.{arith, ◌≡◌, ℕ, zero, suc, ◌+◌, ◌-◌, ◌≤◌, ◌<◌, Bool, true, false, refl, ap, ◌∙◌}
 use Rattle.std.proofs.lemmas.Bool.Decides.{nat_tests}
-use Rattle.mig_machine_api.specs.Pfns.{Pfns, size}
-use Rattle.mig_pfnset.proofs.Sizes.{next, size_more, size_stays, same_size}
+use Rattle.mig_guest.specs.Pfns.{Pfns, size}
+use Rattle.mig_guest.proofs.Sizes.{next, size_more, size_stays, same_size}
 use Rattle.mig_rounds.specs.Parts.{front}
 
 front_below : (set : Pfns) (i q : ℕ) → q < i → front i set q ≡ set q

@@ -11,10 +11,10 @@ use Rattle.mig_headers.specs.declared.kind.Kind.{Kind}
 use Rattle.mig_headers.specs.declared.kind.Kind.TheVariants.{Pv, Hvm}
 use Rattle.mig_guest.specs.Frames.{FrameOf, FrameMap}
 use Rattle.mig_guest.specs.Hosts.{HostOf, HostFrames}
-use Rattle.mig_machine_api.specs.Pfns.{Pfns, no_pfns, members, size, with_pfn}
-use Rattle.mig_machine_api.specs.Footprints.{Footprint, footprint}
-use Rattle.mig_machine_api.specs.History.{History, Since, nothing_asked}
-use Rattle.mig_machine_api.specs.MachineStates.{MachineState, Ran}
+use Rattle.mig_guest.specs.Pfns.{Pfns, no_pfns, members, size, with_pfn}
+use Rattle.mig_guest.specs.Footprints.{Footprint, footprint}
+use Rattle.mig_guest.specs.History.{History, Since, nothing_asked}
+use Rattle.mig_guest.specs.MachineStates.{MachineState, Ran}
 use Rattle.mig_rounds.specs.Forms.{table_of, superpage_in, lost_in, form_of_print, type_of_print}
 use Rattle.mig_rounds.specs.declared.found.Found.{Found}
 use Rattle.mig_rounds.specs.declared.found.Found.TheVariants as found
@@ -29,7 +29,7 @@ use Rattle.mig_rounds.specs.Current.{Notes, Current, noted}
 use Rattle.mig_records_pages.proofs.Joins.{behind_anyway}
 use Rattle.mig_rounds.specs.Sends.{ReadsFront, SendsFront, IsWorst, first_pfn, or_first, within_set, place, found_super, found_lost, super_of, lost_of}
 use Rattle.mig_rounds.proofs.Parts.{nothing_before, front_more, front_skip, not_itself, rest_more, rest_skip, rest_all, skip_to}
-use Rattle.mig_pfnset.proofs.Sizes.{size-le, size_more, size_stays, members_yes, members_no}
+use Rattle.mig_guest.proofs.Sizes.{size-le, size_more, size_stays, members_yes, members_no}
 use Rattle.mig_rounds.proofs.Sizes.{size_front, one_more_at_most}
 
 -- ---- what a list of entries means

@@ -1,10 +1,10 @@
 -- Which numbers were read.
 use Rattle.std.proofs.Common.{arith, ◌≡◌, ℕ, Bool, true, false, sym, ap, ◌∙◌}
 use Rattle.std.proofs.lemmas.Bool.Decides.{nat_tests}
-use Rattle.mig_machine_api.specs.Pfns.{Pfns, with_pfn}
-use Rattle.mig_machine_api.specs.History.{History}
-use Rattle.mig_machine_api.specs.MachineStates.{MachineState}
-use Rattle.mig_machine_api.specs.MachineCalls.{Peeked}
+use Rattle.mig_guest.specs.Pfns.{Pfns, with_pfn}
+use Rattle.mig_guest.specs.History.{History}
+use Rattle.mig_guest.specs.MachineStates.{MachineState}
+use Rattle.mig_guest.specs.MachineCalls.{Peeked}
 use Rattle.mig_rounds.specs.Step.{Looks, Strays}
 
 both : (a b : Bool) → a ≡ false → b ≡ true → a ≡ b → ⊥

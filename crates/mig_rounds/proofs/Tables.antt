@@ -7,7 +7,7 @@ use Rattle.mig_pagetypes.specs.declared.page_type.PageType.{PageType}
 use Rattle.mig_pagetypes.specs.declared.page_type.PageType.TheVariants.{Notab, L1Tab, L2Tab, L3Tab, L4Tab, L1Pinned, L2Pinned, L3Pinned, L4Pinned, Broken, Xalloc, Xtab}
 use Rattle.mig_pagetypes.specs.PageTypes.{level_of, type_has_data}
 use Rattle.mig_guest.specs.Hosts.{HostFrame, HostFrames, pfn_in}
-use Rattle.mig_machine_api.specs.MachineStates.{MachineState, Ran}
+use Rattle.mig_guest.specs.MachineStates.{MachineState, Ran}
 use Rattle.std.specs.Prelude.{get_or}
 use Rattle.mig_guest.specs.declared.table.Entry.TheVariants.{Frame}
 use Rattle.mig_guest.specs.Frames.{FrameOf}
@@ -18,7 +18,7 @@ use Rattle.mig_pvtables.specs.Tables.{first_superpage}
 use Rattle.mig_pvtables.proofs.LongSteps.{ChangedBelow, walk_start}
 use Rattle.mig_pvtables.proofs.Slots.{no_slot}
 use Rattle.mig_pvtables.proofs.Slots as searches
-use Rattle.mig_machine_api.specs.Footprints.{Footprint, footprint, footprint_of, names_in, named_by, table_in}
+use Rattle.mig_guest.specs.Footprints.{Footprint, footprint, footprint_of, names_in, named_by, table_in}
 use Rattle.mig_rounds.specs.Forms.{lost_at, is_lost, superpage_in, lost_in, form_page}
 use Rattle.mig_rounds.specs.Findings.{judge, judged, found_as, frame_sent, NamesWithin}
 use Rattle.mig_rounds.specs.Findings.Finding.{Shows}

@@ -8,19 +8,19 @@ use Rattle.mig_pagetypes.specs.declared.page_type.PageType.{PageType}
 use Rattle.mig_records_pages.specs.Told.{FrameTold, all_told}
 use Rattle.mig_records_pages.specs.Batches.{IsSent, AreSized, AreFull}
 use Rattle.mig_records_pages.proofs.Joins.{few_batches, nothing_sent}
-use Rattle.mig_machine_api.specs.Pfns.{Pfns, size, members, all_below, pfns_of_words}
-use Rattle.mig_machine_api.specs.History.{History, LogTook, no_history}
-use Rattle.mig_machine_api.specs.MachineStates.{MachineState, IsValidState}
-use Rattle.mig_machine_api.specs.Rounds.{Rounds, rounds_read, all_read}
+use Rattle.mig_guest.specs.Pfns.{Pfns, size, members, all_below, pfns_of_words}
+use Rattle.mig_guest.specs.History.{History, LogTook, no_history}
+use Rattle.mig_guest.specs.MachineStates.{MachineState, IsValidState}
+use Rattle.mig_guest.specs.Rounds.{Rounds, rounds_read, all_read}
 use Rattle.mig_rounds.specs.declared.found.Worst.{Worst}
-use Rattle.mig_pfnset.specs.Changes.{IsBelow}
+use Rattle.mig_guest.specs.Changes.{IsBelow}
 use Rattle.mig_rounds.specs.Parts.{total, total_taken}
 use Rattle.mig_rounds.specs.Entries.{AreTold, meant, pfns_sent}
 use Rattle.mig_rounds.specs.Current.{Notes, notes_of}
 use Rattle.mig_rounds.specs.Live.{LiveSent, SendsRounds, SavedSent, worst_fault, FramesSaved}
 use Rattle.mig_rounds.specs.Unused.{IsUnused}
 use Rattle.mig_rounds.proofs.Ends.{sent_start}
-use Rattle.mig_pfnset.proofs.Sizes.{size-le}
+use Rattle.mig_guest.proofs.Sizes.{size-le}
 use Rattle.mig_rounds.proofs.Saves.{length_rounds, size_none}
 
 taken_small : (width : ℕ) (l : List LogTook) → total_taken width l ≤ length l * width

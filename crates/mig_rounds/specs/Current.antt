@@ -4,8 +4,8 @@ use Rattle.std.specs.FinMap as maps
 use Rattle.mig_pagetypes.specs.declared.page_type.PageType.{PageType}
 use Rattle.mig_guest.specs.Hosts.{HostFrames}
 use Rattle.mig_records_pages.specs.Told.{FrameTold}
-use Rattle.mig_machine_api.specs.Pfns.{Pfns, pfns_of_words}
-use Rattle.mig_machine_api.specs.Footprints.{footprint}
+use Rattle.mig_guest.specs.Pfns.{Pfns, pfns_of_words}
+use Rattle.mig_guest.specs.Footprints.{footprint}
 use Rattle.mig_rounds.specs.Forms.{type_of_print}
 use Rattle.mig_rounds.specs.Findings.{Finding, judged, frame_sent, is_deferred, type_found}
 use Rattle.mig_rounds.specs.Entries.{meant}

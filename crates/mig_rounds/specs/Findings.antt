@@ -5,7 +5,7 @@ use Rattle.mig_pagetypes.specs.declared.page_type.PageType.{PageType}
 use Rattle.mig_pagetypes.specs.PageTypes.{type_has_data}
 use Rattle.mig_guest.specs.Frames.{FrameOf, is_type_of}
 use Rattle.mig_guest.specs.Tables.{EachEntry, IsWithin}
-use Rattle.mig_machine_api.specs.Footprints.{Footprint}
+use Rattle.mig_guest.specs.Footprints.{Footprint}
 use Rattle.mig_rounds.specs.Forms.{table_of, superpage_in, lost_in, form_of_print}
 use Rattle.mig_rounds.specs.declared.found.Found.{Found}
 use Rattle.mig_rounds.specs.declared.found.Found.TheVariants as found

@@ -10,7 +10,7 @@ use Rattle.mig_guest.specs.Tables.{entry, blanked_table}
 use Rattle.mig_pvtables.specs.Faults.{slots}
 use Rattle.mig_pvtables.specs.Renaming.{renamed_by}
 use Rattle.mig_pvtables.specs.Tables.{first_superpage}
-use Rattle.mig_machine_api.specs.Footprints.{Footprint, table_in}
+use Rattle.mig_guest.specs.Footprints.{Footprint, table_in}
 
 -- the level and the raw page, where the frame is a table
 abbrev pub table_of : Footprint → Option (ℕ × List ℕ)

@@ -11,11 +11,11 @@ use Rattle.mig_guest.specs.Hosts.{HostFrame, HostFrames}
 use Rattle.mig_pvtables.specs.Blank.{each_value}
 use Rattle.mig_records_pages.specs.Told.{FrameTold, all_told}
 use Rattle.mig_records_pages.specs.Batches.{BatchesWritten, AreSized, IsSent, IsBehind}
-use Rattle.mig_machine_api.specs.Pfns.{Pfns, size}
-use Rattle.mig_machine_api.specs.Footprints.{footprint, footprint_of}
-use Rattle.mig_machine_api.specs.History.{LogTook, nothing_asked}
-use Rattle.mig_machine_api.specs.MachineStates.{MachineState, IsSameShape}
-use Rattle.mig_machine_api.specs.Rounds.{OfEachLog, GoesOn, AreCalls, Rounds, Tight, to_read, rounds_read, all_read}
+use Rattle.mig_guest.specs.Pfns.{Pfns, size}
+use Rattle.mig_guest.specs.Footprints.{footprint, footprint_of}
+use Rattle.mig_guest.specs.History.{LogTook, nothing_asked}
+use Rattle.mig_guest.specs.MachineStates.{MachineState, IsSameShape}
+use Rattle.mig_guest.specs.Rounds.{OfEachLog, GoesOn, AreCalls, Rounds, Tight, to_read, rounds_read, all_read}
 use Rattle.mig_rounds.specs.declared.found.Worst.{Worst}
 use Rattle.mig_rounds.specs.Forms.{form_of_print, superpage_slot, lost_slot}
 use Rattle.mig_rounds.specs.Parts.{total}

@@ -4,9 +4,9 @@ use Rattle.std.specs.Option.{option_map}
 use Rattle.mig_guest.specs.Hosts.{HostFrames}
 use Rattle.mig_records_pages.specs.Told.{FrameTold}
 use Rattle.mig_records_pages.specs.Batches.{IsSent, IsBehind}
-use Rattle.mig_machine_api.specs.Pfns.{Pfns, no_pfns, members, size}
-use Rattle.mig_machine_api.specs.Footprints.{footprint}
-use Rattle.mig_machine_api.specs.MachineStates.{MachineState, IsSameShape}
+use Rattle.mig_guest.specs.Pfns.{Pfns, no_pfns, members, size}
+use Rattle.mig_guest.specs.Footprints.{footprint}
+use Rattle.mig_guest.specs.MachineStates.{MachineState, IsSameShape}
 use Rattle.mig_rounds.specs.declared.found.Found.{Found}
 use Rattle.mig_rounds.specs.declared.found.Found.TheVariants as found
 use Rattle.mig_rounds.specs.declared.found.Worst.{Worst}

@@ -12,10 +12,10 @@ use Rattle.mig_guest.specs.Longs.{long_at}
 use Rattle.mig_guest.specs.Tables.{entry, blanked_table, IsWithin}
 use Rattle.mig_pvtables.specs.Tables.{first_superpage, with_frame}
 use Rattle.mig_pvtables.specs.Renaming.{renamed_by}
-use Rattle.mig_machine_api.specs.Pfns.{with_pfn}
-use Rattle.mig_machine_api.specs.Footprints.{Footprint, footprint, names_in}
-use Rattle.mig_machine_api.specs.History.{History, one_more}
-use Rattle.mig_machine_api.specs.MachineStates.{MachineState, Ran}
+use Rattle.mig_guest.specs.Pfns.{with_pfn}
+use Rattle.mig_guest.specs.Footprints.{Footprint, footprint, names_in}
+use Rattle.mig_guest.specs.History.{History, one_more}
+use Rattle.mig_guest.specs.MachineStates.{MachineState, Ran}
 use Rattle.mig_rounds.specs.Forms.{lost_in}
 use Rattle.mig_rounds.specs.Findings.{Finding, judged, frame_sent, CanBeTold}
 

@@ -3,7 +3,7 @@ use Rattle.std.specs.Prelude.{◌≡◌, ◌+◌, ◌/◌, ◌≤◌, ℕ, List,
 use Rattle.mig_pagetypes.specs.declared.page_type.PageType.{PageType}
 use Rattle.mig_guest.specs.Hosts.{most_saved_width}
 use Rattle.mig_records_pages.specs.Told.{FrameTold}
-use Rattle.mig_machine_api.specs.Pfns.{all_below, pfns_of_words}
+use Rattle.mig_guest.specs.Pfns.{all_below, pfns_of_words}
 use Rattle.mig_rounds.specs.Current.{notes_of, no_notes}
 
 -- nothing is held, every PFN is to be read, and nothing is noted of any; a set of them fits into each row of words

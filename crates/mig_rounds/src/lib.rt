@@ -2,7 +2,7 @@
 //!
 //! Responsible for: reading one frame number of a machine whose guest may run on between any two calls, and bringing its
 //! table from machine frames to frame numbers; which entry of the stream it becomes, and what is kept in mind of it; the
-//! rounds of a save, its pause, and what is read after it. Left to others: the machine (mig_machine_api), what an entry of a
+//! rounds of a save, its pause, and what is read after it. Left to others: the machine (mig_guest), what an entry of a
 //! table says (mig_pvtables), the records of entries (mig_records_pages), the parts of the host and the records around the frames.
 //!
 //! What the layers above rely on: in an honest machine, and in one that is paused, what the step answers is what the frame

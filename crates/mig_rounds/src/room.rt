@@ -58,9 +58,9 @@ fn make_room(alloc: Global, width: u64) -> Result<Room, AllocError>
 {
     Ok(Room {
         batch: Batch::new(alloc)?,
-        set: mig_pfnset::all(alloc, width)?,
-        deferred: mig_pfnset::none(alloc, width)?,
+        set: mig_guest::pfn_set::all(alloc, width)?,
+        deferred: mig_guest::pfn_set::none(alloc, width)?,
         types: no_types(alloc, width as usize)?,
-        log: mig_pfnset::none(alloc, width)?,
+        log: mig_guest::pfn_set::none(alloc, width)?,
     })
 }

@@ -1,9 +1,9 @@
 ghost use Rattle.std.specs.Prelude.{◌≡◌, ◌+◌, ◌/◌, ◌≤◌, [], length, true, OnOk, OnErr, IfOk, IsErrOf};
 ghost use Rattle.mig_bytes.specs.Faults.{Rose};
 ghost use Rattle.mig_guest.specs.Hosts.{most_saved_width};
-ghost use Rattle.mig_machine_api.specs.Pfns.{pfns_of_words};
-ghost use Rattle.mig_machine_api.specs.History.{nothing_asked};
-ghost use Rattle.mig_pfnset.specs.Changes.{IsBelow};
+ghost use Rattle.mig_guest.specs.Pfns.{pfns_of_words};
+ghost use Rattle.mig_guest.specs.History.{nothing_asked};
+ghost use Rattle.mig_guest.specs.Changes.{IsBelow};
 ghost use Rattle.mig_rounds.specs.Current.{notes_of};
 ghost use Rattle.mig_rounds.specs.Sends.{ReadsFront, SendsSet, SetLeavesBehind, IsWorst};
 ghost use Rattle.mig_rounds.specs.Live.{StaysSame};
@@ -12,9 +12,9 @@ ghost use Rattle.mig_rounds.specs.declared.found.SendFault.TheVariants.{MachineF
 use crate::found::{SendFault, Worst};
 use crate::send::send_one;
 use mig_bytes::{Sink, WriteFailed};
-use mig_machine_api::Machine;
+use mig_guest::mig_machine_api::Machine;
+use mig_guest::pfn_set::next_from;
 use mig_pagetypes::PageType;
-use mig_pfnset::next_from;
 use mig_records_pages::Batch;
 
 /// Reads and sends each member of a set, ascending, and writes what is held then.

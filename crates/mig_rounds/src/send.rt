@@ -14,9 +14,9 @@ ghost use Rattle.mig_rounds.specs.declared.found.SendFault.TheVariants.{MachineF
 use crate::found::{Found, SendFault};
 use crate::step::read_one;
 use mig_bytes::{Sink, WriteFailed};
-use mig_machine_api::Machine;
+use mig_guest::mig_machine_api::Machine;
+use mig_guest::pfn_set::put;
 use mig_pagetypes::PageType;
-use mig_pfnset::put;
 use mig_records_pages::{Batch, HeldFrame};
 
 /// The type that the entry tells.

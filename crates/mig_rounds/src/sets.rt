@@ -1,13 +1,13 @@
 ghost use Rattle.std.specs.Prelude.{◌≡◌, ◌+◌, ◌/◌, ◌<◌, ◌≤◌, length, OnOk, OnErr, IsErrOf};
 ghost use Rattle.mig_bytes.specs.Faults.{Rose};
-ghost use Rattle.mig_machine_api.specs.Pfns.{pfns_of_words, joined};
-ghost use Rattle.mig_machine_api.specs.MachineCalls.{LogTaken};
-ghost use Rattle.mig_machine_api.specs.MachineStates.{Stays};
+ghost use Rattle.mig_guest.specs.Pfns.{pfns_of_words, joined};
+ghost use Rattle.mig_guest.specs.MachineCalls.{LogTaken};
+ghost use Rattle.mig_guest.specs.MachineStates.{Stays};
 ghost use Rattle.mig_rounds.specs.declared.found.SendFault.TheVariants.{WriteFault};
 
 use crate::found::SendFault;
-use mig_machine_api::Machine;
-use mig_pfnset::join;
+use mig_guest::mig_machine_api::Machine;
+use mig_guest::pfn_set::join;
 
 /// Takes the log as the new set.
 pub(crate) fn take_set<M: Machine>(machine: &mut M, set: &mut [u64]) -> Result<(), SendFault>

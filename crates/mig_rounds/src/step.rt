@@ -7,7 +7,7 @@ ghost use Rattle.mig_rounds.specs.declared.found.SendFault.TheVariants.{WriteFau
 
 use crate::found::{Found, SendFault};
 use crate::table::read_table;
-use mig_machine_api::{Machine, Seen};
+use mig_guest::mig_machine_api::{Machine, Seen};
 
 /// Reads one frame number; the page is left as a stream has it, where a frame with data is shown.
 pub(crate) fn read_one<M: Machine>(

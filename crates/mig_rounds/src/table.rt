@@ -2,7 +2,7 @@ ghost use Rattle.std.specs.Prelude.{◌≡◌, ◌<◌, ◌≤◌, OnOk, OnErr, 
 ghost use Rattle.mig_bytes.specs.Faults.{Rose};
 ghost use Rattle.mig_pagetypes.specs.PageTypes.{level_of};
 ghost use Rattle.mig_guest.specs.Tables.{entry as what_is_said};
-ghost use Rattle.mig_machine_api.specs.Footprints.{names_in};
+ghost use Rattle.mig_guest.specs.Footprints.{names_in};
 ghost use Rattle.mig_rounds.specs.Forms.{lost_at};
 ghost use Rattle.mig_rounds.specs.Findings.{found_as, frame_sent, NamesWithin, ShowsOnly};
 ghost use Rattle.mig_rounds.specs.Step.{Looks, IsRaw, IsRenamed, IsRight, NameIsInside, put_slot};
@@ -11,7 +11,7 @@ ghost use Rattle.mig_rounds.specs.declared.found.SendFault.TheVariants.{WriteFau
 use crate::found::{Found, SendFault};
 use mig_bytes::put_u64_le;
 use mig_guest::Entry;
-use mig_machine_api::Machine;
+use mig_guest::mig_machine_api::Machine;
 use mig_pagetypes::PageType;
 use mig_pvtables::{entry, put_entry, superpage_slot};
 

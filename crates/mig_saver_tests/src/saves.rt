@@ -1,16 +1,16 @@
 ghost use Rattle.std.specs.Prelude.{◌≡◌, ◌≤◌, false, IfOk};
 ghost use Rattle.mig_guest.specs.Hosts.{most_saved_width};
 ghost use Rattle.mig_machine.specs.MachineSeen.{is_paused, history_of};
-ghost use Rattle.mig_machine_api.specs.History.{no_history};
+ghost use Rattle.mig_guest.specs.History.{no_history};
 
 use crate::hosts::{wide, worked};
 use mig_bytes::{MemSink, MemSource};
 use mig_dirtysave::{SaveAnswer, SaveReport, Saver};
 use mig_faulty::{FailingMachine, ForgetfulMachine};
 use mig_guest::Guest;
+use mig_guest::mig_machine_api::Machine;
 use mig_image::Host;
 use mig_machine::ScriptMachine;
-use mig_machine_api::Machine;
 use mig_script::Script;
 use mig_unwrap::read_any;
 use std::alloc::Global;

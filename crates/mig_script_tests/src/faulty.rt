@@ -1,10 +1,10 @@
 ghost use Rattle.std.specs.Prelude.{◌≡◌};
-ghost use Rattle.mig_machine_api.specs.History.{no_history};
+ghost use Rattle.mig_guest.specs.History.{no_history};
 
 use crate::made::{log, looks_up, started};
 use mig_bytes::Failed;
 use mig_faulty::{FailingMachine, ForgetfulMachine};
-use mig_machine_api::Machine;
+use mig_guest::mig_machine_api::Machine;
 use std::process::Abort;
 use std::test::Fail;
 

@@ -1,13 +1,13 @@
 ghost use Rattle.std.specs.Prelude.{◌≡◌, IfOk};
 ghost use Rattle.mig_machine.specs.MachineSeen.{history_of};
-ghost use Rattle.mig_machine_api.specs.History.{no_history};
+ghost use Rattle.mig_guest.specs.History.{no_history};
 
 use crate::scripts::script;
 use mig_bytes::Failed;
+use mig_guest::mig_machine_api::Machine;
 use mig_headers::Kind;
 use mig_host::Host;
 use mig_machine::ScriptMachine;
-use mig_machine_api::Machine;
 use mig_script::Script;
 use std::alloc::Global;
 use std::process::Abort;

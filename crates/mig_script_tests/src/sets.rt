@@ -1,6 +1,6 @@
 ghost use Rattle.std.specs.Prelude.{◌≡◌, length};
 
-use mig_pfnset::{all, clear, contains, count, insert, join, next_from, none, put, remove};
+use mig_guest::pfn_set::{all, clear, contains, count, insert, join, next_from, none, put, remove};
 use std::process::Abort;
 use std::test::Fail;
 

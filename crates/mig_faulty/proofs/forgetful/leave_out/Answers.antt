@@ -1,5 +1,5 @@
 use Rattle.std.proofs.Common.{arith, ap, sym, ◌∙◌}
-use Rattle.mig_machine_api.specs.Pfns.{pfns_of_words}
+use Rattle.mig_guest.specs.Pfns.{pfns_of_words}
 use Rattle.mig_faulty.proofs.LeftOut.{left_out, passed}
 use Rattle.mig_faulty.proofs.forgetful.leave_out.Goals as goal
 use Rattle.mig_faulty.proofs.forgetful.leave_out.Goals.{then-pfn-words, else-pfn-words}

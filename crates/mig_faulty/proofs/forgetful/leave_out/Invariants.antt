@@ -1,6 +1,6 @@
 use Rattle.std.proofs.Common.{◌≡◌, take}
 use Rattle.mig_faulty.specs.Forgetful.{without_pfns}
-use Rattle.mig_machine_api.specs.Pfns.{pfns_of_words}
+use Rattle.mig_guest.specs.Pfns.{pfns_of_words}
 use Rattle.mig_faulty.proofs.forgetful.leave_out.Given as goal
 
 abbrev pub invariant-loop-pfn : goal.invariant-loop-pfn

@@ -1,5 +1,5 @@
 use Rattle.std.proofs.Common.{rules, arith, ◌≡◌, ◌+◌, ◌/◌, ◌∷◌, List, length, drop, true, false, ap, sym, ◌∙◌}
-use Rattle.mig_machine_api.specs.Pfns.{pfns_of_words}
+use Rattle.mig_guest.specs.Pfns.{pfns_of_words}
 use Rattle.mig_script.specs.ScriptLines.{LineOf, line_said}
 use Rattle.mig_lines.specs.Groups.{ends_group, first_group, first_length}
 use Rattle.mig_lines.specs.HostLines.{after, logged_after, room_for}

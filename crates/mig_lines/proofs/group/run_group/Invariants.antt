@@ -1,5 +1,5 @@
 use Rattle.std.proofs.Common.{◌≡◌, ◌+◌, ◌/◌, ◌≤◌, ◌-◌, length, drop}
-use Rattle.mig_machine_api.specs.Pfns.{pfns_of_words}
+use Rattle.mig_guest.specs.Pfns.{pfns_of_words}
 use Rattle.mig_lines.specs.Groups.{first_group, first_length}
 use Rattle.mig_lines.specs.HostLines.{after, logged_after, room_for}
 use Rattle.mig_lines.proofs.group.run_group.Given as goal

@@ -1,5 +1,5 @@
 use Rattle.std.proofs.Common.{◌≤◌, subst, sym}
-use Rattle.mig_machine_api.specs.Pfns.{no_pfns}
+use Rattle.mig_guest.specs.Pfns.{no_pfns}
 use Rattle.mig_lines.proofs.LinesLogged.{regular, lines_ran}
 use Rattle.mig_lines.proofs.law.lines_log_what_they_change.Goals as goal
 

@@ -4,7 +4,7 @@ use Rattle.std.specs.FinMap as maps
 use Rattle.mig_guest.proofs.NextEntries.{from_zero}
 use Rattle.mig_guest.specs.Hosts.{HostFrame}
 use Rattle.mig_pagetypes.specs.PageTypes.{level_of}
-use Rattle.mig_machine_api.specs.Footprints.{table_in}
+use Rattle.mig_guest.specs.Footprints.{table_in}
 use Rattle.mig_lines.specs.HostLines.{table_names}
 use Rattle.mig_lines.proofs.named.some_table_names.Goals as goal
 

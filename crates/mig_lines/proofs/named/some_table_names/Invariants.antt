@@ -3,7 +3,7 @@ use Rattle.std.specs.List.{list_any}
 use Rattle.std.specs.FinMap as maps
 use Rattle.mig_pagetypes.specs.PageTypes.{level_of}
 use Rattle.mig_guest.specs.Frames.{entries_from}
-use Rattle.mig_machine_api.specs.Footprints.{table_in}
+use Rattle.mig_guest.specs.Footprints.{table_in}
 use Rattle.mig_lines.specs.HostLines.{names_machine, table_names}
 use Rattle.mig_lines.proofs.named.some_table_names.Given as goal
 

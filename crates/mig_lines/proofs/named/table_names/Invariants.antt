@@ -1,5 +1,5 @@
 use Rattle.std.proofs.Common.{◌≡◌, ℕ, ◌<◌, false}
-use Rattle.mig_machine_api.specs.Footprints.{machine_named}
+use Rattle.mig_guest.specs.Footprints.{machine_named}
 use Rattle.mig_lines.specs.HostLines.{is_machine}
 use Rattle.mig_lines.proofs.named.table_names.Given as goal
 

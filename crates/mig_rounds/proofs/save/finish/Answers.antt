@@ -1,9 +1,9 @@
 use Rattle.std.proofs.Common.{◌≡◌, ℕ, sym, ap, subst, ◌∙◌}
 use Rattle.mig_records_pages.specs.Batches.{IsBehind}
-use Rattle.mig_machine_api.specs.Pfns.{Pfns, joined, pfns_of_words}
-use Rattle.mig_machine_api.specs.History.{History, Since}
+use Rattle.mig_guest.specs.Pfns.{Pfns, joined, pfns_of_words}
+use Rattle.mig_guest.specs.History.{History, Since}
 use Rattle.mig_rounds.specs.Current.{notes_of}
-use Rattle.mig_pfnset.specs.Changes.{IsBelow}
+use Rattle.mig_guest.specs.Changes.{IsBelow}
 use Rattle.mig_rounds.specs.Parts.{total}
 use Rattle.mig_rounds.specs.Sends.{ReadsFront, SendsFront, IsWorst}
 use Rattle.mig_rounds.specs.Live.{SendsLast}

@@ -1,8 +1,8 @@
 use Rattle.std.proofs.Common.{rules, arith, ℕ, ◌+◌, ◌/◌, ◌<◌, ◌≤◌, ◌^◌, ap, sym, subst, ◌∙◌}
 use Rattle.mig_records_pages.specs.Batches.{IsBehind}
-use Rattle.mig_machine_api.specs.Pfns.{size, pfns_of_words}
-use Rattle.mig_pfnset.specs.Changes.{IsBelow}
-use Rattle.mig_pfnset.proofs.Sizes.{size-le}
+use Rattle.mig_guest.specs.Pfns.{size, pfns_of_words}
+use Rattle.mig_guest.specs.Changes.{IsBelow}
+use Rattle.mig_guest.proofs.Sizes.{size-le}
 use Rattle.mig_rounds.specs.Current.{notes_of}
 use Rattle.mig_rounds.specs.Parts.{total}
 use Rattle.mig_rounds.proofs.Shapes.{stays_on, ran_stays}

@@ -1,7 +1,7 @@
 use Rattle.std.proofs.Common.{◌≡◌, ◌≤◌, ◌<◌, ◌-◌, ◌+◌, ◌*◌, ◌/◌, ◌^◌, [], length}
-use Rattle.mig_machine_api.specs.Pfns.{pfns_of_words}
-use Rattle.mig_machine_api.specs.Rounds.{GoesOn}
-use Rattle.mig_pfnset.specs.Changes.{IsBelow}
+use Rattle.mig_guest.specs.Pfns.{pfns_of_words}
+use Rattle.mig_guest.specs.Rounds.{GoesOn}
+use Rattle.mig_guest.specs.Changes.{IsBelow}
 use Rattle.mig_rounds.specs.Parts.{total_taken}
 use Rattle.mig_rounds.specs.Current.{notes_of}
 use Rattle.mig_rounds.specs.Live.{Live, SendsRounds, StaysSame}

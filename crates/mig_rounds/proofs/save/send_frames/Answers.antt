@@ -4,9 +4,9 @@ use Rattle.std.proofs.lemmas.List.{with_items_is}
 use Rattle.mig_records_pages.specs.Told.{FrameTold}
 use Rattle.mig_records_pages.specs.Batches.{IsSent, IsBehind}
 use Rattle.mig_records_pages.proofs.Joins.{nothing_sent}
-use Rattle.mig_machine_api.specs.Pfns.{size, pfns_of_words}
-use Rattle.mig_pfnset.specs.Changes.{IsBelow}
-use Rattle.mig_pfnset.proofs.Sizes.{size-le}
+use Rattle.mig_guest.specs.Pfns.{size, pfns_of_words}
+use Rattle.mig_guest.specs.Changes.{IsBelow}
+use Rattle.mig_guest.proofs.Sizes.{size-le}
 use Rattle.mig_rounds.specs.Parts.{total}
 use Rattle.mig_rounds.specs.Current.{notes_of}
 use Rattle.mig_rounds.specs.Live.{FramesSaved, SavedSent}

@@ -1,6 +1,6 @@
 use Rattle.std.proofs.Common.{arith, ap}
-use Rattle.mig_machine_api.specs.MachineCalls.{LookedUp}
-use Rattle.mig_machine_api.specs.MachineStates.{MachineState}
+use Rattle.mig_guest.specs.MachineCalls.{LookedUp}
+use Rattle.mig_guest.specs.MachineStates.{MachineState}
 use Rattle.mig_rounds.specs.Step.{Looks}
 use Rattle.mig_rounds.proofs.table.rename_slot.Goals as goal
 

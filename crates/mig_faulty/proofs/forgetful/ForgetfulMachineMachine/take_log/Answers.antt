@@ -1,7 +1,7 @@
 use Rattle.std.proofs.Common.{List, ℕ, ap, subst, ◌∙◌}
 use Rattle.mig_machine.specs.MachineSeen.{machine_state}
-use Rattle.mig_machine_api.specs.MachineCalls.{LogTaken}
-use Rattle.mig_machine_api.specs.Pfns.{pfns_of_words}
+use Rattle.mig_guest.specs.MachineCalls.{LogTaken}
+use Rattle.mig_guest.specs.Pfns.{pfns_of_words}
 use Rattle.mig_faulty.specs.Forgetful.{ForgetfulSeen, forgetting, forgetful_state, without_pfns}
 use Rattle.mig_faulty.proofs.Forgetting.{forgetting_took}
 use Rattle.mig_faulty.proofs.forgetful.ForgetfulMachineMachine.take_log.Goals as goal

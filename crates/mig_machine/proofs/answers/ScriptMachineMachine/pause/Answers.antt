@@ -1,5 +1,5 @@
 use Rattle.std.proofs.Common.{◌≡◌, ap, subst, sym, ◌∙◌}
-use Rattle.mig_machine_api.specs.History.{after_call}
+use Rattle.mig_guest.specs.History.{after_call}
 use Rattle.mig_machine.specs.MachineSeen.{MachineSeen, HistoryNoted, history_told}
 use Rattle.mig_machine.specs.MachineFields.{machine_seen}
 use Rattle.mig_machine.specs.Noted.{noted_in}

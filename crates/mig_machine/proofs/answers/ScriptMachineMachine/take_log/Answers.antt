@@ -1,7 +1,7 @@
 use Rattle.std.proofs.Common.{◌≡◌, ap, subst, sym, ◌∙◌, ◌≤◌}
-use Rattle.mig_machine_api.specs.History.{after_log}
+use Rattle.mig_guest.specs.History.{after_log}
 use Rattle.mig_guest.specs.Hosts.{IsValid, most_saved_width, HostOf}
-use Rattle.mig_machine_api.specs.Pfns.{Pfns, pfns_of_words}
+use Rattle.mig_guest.specs.Pfns.{Pfns, pfns_of_words}
 use Rattle.mig_machine.specs.MachineSeen.{MachineSeen, history_told}
 use Rattle.mig_machine.specs.MachineFields.{machine_seen}
 use Rattle.mig_machine.specs.Noted.{noted_in}

@@ -1,7 +1,7 @@
 use Rattle.std.proofs.Common.{rules, arith, ◌≡◌, ◌≤◌, ◌-◌, ◌^◌, false, is_some, length, drop, refl, sym, ap, subst, ◌∙◌, ◌+◌, ◌/◌}
 use Rattle.mig_guest.specs.Hosts.{most_saved_width}
-use Rattle.mig_machine_api.specs.MachineStates.{Ran}
-use Rattle.mig_machine_api.specs.Pfns.{pfns_of_words}
+use Rattle.mig_guest.specs.MachineStates.{Ran}
+use Rattle.mig_guest.specs.Pfns.{pfns_of_words}
 use Rattle.mig_lines.specs.Groups.{first_group, first_length}
 use Rattle.mig_lines.specs.HostLines.{after, logged_after}
 use Rattle.mig_lines.proofs.CoursesRun.{IsNextCount, next_place, later_now, logged_next, group_ran}

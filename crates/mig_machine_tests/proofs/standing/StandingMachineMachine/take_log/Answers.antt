@@ -1,5 +1,5 @@
 use Rattle.std.proofs.Common.{ap}
-use Rattle.mig_machine_api.specs.Pfns.{pfns_of_words}
+use Rattle.mig_guest.specs.Pfns.{pfns_of_words}
 use Rattle.mig_machine_tests.proofs.StandingStates.{took}
 use Rattle.mig_machine_tests.proofs.standing.StandingMachineMachine.take_log.Goals as goal
 

@@ -1,6 +1,0 @@
-use Rattle.std.proofs.Common.{arith, rules}
-use Rattle.mig_pfnset.proofs.Changed.{both_joined}
-use Rattle.mig_pfnset.proofs.set.join.Goals as goal
-
-pub returns : goal.returns
-returns c = both_joined _ _ _ (search rules) (search rules) (λ k less. c.loop-index.invariant.done k (omega arith))

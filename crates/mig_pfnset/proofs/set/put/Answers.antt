@@ -1,9 +1,0 @@
-use Rattle.std.proofs.Common.{◌∙◌, sym, ap}
-use Rattle.mig_machine_api.specs.Pfns.{pfns_of_words}
-use Rattle.mig_pfnset.specs.Changes.{put_pfn}
-use Rattle.mig_pfnset.proofs.Changed.{put_is_with}
-use Rattle.mig_pfnset.proofs.set.put.Goals as goal
-
-pub returns-then-inside : goal.returns-then-inside
-returns-then-inside c =
-    c.insert.ensures ∙ sym (put_is_with c.args.pfn (pfns_of_words c.args.words.now)) ∙ sym (ap (λ b. put_pfn c.args.pfn b (pfns_of_words c.args.words.now)) c.if-inside.true)
