@@ -9,8 +9,8 @@ use Rattle.mig_headers.proofs.HeaderLaws.{image_is_read_back, domain_is_read_bac
 use Rattle.mig_pvtables.specs.Blank.{blank}
 use Rattle.mig_canon.specs.Canon.{body_of, canon}
 use Rattle.mig_canon.proofs.Batches.{words_len}
-use Rattle.mig_libxc.specs.Mean.{sent}
-use Rattle.mig_libxc.specs.Spelled.HasContent.{pages as pages_say}
+use Rattle.mig_restore_form.specs.Mean.{sent}
+use Rattle.mig_restore_form.specs.Spelled.HasContent.{pages as pages_say}
 use Rattle.mig_canon_laws.specs.Batched.{IsSendable, IsSendableBatch, TellFrames, told, frames_told, batch_records, batched_bodies, batched}
 use Rattle.mig_canon_laws.proofs.CanonMaps.{frames_again}
 use Rattle.mig_canon_laws.proofs.CanonOnce.{all_at_once}

@@ -7,7 +7,7 @@ use Rattle.mig_pagetypes.specs.declared.page_type.PageType.{PageType}
 use Rattle.mig_pagetypes.specs.declared.page_type.PageType.TheVariants.{Xtab}
 use Rattle.mig_guest.specs.Frames.{framed}
 use Rattle.mig_canon_laws.specs.Batched.{told}
-use Rattle.mig_libxc.proofs.PartsInOrder.{or_none, parts_set}
+use Rattle.mig_restore_form.proofs.PartsInOrder.{or_none, parts_set}
 
 -- ---- frames set again
 

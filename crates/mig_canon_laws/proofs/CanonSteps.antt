@@ -9,9 +9,9 @@ use Rattle.mig_headers.specs.RecordTypes.{type_of_number}
 use Rattle.mig_records.specs.Records.{spelled}
 use Rattle.mig_order.specs.Order.{Earlier, some_earlier, earlier_in, among, content_records, vcpu_records as vcpu_types, fault_after, fault_of_type}
 use Rattle.mig_order.proofs.OrderLaw.{faultless_is_in_order}
-use Rattle.mig_libxc.specs.Judging.{Opening}
-use Rattle.mig_libxc.specs.Mean.{sent}
-use Rattle.mig_libxc.specs.Record.{placed_content}
+use Rattle.mig_restore_form.specs.Judging.{Opening}
+use Rattle.mig_restore_form.specs.Mean.{sent}
+use Rattle.mig_restore_form.specs.Record.{placed_content}
 use Rattle.mig_canon_laws.proofs.CanonMaps.{with_parts}
 use Rattle.mig_canon_laws.proofs.CanonOnce.{AtOnce}
 use Rattle.mig_canon_laws.proofs.CanonParts.{is_record, Fits, fits_of}

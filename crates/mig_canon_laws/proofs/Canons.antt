@@ -4,8 +4,8 @@ use Rattle.std.specs.FinMap as maps
 use Rattle.mig_pvtables.proofs.HvmGuests.{hvm_complete}
 use Rattle.mig_pvtables.proofs.PvGuests.{pv_complete}
 use Rattle.mig_canon.specs.Canon.{all_vcpus}
-use Rattle.mig_libxc.specs.Mean.{sent}
-use Rattle.mig_libxc.specs.Spelled.HasContent.{info, p2m_frames}
+use Rattle.mig_restore_form.specs.Mean.{sent}
+use Rattle.mig_restore_form.specs.Spelled.HasContent.{info, p2m_frames}
 use Rattle.mig_canon_laws.proofs.CanonMaps.{with_parts, holds_none, holds_codes, holds_all}
 use Rattle.mig_canon_laws.proofs.CanonOnce.{all_at_once}
 use Rattle.mig_canon_laws.proofs.CanonParts.{Fits}

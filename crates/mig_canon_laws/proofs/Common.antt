@@ -26,12 +26,12 @@ pub use Rattle.mig_headers.specs.declared.kind.Kind.{Kind}
 pub use Rattle.mig_headers.specs.declared.kind.Kind.TheVariants.{Hvm, Pv}
 pub use Rattle.mig_pvtables.specs.Whole.{IsWhole}
 pub use Rattle.mig_records.specs.Records.{IsRecord}
-pub use Rattle.mig_libxc.proofs.Meaning.{meant_as_sent, one_more_record}
-pub use Rattle.mig_libxc.specs.Mean.{empty_guest, meant_type, put_content, put_entries, put_entry}
-pub use Rattle.mig_libxc.specs.Record.{Content, StreamRecord, is_ended, types_of}
-pub use Rattle.mig_libxc.specs.Record.Content.{Checks, Frames, Lists, Nothing, Sets}
-pub use Rattle.mig_libxc.specs.Spelled.{Accepted, AreEntries, Follows, HasContent, IsBatch, IsComplete, IsEntry, IsGoodWord, IsImage, IsPage}
-pub use Rattle.mig_libxc.specs.Spelled.HasContent.{ends, sets, static_end}
+pub use Rattle.mig_restore_form.proofs.Meaning.{meant_as_sent, one_more_record}
+pub use Rattle.mig_restore_form.specs.Mean.{empty_guest, meant_type, put_content, put_entries, put_entry}
+pub use Rattle.mig_restore_form.specs.Record.{Content, StreamRecord, is_ended, types_of}
+pub use Rattle.mig_restore_form.specs.Record.Content.{Checks, Frames, Lists, Nothing, Sets}
+pub use Rattle.mig_restore_form.specs.Spelled.{Accepted, AreEntries, Follows, HasContent, IsBatch, IsComplete, IsEntry, IsGoodWord, IsImage, IsPage}
+pub use Rattle.mig_restore_form.specs.Spelled.HasContent.{ends, sets, static_end}
 pub use Rattle.std.proofs.Common.{Bool, IsSome, List, None, Option, Some, [], ap, append-nil, append_assoc, arith, cond, drop, drop-drop, false, inr, le_refl, length, length-append, map, min, nat_eq, nat_le, nat_lt, not, refl, replicate, subst, suc, sym, take, true, zero, ℕ, ◌%◌, ◌*◌, ◌++◌, ◌+◌, ◌-◌, ◌/◌, ◌<◌, ◌^◌, ◌∙◌, ◌∷◌, ◌≡◌, ◌≢◌, ◌≤◌}
 pub use Rattle.std.proofs.lemmas.Bool.{and_parts, eq-eqb, eqb-true, le-leb, le-ltb}
 pub use Rattle.std.proofs.lemmas.Grind.{common_steps, flat_map-append}

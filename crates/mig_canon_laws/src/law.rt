@@ -3,7 +3,7 @@ ghost use Rattle.mig_guest.specs.Guests.{GuestOf};
 ghost use Rattle.mig_guest.specs.Formed.{IsFormed, HasNoEmulators};
 ghost use Rattle.mig_pvtables.specs.Blank.{blank};
 ghost use Rattle.mig_canon.specs.Canon.{Frame, canon};
-ghost use Rattle.mig_libxc.specs.Spelled.{Accepted, IsComplete};
+ghost use Rattle.mig_restore_form.specs.Spelled.{Accepted, IsComplete};
 ghost use Rattle.mig_canon_laws.specs.Bare.{IsBare};
 ghost use Rattle.mig_canon_laws.specs.Batched.{TellFrames, batched};
 

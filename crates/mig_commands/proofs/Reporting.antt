@@ -35,8 +35,8 @@ use Rattle.mig_report.specs.declared.outcome.Refusal.TheVariants as refusals
 use Rattle.mig_report.specs.declared.outcome.Summary.{Summary}
 use Rattle.mig_report.specs.declared.status.Status.{Status}
 use Rattle.mig_report.specs.declared.status.Status.TheVariants as statuses
-use Rattle.mig_libxc.specs.Mean.{differs_of}
-use Rattle.mig_libxc.specs.Stream.{ImageOf}
+use Rattle.mig_restore_form.specs.Mean.{differs_of}
+use Rattle.mig_restore_form.specs.Stream.{ImageOf}
 use Rattle.mig_restore.specs.declared.read.Reading.{Reading}
 
 -- ---- no stream was read

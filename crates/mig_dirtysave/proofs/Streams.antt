@@ -26,7 +26,7 @@ use Rattle.mig_wrap.proofs.Alike.{opening_alike, closing_alike}
 use Rattle.mig_wrap.proofs.AnyCanons.{around_is_accepted}
 use Rattle.mig_guest.specs.MachineStates.{MachineState}
 use Rattle.mig_records_pages.specs.Told.{FrameTold, telling_frames, telling_record}
-use Rattle.mig_libxc.specs.Spelled.{Accepted}
+use Rattle.mig_restore_form.specs.Spelled.{Accepted}
 use Rattle.mig_rounds.specs.Live.{StaysSame, FramesSaved}
 use Rattle.mig_saved.proofs.Viewed.{saved_is_viewed}
 use Rattle.mig_around.specs.SaveTexts.{IsOtherRecord, text_before, ClosesStream}

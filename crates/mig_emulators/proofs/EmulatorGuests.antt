@@ -12,7 +12,7 @@ use Rattle.mig_pvtables.specs.Blank.{blank_of}
 use Rattle.mig_emulators.specs.Emulators.{emulator_parts}
 use Rattle.mig_emulators.specs.Formed.{IsEmulatorKey, IsStore}
 use Rattle.mig_guest.proofs.KeyedMaps.{seen, find_seen, entries_shown}
-use Rattle.mig_libxc.proofs.PartsInOrder.{parts_set}
+use Rattle.mig_restore_form.proofs.PartsInOrder.{parts_set}
 use Rattle.mig_headers.specs.declared.fault.Cause.TheVariants.{Missing}
 use Rattle.mig_pvtables.specs.Faults.{fault_of_guest, faults_for, first_cause, too_many}
 

@@ -5,11 +5,11 @@ use Rattle.std.specs.Cmp.Lexicographic.{slice_cmp}
 use Rattle.std.specs.FinMap as maps
 use Rattle.mig_policy.proofs.LastValues.{values_put}
 use Rattle.mig_policy.specs.PairMaps.{last_pair_value}
-use Rattle.mig_libxc.specs.Mean.{same_key}
-use Rattle.mig_libxc.proofs.Meaning.{part_ties}
+use Rattle.mig_restore_form.specs.Mean.{same_key}
+use Rattle.mig_restore_form.proofs.Meaning.{part_ties}
 use Rattle.mig_emulators.specs.Content.LibxlContent.{Nothing}
 use Rattle.mig_emulators.specs.Emulators.{emulators_of, context_in, last_context, pairs_for, pairs_said, value_in_store}
-use Rattle.mig_libxc.proofs.PartsInOrder.{or_none}
+use Rattle.mig_restore_form.proofs.PartsInOrder.{or_none}
 
 pub either_of : (a b c : Option (List ℕ)) → option_or a (option_or b c) ≡ option_or (option_or a b) c
 either_of None b c = refl

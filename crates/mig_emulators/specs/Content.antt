@@ -2,7 +2,7 @@
 use Rattle.std.specs.Prelude.{ℕ, List}
 use Rattle.mig_headers.specs.Pairs.{Pair}
 use Rattle.mig_guest.specs.declared.part_key.PartKey.{PartKey}
-use Rattle.mig_libxc.specs.Stream.{ImageOf}
+use Rattle.mig_restore_form.specs.Stream.{ImageOf}
 
 -- what a record says: nothing; the image that follows LIBXC_CONTEXT; pairs for an emulator's store, by the key of the part
 -- that they are added to; or an emulator's context, by the key of the part that it is

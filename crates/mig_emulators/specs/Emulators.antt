@@ -11,7 +11,7 @@ use Rattle.mig_guest.specs.Guests.{GuestOf}
 use Rattle.mig_guest.specs.Order.{part_cmp}
 use Rattle.mig_guest.specs.Parts.{Part, PartMap, parts_code, put_parts}
 use Rattle.mig_policy.specs.PairMaps.{PairMap, pairs_code, put_pairs, text_of_map}
-use Rattle.mig_libxc.specs.Mean.{same_key}
+use Rattle.mig_restore_form.specs.Mean.{same_key}
 use Rattle.mig_emulators.specs.Content.{LibxlRecord, LibxlContent}
 use Rattle.mig_emulators.specs.Content.LibxlContent.{Nothing, Image, Pairs, Context}
 

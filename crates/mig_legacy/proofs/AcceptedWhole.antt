@@ -9,7 +9,7 @@ use Rattle.mig_chunks.specs.Chunks.{IsWithinLimits}
 use Rattle.mig_chunks.proofs.ChunkNumbers.{sound_kind}
 use Rattle.mig_emulators.proofs.Formed.{none_yet}
 use Rattle.mig_pvtables.specs.Whole.{IsWhole}
-use Rattle.mig_libxc.proofs.Growth.{empty_begun, grows_not}
+use Rattle.mig_restore_form.proofs.Growth.{empty_begun, grows_not}
 use Rattle.mig_bytes.specs.Fields.{le32}
 use Rattle.mig_legacy.specs.Spelled.HasLegacyContent.{ends, batch, vcpus, clock, last_checkpoint, toolstack, value}
 use Rattle.mig_legacy.proofs.BatchFrames.{good_words}

@@ -10,8 +10,8 @@ use Rattle.mig_pagetypes.specs.PageTypes.{level_of}
 use Rattle.mig_pagetypes.specs.declared.page_type.PageType.{PageType}
 use Rattle.mig_pagetypes.specs.declared.page_type.PageType.TheVariants.{Notab}
 use Rattle.mig_guest.specs.Tables.{EachEntry, IsWithin}
-use Rattle.mig_libxc.proofs.Batches.{each_entries, entries_go, entries_in_place}
-use Rattle.mig_libxc.specs.Judging.{page_at}
+use Rattle.mig_restore_form.proofs.Batches.{each_entries, entries_go, entries_in_place}
+use Rattle.mig_restore_form.specs.Judging.{page_at}
 
 -- ---- pages, of which none is a table
 

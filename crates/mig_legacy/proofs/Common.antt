@@ -65,12 +65,12 @@ pub use Rattle.mig_pvtables.specs.Blank.{blank_of, blank, IsOfBytes}
 pub use Rattle.mig_pvtables.specs.Whole.{IsStreamed, IsStreamedBare}
 pub use Rattle.mig_records.proofs.Places.{none_pass}
 pub use Rattle.mig_records.specs.Words.{words}
-pub use Rattle.mig_libxc.proofs.Meaning.{last_entry_is, parts_got, sent_kind, part_ties}
-pub use Rattle.mig_libxc.specs.Judging.{type_in_word, fault_of_level, fault_of_page, entry_at, with_places}
-unfoldable pub use Rattle.mig_libxc.specs.Mean.{sent, mean}
-pub use Rattle.mig_libxc.specs.Mean.{put_record, empty_guest, entries_of, last_entry, frame_in, same_key, last_bytes, meant_type, put_entries, Grows, IsBegun}
-pub use Rattle.mig_libxc.specs.Record.{StreamRecord, FrameEntry}
-pub use Rattle.mig_libxc.specs.Spelled.{AreEntries, IsGoodWord}
+pub use Rattle.mig_restore_form.proofs.Meaning.{last_entry_is, parts_got, sent_kind, part_ties}
+pub use Rattle.mig_restore_form.specs.Judging.{type_in_word, fault_of_level, fault_of_page, entry_at, with_places}
+unfoldable pub use Rattle.mig_restore_form.specs.Mean.{sent, mean}
+pub use Rattle.mig_restore_form.specs.Mean.{put_record, empty_guest, entries_of, last_entry, frame_in, same_key, last_bytes, meant_type, put_entries, Grows, IsBegun}
+pub use Rattle.mig_restore_form.specs.Record.{StreamRecord, FrameEntry}
+pub use Rattle.mig_restore_form.specs.Spelled.{AreEntries, IsGoodWord}
 pub use Rattle.std.proofs.Common.{◌≡◌, ℕ, cond, List, [], ◌∷◌, ◌++◌, Option, Some, None, refl, sym, ap, ◌∙◌, arith, append_assoc, ◌+◌, ◌-◌, ◌<◌, ◌≤◌, Bool, not, length, drop, nat_eq, nat_lt, suc, ◌^◌, true, false, take, get_or, Result, Ok, Err, subst, ◌/◌, length-append, nat_le, eqb-true, ltb-false, ◌*◌, ◌≢◌, length-take-le, length-drop, ◌⊎◌, inl, inr, take-append-drop, drop-drop, eq-eqb, leb-false, rules}
 pub use Rattle.std.proofs.lemmas.Bool.{le-ltb, lt-leb, le-leb, lt-ltb, and_from, false≢true, eqb-false, ne_eqb, not-false}
 pub use Rattle.std.proofs.lemmas.Grind.{common_steps, flat_map-append}

@@ -10,10 +10,10 @@ use Rattle.mig_pagetypes.specs.declared.page_type.PageType.TheVariants.{Notab}
 use Rattle.mig_guest.specs.Formed.{IsInside}
 use Rattle.mig_guest.specs.Tables.{EachEntry, IsWithin}
 use Rattle.mig_records.proofs.BodyBytes.{bytes_front, bytes_back}
-use Rattle.mig_libxc.specs.Mean.{put_entry}
-use Rattle.mig_libxc.specs.Spelled.{IsPage, IsEntry}
-use Rattle.mig_libxc.proofs.Batches.{carries}
-use Rattle.mig_libxc.proofs.Growth.{grows_not, grows_on, word_inside, grows_frame}
+use Rattle.mig_restore_form.specs.Mean.{put_entry}
+use Rattle.mig_restore_form.specs.Spelled.{IsPage, IsEntry}
+use Rattle.mig_restore_form.proofs.Batches.{carries}
+use Rattle.mig_restore_form.proofs.Growth.{grows_not, grows_on, word_inside, grows_frame}
 use Rattle.mig_legacy.proofs.Batches.{no_table}
 
 data_kept : (t : PageType) → type_has_data (meant_type Hvm t) ≡ type_has_data t

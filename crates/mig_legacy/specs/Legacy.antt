@@ -9,9 +9,9 @@ use Rattle.mig_guest.specs.PartKeys.{context_key}
 use Rattle.mig_guest.specs.declared.part_code.PartCode.TheVariants.{Tsc, HvmParam, HvmContext}
 use Rattle.mig_guest.specs.declared.part_key.PartKey.{PartKey}
 use Rattle.mig_guest.specs.Parts.{Part}
-use Rattle.mig_libxc.specs.Mean.{mean}
-use Rattle.mig_libxc.specs.Record.{FrameEntry, StreamRecord}
-use Rattle.mig_libxc.specs.Record.Content.{Frames as SentFrames, Sets}
+use Rattle.mig_restore_form.specs.Mean.{mean}
+use Rattle.mig_restore_form.specs.Record.{FrameEntry, StreamRecord}
+use Rattle.mig_restore_form.specs.Record.Content.{Frames as SentFrames, Sets}
 use Rattle.mig_emulators.specs.Content.{LibxlRecord}
 use Rattle.mig_emulators.specs.Content.LibxlContent.{Pairs as StorePairs, Context}
 use Rattle.mig_emulators.specs.Emulators.{EmulatorsOf, emulators_of, with_emulators}

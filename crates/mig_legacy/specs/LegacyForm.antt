@@ -21,9 +21,9 @@ use Rattle.mig_headers.specs.declared.legacy_fault.LegacyCause.TheVariants.{Trun
 use Rattle.mig_pagetypes.specs.FrameWords.{word_has_data, word_pfn}
 use Rattle.mig_pagetypes.specs.Limits.{most_frames}
 use Rattle.mig_records.specs.Words.{words}
-use Rattle.mig_libxc.specs.Judging.{type_in_word}
-use Rattle.mig_libxc.specs.Mean.{sent}
-use Rattle.mig_libxc.specs.Record.{FrameEntry}
+use Rattle.mig_restore_form.specs.Judging.{type_in_word}
+use Rattle.mig_restore_form.specs.Mean.{sent}
+use Rattle.mig_restore_form.specs.Record.{FrameEntry}
 use Rattle.mig_emulators.specs.Emulators.{EmulatorsOf, emulators_of, most_pairs, spelled_with}
 use Rattle.mig_chunks.specs.declared.chunk.ChunkKind.{ChunkKind}
 use Rattle.mig_chunks.specs.declared.chunk.ChunkKind.TheVariants.{End, Batch, VcpuMap, Tsc, LastCheckpoint, Toolstack, Param}

@@ -8,7 +8,7 @@ use Rattle.mig_headers.specs.Pairs.{Pair}
 use Rattle.mig_guest.specs.PartKeys.{context_key}
 use Rattle.mig_guest.specs.Parts.{Part}
 use Rattle.mig_policy.specs.PairMaps.{PairMap, put_pairs}
-use Rattle.mig_libxc.specs.Record.{FrameEntry}
+use Rattle.mig_restore_form.specs.Record.{FrameEntry}
 use Rattle.mig_legacy.specs.Legacy.{LegacyContent, LegacyChunk, LegacyTail, LegacyStream, param_key, tsc_key}
 use Rattle.mig_legacy.specs.Legacy.LegacyContent.{Frames, Value, Clock, Pairs}
 

@@ -11,9 +11,9 @@ use Rattle.mig_headers.specs.Contexts.{ContextEntry, IsContext, cut_at}
 use Rattle.mig_headers.specs.Headers.{marker, libxl_ident}
 use Rattle.mig_headers.specs.declared.kind.Kind.TheVariants.{Hvm}
 use Rattle.mig_records.specs.Words.{words}
-use Rattle.mig_libxc.specs.Mean.{sent}
-use Rattle.mig_libxc.specs.Record.{FrameEntry}
-use Rattle.mig_libxc.specs.Spelled.{AreEntries}
+use Rattle.mig_restore_form.specs.Mean.{sent}
+use Rattle.mig_restore_form.specs.Record.{FrameEntry}
+use Rattle.mig_restore_form.specs.Spelled.{AreEntries}
 use Rattle.mig_emulators.specs.Emulators.{emulators_of, most_pairs, spelled_with}
 use Rattle.mig_chunks.specs.declared.chunk.ChunkKind.{ChunkKind}
 use Rattle.mig_chunks.specs.declared.chunk.ChunkKind.TheVariants.{End, Batch, VcpuMap, Tsc, LastCheckpoint, Toolstack, Param}

@@ -5,7 +5,7 @@ ghost use Rattle.mig_bytes.specs.Judged.{Gives, stop_at};
 ghost use Rattle.mig_bytes.specs.declared.stop.Stop.TheVariants.{Memory as NoMemory};
 ghost use Rattle.mig_bytes_form.specs.Form.{judged_as};
 ghost use Rattle.mig_headers.specs.declared.kind.Kind.TheVariants.{Hvm};
-ghost use Rattle.mig_libxc.specs.Mean.{Grows};
+ghost use Rattle.mig_restore_form.specs.Mean.{Grows};
 ghost use Rattle.mig_emulators.specs.Formed.{AreEmulators};
 ghost use Rattle.mig_chunks.specs.Batches.{fault_of_batch};
 ghost use Rattle.mig_legacy.specs.LegacyForm.{length_form, words_form, batch_form, clock_of as clock_in, vcpus_form, clock_form, value_form, toolstack_form};
@@ -18,9 +18,9 @@ use mig_chunks::{batch_fault, page_data_words, physmap_pairs, put, toolstack_fau
 use mig_emulators::Emulators;
 use mig_guest::{EMULATOR_PAIRS, Guest, PartKey};
 use mig_headers::{Cause, LegacyCause, MOST_BODY};
-use mig_libxc::words_of;
 use mig_policy::PairsAnswer;
 use mig_restore::take_entries;
+use mig_restore_form::words_of;
 use std::alloc::Global;
 
 /// Ids of vCPUs are below this.

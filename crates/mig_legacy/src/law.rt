@@ -12,7 +12,7 @@ ghost use Rattle.mig_guest.specs.declared.part_key.PartKey.{PartKey};
 ghost use Rattle.mig_policy.specs.PairMaps.{text_of_map};
 ghost use Rattle.mig_pvtables.specs.Blank.{blank, IsOfBytes};
 ghost use Rattle.mig_pvtables.specs.Whole.{IsWhole};
-ghost use Rattle.mig_libxc.specs.Mean.{frame_in, last_bytes, last_entry};
+ghost use Rattle.mig_restore_form.specs.Mean.{frame_in, last_bytes, last_entry};
 ghost use Rattle.mig_policy.specs.PairMaps.{last_pair_value as last_pair};
 ghost use Rattle.mig_legacy.specs.Legacy.{LegacyStream, device_key, mean_legacy, param_key, store_key};
 ghost use Rattle.mig_legacy.specs.Meaning.{entries_of_chunks, last_value, pairs_of_chunks, parts_told, store_of, tail_value};

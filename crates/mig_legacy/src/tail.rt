@@ -6,7 +6,7 @@ ghost use Rattle.mig_headers.specs.RecordTypes.{most_body};
 ghost use Rattle.mig_headers.specs.Contexts.{scan};
 ghost use Rattle.mig_headers.specs.declared.kind.Kind.TheVariants.{Hvm};
 ghost use Rattle.mig_guest.specs.Frames.{IsFew};
-ghost use Rattle.mig_libxc.specs.Mean.{IsBegun};
+ghost use Rattle.mig_restore_form.specs.Mean.{IsBegun};
 ghost use Rattle.mig_emulators.specs.Formed.{AreEmulators};
 ghost use Rattle.mig_pvtables.specs.Whole.{IsStreamedBare};
 ghost use Rattle.mig_legacy.specs.LegacyForm.{tail_of, tail_form, device_form};

@@ -7,9 +7,9 @@ use Rattle.std.proofs.lemmas.List.Elements.{All-take}
 use Rattle.std.proofs.lemmas.Option.{none-some, same_Some}
 use Rattle.mig_policy.specs.PairFaults.{SpellPairs}
 use Rattle.mig_pvtables.specs.Blank.{blank, IsOfBytes}
-use Rattle.mig_libxc.specs.Mean.{mean}
-use Rattle.mig_libxc.proofs.AcceptedWhole.{accepted_whole}
-use Rattle.mig_libxc.proofs.Meaning.{mean_kind}
+use Rattle.mig_restore_form.specs.Mean.{mean}
+use Rattle.mig_restore_form.proofs.AcceptedWhole.{accepted_whole}
+use Rattle.mig_restore_form.proofs.Meaning.{mean_kind}
 use Rattle.mig_emulators.specs.Emulators.{emulators_of, spelled_with}
 use Rattle.mig_emulators.proofs.EmulatorGuests.{guest_done}
 use Rattle.mig_pvtables.specs.Whole.{IsStreamed}

@@ -3,7 +3,7 @@ use Rattle.mig_libxl.proofs.Common.{◌≡◌, false, List, [], ◌∷◌, ◌++
 use Rattle.std.proofs.lemmas.List.Folds.{list_any-append}
 use Rattle.mig_libxl.specs.Among.{has_emulator}
 use Rattle.mig_emulators.specs.Emulators.{emulators_of}
-use Rattle.mig_libxc.proofs.PartsInOrder.{or_none}
+use Rattle.mig_restore_form.proofs.PartsInOrder.{or_none}
 
 pub ended_more : (records : List LibxlRecord) (r : LibxlRecord) → is_libxl_ended records ≡ false → is_libxl_ended (records ++ r ∷ []) ≡ nat_eq r.type 0
 ended_more records r going = list_any-append (λ (x : LibxlRecord). nat_eq x.type 0) records (r ∷ []) ∙ ap (λ b. b || (nat_eq r.type 0 || false)) going ∙ grind (arith, common_steps)

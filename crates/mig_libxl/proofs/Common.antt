@@ -29,8 +29,8 @@ pub use Rattle.mig_policy.specs.PairFaults.{pairs_fault}
 pub use Rattle.mig_policy.specs.PairMaps.{put_pairs, text_of_map}
 pub use Rattle.mig_pvtables.specs.Whole.{IsStreamedBare, IsWhole}
 pub use Rattle.mig_records.specs.Records.{IsRecord}
-pub use Rattle.mig_libxc.specs.Spelled.{IsImage}
-pub use Rattle.mig_libxc.specs.Stream.{ImageOf}
+pub use Rattle.mig_restore_form.specs.Spelled.{IsImage}
+pub use Rattle.mig_restore_form.specs.Stream.{ImageOf}
 pub use Rattle.std.proofs.Common.{Bool, List, None, Option, Some, [], ap, append_assoc, arith, cond, drop, false, inl, inr, length, length-append, nat_eq, nat_le, nat_lt, not, refl, subst, sym, take, take-append-drop, true, ℕ, ◌++◌, ◌+◌, ◌<◌, ◌^◌, ◌∙◌, ◌∷◌, ◌≡◌, ◌≤◌}
 pub use Rattle.std.proofs.lemmas.Bool.{and_parts, eq-eqb, eqb-true, le-leb, le-ltb, leb-true, lt-leb}
 pub use Rattle.std.proofs.lemmas.Grind.{common_steps}

@@ -9,9 +9,9 @@ use Rattle.mig_bytes.proofs.Sequences.{accepted_spelled, spelled_accepted}
 use Rattle.mig_headers.specs.Headers.{IsImageHeader, IsLibxlHeader, fault_of_libxl, is_from_legacy, libxl_ident, marker}
 use Rattle.mig_headers.proofs.HeaderLaws.{marker_of, unless_ok}
 use Rattle.mig_headers.proofs.LibxlHeaders.{libxl_is_spelled}
-use Rattle.mig_libxc.specs.Stream.{image_at}
-use Rattle.mig_libxc.proofs.Converse.{image_is_accepted as image_passes}
-use Rattle.mig_libxc.proofs.Laws.{accepted_is_image}
+use Rattle.mig_restore_form.specs.Stream.{image_at}
+use Rattle.mig_restore_form.proofs.Converse.{image_is_accepted as image_passes}
+use Rattle.mig_restore_form.proofs.Laws.{accepted_is_image}
 use Rattle.mig_libxl.specs.Spelled.{IsWrapped, IsStream, AcceptedStream}
 use Rattle.mig_libxl.specs.Stream.{StreamOf, wrapped_at, stream_at, image_of_stream, guest_of, IsStreamRefused}
 use Rattle.mig_libxl.specs.Judging.{libxl_record_at}

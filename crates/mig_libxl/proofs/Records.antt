@@ -7,9 +7,9 @@ use Rattle.mig_bytes.proofs.Joins.{both_pass, part_passes, part_whole, placed_pa
 use Rattle.mig_bytes.proofs.Sequences.{Found}
 use Rattle.mig_headers.proofs.FirstFaults.{both_none, neither_some, no_fault, rows_fine}
 use Rattle.mig_headers.specs.declared.fault.Place.TheVariants.{LibxlRecord as AtRecord}
-use Rattle.mig_libxc.specs.Stream.{image_at}
-use Rattle.mig_libxc.proofs.Laws.{accepted_is_image}
-use Rattle.mig_libxc.proofs.Converse.{image_is_accepted}
+use Rattle.mig_restore_form.specs.Stream.{image_at}
+use Rattle.mig_restore_form.proofs.Laws.{accepted_is_image}
+use Rattle.mig_restore_form.proofs.Converse.{image_is_accepted}
 use Rattle.mig_libxl.specs.Among.{has_emulator}
 use Rattle.mig_emulators.specs.Emulators.{emulators_of}
 use Rattle.mig_libxl.specs.Judging.{is_pv, order_rows, fault_of_libxl_fields, fault_of_order, fault_of_libxl_head, inner_at, libxl_record_at}

@@ -2,7 +2,7 @@
 use Rattle.std.specs.Prelude.{Bool, List, [], ◌∷◌, Option, Some, None, ◌==◌, ◌||◌}
 use Rattle.std.specs.List.{list_any}
 use Rattle.std.specs.Option.{option_or}
-use Rattle.mig_libxc.specs.Stream.{ImageOf}
+use Rattle.mig_restore_form.specs.Stream.{ImageOf}
 use Rattle.mig_emulators.specs.Content.{LibxlContent, LibxlRecord}
 use Rattle.mig_emulators.specs.Content.LibxlContent.{Image}
 

@@ -3,8 +3,8 @@ use Rattle.std.specs.Prelude.{◌≡◌, ◌≤◌, ◌<◌, ℕ, true, false, L
 use Rattle.mig_headers.specs.RecordTypes.{most_body}
 use Rattle.mig_headers.specs.declared.kind.Kind.{Kind}
 use Rattle.mig_headers.specs.declared.kind.Kind.TheVariants.{Pv}
-use Rattle.mig_libxc.specs.Judging.{most_records}
-use Rattle.mig_libxc.specs.Stream.{ImageOf}
+use Rattle.mig_restore_form.specs.Judging.{most_records}
+use Rattle.mig_restore_form.specs.Stream.{ImageOf}
 use Rattle.mig_emulators.specs.Content.{LibxlRecord}
 use Rattle.mig_libxl.specs.Among.{has_emulator, image_among}
 use Rattle.mig_libxl.specs.Judging.{allows_length}

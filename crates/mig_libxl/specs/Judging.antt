@@ -17,8 +17,8 @@ use Rattle.mig_headers.specs.declared.fault.Place.TheVariants.{LibxlRecord as At
 use Rattle.mig_guest.specs.declared.part_key.PartKey.{PartKey}
 use Rattle.mig_policy.specs.PairFaults.{pairs_fault}
 use Rattle.mig_policy.specs.PairMaps.{pairs_in}
-use Rattle.mig_libxc.specs.Judging.{most_records}
-use Rattle.mig_libxc.specs.Stream.{ImageOf, image_at}
+use Rattle.mig_restore_form.specs.Judging.{most_records}
+use Rattle.mig_restore_form.specs.Stream.{ImageOf, image_at}
 use Rattle.mig_emulators.specs.Content.{LibxlRecord, LibxlContent}
 use Rattle.mig_libxl.specs.Among.{has_emulator, image_among}
 use Rattle.mig_emulators.specs.Content.LibxlContent.{Nothing, Image, Pairs, Context}

@@ -10,9 +10,9 @@ use Rattle.mig_guest.specs.Guests.{GuestOf}
 use Rattle.mig_guest.specs.declared.part_key.PartKey.{PartKey}
 use Rattle.mig_policy.specs.PairFaults.{SpellPairs}
 use Rattle.mig_records.specs.Records.{IsRecord}
-use Rattle.mig_libxc.specs.Judging.{most_records}
-use Rattle.mig_libxc.specs.Spelled.{IsImage}
-use Rattle.mig_libxc.specs.Stream.{ImageOf}
+use Rattle.mig_restore_form.specs.Judging.{most_records}
+use Rattle.mig_restore_form.specs.Spelled.{IsImage}
+use Rattle.mig_restore_form.specs.Stream.{ImageOf}
 use Rattle.mig_emulators.specs.Content.{LibxlRecord, LibxlContent}
 use Rattle.mig_libxl.specs.Among.{is_libxl_ended, has_emulator, image_among}
 use Rattle.mig_emulators.specs.Content.LibxlContent.{Nothing, Image, Pairs, Context}

@@ -11,8 +11,8 @@ use Rattle.mig_headers.specs.declared.fault.Cause.TheVariants.{Truncated}
 use Rattle.mig_headers.specs.declared.fault.Place.{Place}
 use Rattle.mig_headers.specs.declared.fault.Place.TheVariants.{LibxlHeader}
 use Rattle.mig_guest.specs.Guests.{GuestOf}
-use Rattle.mig_libxc.specs.Mean.{mean}
-use Rattle.mig_libxc.specs.Stream.{ImageOf, image_at}
+use Rattle.mig_restore_form.specs.Mean.{mean}
+use Rattle.mig_restore_form.specs.Stream.{ImageOf, image_at}
 use Rattle.mig_emulators.specs.Content.{LibxlRecord}
 use Rattle.mig_libxl.specs.Among.{is_libxl_ended, image_among}
 use Rattle.mig_emulators.specs.Emulators.{EmulatorsOf, no_emulators, emulators_of, with_emulators}

@@ -20,12 +20,12 @@ use Rattle.mig_guest.specs.Parts.{PartMap}
 use Rattle.mig_guest.specs.PartKeys.{p2m_key, vcpu_key, shared_key, context_key}
 use Rattle.mig_guest.specs.declared.part_key.PartKey.{PartKey}
 use Rattle.mig_pvtables.specs.Faults.{first_cause, missing, too_many, find_p2m, find_entry, find_field, is_absent, faults_for, fault_of_guest}
-use Rattle.mig_libxc.specs.Record.{StreamRecord, is_ended}
-use Rattle.mig_libxc.specs.Judging.{Opening, before, record_at}
-use Rattle.mig_libxc.specs.Mean.{sent}
-use Rattle.mig_libxc.specs.Stream.{ImageOf, image_of, image_at, records_at, opening_at, placed_next}
-use Rattle.mig_libxc.proofs.Meaning.{ended_more}
-use Rattle.mig_libxc.proofs.Parts.{asks, behind_record}
+use Rattle.mig_restore_form.specs.Record.{StreamRecord, is_ended}
+use Rattle.mig_restore_form.specs.Judging.{Opening, before, record_at}
+use Rattle.mig_restore_form.specs.Mean.{sent}
+use Rattle.mig_restore_form.specs.Stream.{ImageOf, image_of, image_at, records_at, opening_at, placed_next}
+use Rattle.mig_restore_form.proofs.Meaning.{ended_more}
+use Rattle.mig_restore_form.proofs.Parts.{asks, behind_record}
 use Rattle.mig_passable.specs.Causes.{is_unasked}
 use Rattle.mig_passable.specs.Images.{open_next, open_records, open_image_at, guest_asked}
 use Rattle.mig_passable.proofs.Images.{open_shrinks, next_shrinks}

@@ -10,11 +10,11 @@ use Rattle.mig_bytes.proofs.Fronts.{TakesFronts, front_pass, front_said, front_t
 use Rattle.mig_headers.specs.Headers.{fault_of_marker, fault_of_image, fault_of_domain, kind_of_number}
 use Rattle.mig_headers.specs.declared.fault.Cause.TheVariants.{Truncated}
 use Rattle.mig_headers.specs.declared.fault.Place.TheVariants.{ImageHeader, DomainHeader, Record}
-use Rattle.mig_libxc.specs.Record.{StreamRecord, is_ended}
-use Rattle.mig_libxc.specs.Judging.{Opening, Before, opening_of, before, fault_of_head, head_at, record_at, next_at, fault_at_end}
-use Rattle.mig_libxc.specs.Mean.{sent}
-use Rattle.mig_libxc.specs.Stream.{image_of, opening_at, opening_behind, marker_at, version_at, kind_at, placed_next}
-use Rattle.mig_libxc.proofs.Parts.{behind_head, begins, asks, behind_record}
+use Rattle.mig_restore_form.specs.Record.{StreamRecord, is_ended}
+use Rattle.mig_restore_form.specs.Judging.{Opening, Before, opening_of, before, fault_of_head, head_at, record_at, next_at, fault_at_end}
+use Rattle.mig_restore_form.specs.Mean.{sent}
+use Rattle.mig_restore_form.specs.Stream.{image_of, opening_at, opening_behind, marker_at, version_at, kind_at, placed_next}
+use Rattle.mig_restore_form.proofs.Parts.{behind_head, begins, asks, behind_record}
 use Rattle.mig_passable.specs.Images.{open_next, open_records, open_image_at}
 use Rattle.mig_passable.proofs.Fronts.{Shrinks, front_onward}
 use Rattle.mig_passable.proofs.RecordFronts.{front_behind, front_record}

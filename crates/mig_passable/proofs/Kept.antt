@@ -33,11 +33,11 @@ use Rattle.mig_records.specs.Shapes.{shape_of, fault_of_content, fault_of_scan, 
 use Rattle.mig_records.specs.declared.shape.Shape.{Shape}
 use Rattle.mig_records.specs.declared.shape.Shape.TheVariants.{Table, Single, Named, Chain, Other}
 use Rattle.mig_pvtables.specs.Tables.{first_superpage, first_outside}
-use Rattle.mig_libxc.specs.Judging.{Before, opening_of, before, fault_of_number, fault_of_fields, fault_of_head, head_at, fault_of_level, fault_of_page, fault_of_data, page_at, entry_at, entries_at, words_at, with_places, lists_of, type_in_word, code_of_type, coded_at, typed_at, body_at, record_at}
-use Rattle.mig_libxc.specs.Record.{is_ended, is_verified, placed_content}
-use Rattle.mig_libxc.specs.Record.Content.{Nothing, Frames, Sets}
-use Rattle.mig_libxc.specs.Stream.{image_of, marker_at, version_at, kind_at, opening_behind, opening_at}
-use Rattle.mig_libxc.proofs.Parts.{behind_body, behind_head}
+use Rattle.mig_restore_form.specs.Judging.{Before, opening_of, before, fault_of_number, fault_of_fields, fault_of_head, head_at, fault_of_level, fault_of_page, fault_of_data, page_at, entry_at, entries_at, words_at, with_places, lists_of, type_in_word, code_of_type, coded_at, typed_at, body_at, record_at}
+use Rattle.mig_restore_form.specs.Record.{is_ended, is_verified, placed_content}
+use Rattle.mig_restore_form.specs.Record.Content.{Nothing, Frames, Sets}
+use Rattle.mig_restore_form.specs.Stream.{image_of, marker_at, version_at, kind_at, opening_behind, opening_at}
+use Rattle.mig_restore_form.proofs.Parts.{behind_body, behind_head}
 use Rattle.mig_passable.specs.Causes.{is_unasked}
 use Rattle.mig_passable.specs.Images.{open_next, open_records, open_image_at}
 use Rattle.mig_passable.proofs.Tells.{Names, Tells, names_rows, names_one, names_two, names_or, names_map, tells_then, tells_checked, tells_part, tells_said, tells_plain, tells_each, tells_onward, tells_placed}

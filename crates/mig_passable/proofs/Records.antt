@@ -20,7 +20,7 @@ use Rattle.mig_libxl.specs.Among.{is_libxl_ended}
 use Rattle.mig_libxl.specs.Judging.{emulator_key, fault_of_context, fault_of_pairs, fault_of_libxl_head, libxl_head_at, context_at, pairs_at, skipped_at, inner_at, body_of_type, libxl_content_at, libxl_record_at}
 use Rattle.mig_policy.specs.PairFaults.{pairs_fault}
 use Rattle.mig_policy.specs.PairMaps.{pairs_in}
-use Rattle.mig_libxc.specs.Stream.{image_at}
+use Rattle.mig_restore_form.specs.Stream.{image_at}
 use Rattle.mig_passable.specs.Images.{open_image_at}
 use Rattle.mig_passable.specs.Streams.{open_fault_of_pairs, open_pairs_at, open_body, open_inner, open_content, open_libxl_record}
 use Rattle.mig_passable.proofs.Asked.{IsLeft, IsLeftCause, image_opens}

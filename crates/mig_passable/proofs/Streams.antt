@@ -23,7 +23,7 @@ use Rattle.mig_libxl.specs.Among.{is_libxl_ended}
 use Rattle.mig_libxl.specs.Judging.{libxl_record_at}
 use Rattle.mig_libxl.specs.Stream.{StreamOf, header_at, bare_at, wrapped_at, stream_at, IsStreamRefused}
 use Rattle.mig_libxl.specs.Stream.StreamOf.{Bare, Wrapped}
-use Rattle.mig_libxc.specs.Stream.{ImageOf, image_at, marker_at, opening_at, opening_behind}
+use Rattle.mig_restore_form.specs.Stream.{ImageOf, image_at, marker_at, opening_at, opening_behind}
 use Rattle.mig_passable.specs.Causes.{is_unasked}
 use Rattle.mig_passable.specs.Images.{open_records, open_image_at}
 use Rattle.mig_passable.specs.Streams.{open_libxl_record, open_libxl_records, open_wrapped, open_bare, open_stream_at, IsPassable, IsOpenRefused}

@@ -7,10 +7,10 @@ use Rattle.mig_headers.specs.declared.fault.Cause.{Cause}
 use Rattle.mig_headers.specs.declared.fault.Place.{Place}
 use Rattle.mig_headers.specs.declared.fault.Place.TheVariants.{Record}
 use Rattle.mig_pvtables.specs.Faults.{fault_of_guest}
-use Rattle.mig_libxc.specs.Judging.{Opening, before, record_at}
-use Rattle.mig_libxc.specs.Mean.{sent}
-use Rattle.mig_libxc.specs.Record.{StreamRecord, is_ended}
-use Rattle.mig_libxc.specs.Stream.{ImageOf, image_of, opening_at}
+use Rattle.mig_restore_form.specs.Judging.{Opening, before, record_at}
+use Rattle.mig_restore_form.specs.Mean.{sent}
+use Rattle.mig_restore_form.specs.Record.{StreamRecord, is_ended}
+use Rattle.mig_restore_form.specs.Stream.{ImageOf, image_of, opening_at}
 
 -- a record behind these records, at its place; nothing is asked of the whole guest
 abbrev pub open_next : Opening → List StreamRecord → List ℕ → Judged (Place × Cause) StreamRecord

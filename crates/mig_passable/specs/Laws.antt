@@ -5,7 +5,7 @@ use Rattle.mig_bytes.specs.Judged.Judged.{Passes}
 use Rattle.mig_headers.specs.declared.fault.Cause.{Cause}
 use Rattle.mig_headers.specs.declared.fault.Place.{Place}
 use Rattle.mig_libxl.specs.Stream.{StreamOf, stream_at, IsStreamRefused}
-use Rattle.mig_libxc.specs.Stream.{image_at}
+use Rattle.mig_restore_form.specs.Stream.{image_at}
 use Rattle.mig_passable.specs.Causes.{is_unasked}
 use Rattle.mig_passable.specs.Images.{open_image_at, guest_asked}
 use Rattle.mig_passable.specs.Streams.{open_stream_at, IsPassable, IsOpenRefused}

@@ -21,11 +21,11 @@ use Rattle.mig_headers.specs.declared.record_type.RecordType.{RecordType}
 use Rattle.mig_headers.specs.declared.record_type.RecordType.TheVariants.{End, PageData, X86PvInfo, X86PvP2mFrames, X86PvVcpuBasic, X86PvVcpuExtended, X86PvVcpuXsave, SharedInfo, X86TscInfo, HvmContext, HvmParams, Toolstack, X86PvVcpuMsrs, Verify, Checkpoint, CheckpointDirtyPfnList, StaticDataEnd, X86CpuidPolicy, X86MsrPolicy}
 use Rattle.mig_order.specs.Order.{IsInOrder}
 use Rattle.mig_order.specs.Order.IsInOrder.{optional, ordered}
-use Rattle.mig_libxc.proofs.Bodies.{optional_at, type_at}
-use Rattle.mig_libxc.proofs.Laws.{fields_fine}
-use Rattle.mig_libxc.specs.Judging.{typed_at, body_at}
-use Rattle.mig_libxc.specs.Record.{Content}
-use Rattle.mig_libxc.specs.Record.Content.{Nothing}
+use Rattle.mig_restore_form.proofs.Bodies.{optional_at, type_at}
+use Rattle.mig_restore_form.proofs.Laws.{fields_fine}
+use Rattle.mig_restore_form.specs.Judging.{typed_at, body_at}
+use Rattle.mig_restore_form.specs.Record.{Content}
+use Rattle.mig_restore_form.specs.Record.Content.{Nothing}
 use Rattle.mig_records.specs.Faults.{type_allows}
 use Rattle.mig_pieces.specs.Begun.{IsKnown}
 use Rattle.mig_pieces.specs.Bodies.{fault_of_typed, fault_of_record_body, typed_content, record_content}

@@ -10,9 +10,9 @@ use Rattle.mig_headers.specs.declared.record_type.RecordType.{RecordType}
 use Rattle.mig_headers.specs.declared.record_type.RecordType.TheVariants.{X86PvInfo, X86PvP2mFrames}
 use Rattle.mig_libxl.specs.Judging.{fault_of_context}
 use Rattle.mig_policy.specs.PairFaults.{pairs_fault}
-use Rattle.mig_libxc.specs.Judging.{code_of_type, lists_of}
-use Rattle.mig_libxc.specs.Record.{Content}
-use Rattle.mig_libxc.specs.Record.Content.{Nothing, Sets}
+use Rattle.mig_restore_form.specs.Judging.{code_of_type, lists_of}
+use Rattle.mig_restore_form.specs.Record.{Content}
+use Rattle.mig_restore_form.specs.Record.Content.{Nothing, Sets}
 
 -- ---- a record of an image, but PAGE_DATA
 

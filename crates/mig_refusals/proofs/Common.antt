@@ -101,17 +101,17 @@ pub use Rattle.mig_pvtables.specs.Faults.{fault_of_guest, faults_for, find_entry
 pub use Rattle.mig_pvtables.specs.P2mFrames.{count_in, listed}
 pub use Rattle.mig_pvtables.specs.Tables.{fault_of_page_table, is_superpage, names_above}
 pub use Rattle.mig_pvtables.specs.VcpuContexts.{field_value, frame_of_field, is_marked, is_used}
-pub use Rattle.mig_libxc.proofs.Batches.{behind_good, behind_words, entries_in_place, words_stage}
-pub use Rattle.mig_libxc.proofs.Bodies.{shaped_code}
-pub use Rattle.mig_libxc.proofs.Converse.{goes, going, headers_go, image_header_goes}
-pub use Rattle.mig_libxc.proofs.Laws.{behind_kind, behind_marker, behind_version, finds, image_header, opened as stream_opened}
-unfoldable pub use Rattle.mig_libxc.specs.Judging.{fault_of_fields}
-pub use Rattle.mig_libxc.specs.Judging.{Before, Opening, before, fault_of_data, fault_of_head, fault_of_level, fault_of_number, fault_of_page, lists_of, most_records, next_at, type_in_word}
-pub use Rattle.mig_libxc.specs.Mean.{meant_type, sent}
-pub use Rattle.mig_libxc.specs.Record.{FrameEntry, StreamRecord, is_ended}
-pub use Rattle.mig_libxc.specs.Spelled.{Accepted, Follows}
-unfoldable pub use Rattle.mig_libxc.specs.Stream.{image_at, opening_at}
-pub use Rattle.mig_libxc.specs.Stream.{IsRefused, image_of, placed_next, records_at}
+pub use Rattle.mig_restore_form.proofs.Batches.{behind_good, behind_words, entries_in_place, words_stage}
+pub use Rattle.mig_restore_form.proofs.Bodies.{shaped_code}
+pub use Rattle.mig_restore_form.proofs.Converse.{goes, going, headers_go, image_header_goes}
+pub use Rattle.mig_restore_form.proofs.Laws.{behind_kind, behind_marker, behind_version, finds, image_header, opened as stream_opened}
+unfoldable pub use Rattle.mig_restore_form.specs.Judging.{fault_of_fields}
+pub use Rattle.mig_restore_form.specs.Judging.{Before, Opening, before, fault_of_data, fault_of_head, fault_of_level, fault_of_number, fault_of_page, lists_of, most_records, next_at, type_in_word}
+pub use Rattle.mig_restore_form.specs.Mean.{meant_type, sent}
+pub use Rattle.mig_restore_form.specs.Record.{FrameEntry, StreamRecord, is_ended}
+pub use Rattle.mig_restore_form.specs.Spelled.{Accepted, Follows}
+unfoldable pub use Rattle.mig_restore_form.specs.Stream.{image_at, opening_at}
+pub use Rattle.mig_restore_form.specs.Stream.{IsRefused, image_of, placed_next, records_at}
 pub use Rattle.mig_libxl.proofs.Forms.{behind_header}
 pub use Rattle.mig_libxl.proofs.Laws.{Ident, header_goes, ident_of, is_header, libxl_goes}
 pub use Rattle.mig_libxl.proofs.Records.{behind_content, behind_head as libxl_behind_head, found, not_ended as libxl_not_ended, record_goes}

@@ -8,10 +8,10 @@ use Rattle.mig_bytes_form.proofs.Tests.{computed_is}
 use Rattle.mig_headers.specs.RecordTypes.{is_optional, type_of_number}
 use Rattle.mig_headers.specs.declared.record_type.RecordType.TheVariants.{PageData, X86PvInfo, X86PvP2mFrames}
 use Rattle.mig_pagetypes.specs.FrameWords.{word_has_data}
-use Rattle.mig_libxc.specs.Judging.{fault_at_end, record_at, next_at, body_at, code_of_type, coded_at, entry_at, head_at, page_at, pages_at, typed_at, with_places, words_at}
-use Rattle.mig_libxc.specs.Record.{Content, is_verified, placed_content}
-use Rattle.mig_libxc.specs.Record.Content.{Nothing, Frames, Sets}
-use Rattle.mig_libxc.specs.Stream.{kind_at, marker_at, version_at}
+use Rattle.mig_restore_form.specs.Judging.{fault_at_end, record_at, next_at, body_at, code_of_type, coded_at, entry_at, head_at, page_at, pages_at, typed_at, with_places, words_at}
+use Rattle.mig_restore_form.specs.Record.{Content, is_verified, placed_content}
+use Rattle.mig_restore_form.specs.Record.Content.{Nothing, Frames, Sets}
+use Rattle.mig_restore_form.specs.Stream.{kind_at, marker_at, version_at}
 use Rattle.mig_refusals.specs.Libxc.{marker_form, version_form, kind_form, image_page_form, image_entry_form, pages_form, coded_form, typed_form, image_body_form, image_record_form, next_form}
 
 -- a part with a computed cause

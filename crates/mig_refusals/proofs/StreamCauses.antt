@@ -1,7 +1,7 @@
 -- The tables of causes of a libxl stream around its image: they are what is judged, and in order; and how long a store becomes.
 use Rattle.mig_refusals.proofs.Common.{◌<◌, ◌⊎◌, inl, inr, Bool, false, cond, nat_eq, nat_le, ◌||◌, eqb-false, leb-false, lt-leb, ne_eqb, false≢true, Kind, Pv, Hvm, ◌≡◌, ℕ, List, [], ◌∷◌, ◌++◌, drop, true, Option, Some, None, refl, sym, ap, ◌∙◌, Cause, LibxlRecord, join, fault_of_libxl_head, fault_of_libxl_fields, fault_of_order, fault_of_pairs, fault_of_context, emulators_of, spelled_with, emulator_key, pairs_in, pairs_fault, le32, most_pairs, BadEmulator, TooManyPairs, EmulatorIndex, BadPairs, BadKey, IsFirstFault, first_fault_is_computed, option_or, number_of_cause}
 use Rattle.mig_libxl.specs.Judging.{allows_length, is_pv, is_pv_kind}
-use Rattle.mig_libxc.specs.Stream.{ImageOf}
+use Rattle.mig_restore_form.specs.Stream.{ImageOf}
 use Rattle.mig_refusals.proofs.Tests.{is_one, one_of}
 use Rattle.std.proofs.Common.{length}
 use Rattle.std.specs.List.{flat_map}

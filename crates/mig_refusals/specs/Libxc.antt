@@ -33,11 +33,11 @@ use Rattle.mig_records.specs.Shapes.{fault_of_body, parts_of_body}
 use Rattle.mig_records.specs.Faults.{fault_of_count, fault_of_words}
 use Rattle.mig_records.specs.Words.{words}
 use Rattle.mig_order.specs.Order.{some_earlier, is_of, static_records, content_records, vcpu_records}
-use Rattle.mig_libxc.specs.Judging.{Opening, Before, before, code_of_type, fault_at_end, fault_of_data, fault_of_head, fault_of_page, lists_of, most_records, type_in_word, with_places}
-use Rattle.mig_libxc.specs.Mean.{sent, meant_type}
-use Rattle.mig_libxc.specs.Record.{FrameEntry, StreamRecord, Content, is_ended, is_verified, placed_content}
-use Rattle.mig_libxc.specs.Record.Content.{Nothing, Frames, Sets}
-use Rattle.mig_libxc.specs.Spelled.{Follows}
+use Rattle.mig_restore_form.specs.Judging.{Opening, Before, before, code_of_type, fault_at_end, fault_of_data, fault_of_head, fault_of_page, lists_of, most_records, type_in_word, with_places}
+use Rattle.mig_restore_form.specs.Mean.{sent, meant_type}
+use Rattle.mig_restore_form.specs.Record.{FrameEntry, StreamRecord, Content, is_ended, is_verified, placed_content}
+use Rattle.mig_restore_form.specs.Record.Content.{Nothing, Frames, Sets}
+use Rattle.mig_restore_form.specs.Spelled.{Follows}
 use Rattle.mig_refusals.specs.LibxcPv.{TableHas, InfoHas, P2mHas, VcpuHas, PvGuestHas}
 
 -- ---- where each cause stands, a line for each; causes that have places stand at several, all others at place 0

@@ -19,8 +19,8 @@ use Rattle.mig_headers.specs.declared.fault.Place.{Place}
 use Rattle.mig_headers.specs.declared.fault.Place.TheVariants as places
 use Rattle.mig_policy.specs.PairFaults.{pairs_fault}
 use Rattle.mig_policy.specs.PairMaps.{last_pair_value, pairs_in}
-use Rattle.mig_libxc.specs.Judging.{most_records}
-use Rattle.mig_libxc.specs.Stream.{ImageOf}
+use Rattle.mig_restore_form.specs.Judging.{most_records}
+use Rattle.mig_restore_form.specs.Stream.{ImageOf}
 use Rattle.mig_headers.specs.declared.kind.Kind.TheVariants.{Pv}
 use Rattle.mig_refusals.specs.Libxc.{RefusedLibxc}
 use Rattle.mig_emulators.specs.Content.{LibxlRecord, LibxlContent}

@@ -26,11 +26,11 @@ use Rattle.mig_pieces.specs.Bodies.{fault_of_record_body, coded_content, typed_c
 use Rattle.mig_policy.specs.PairMaps.{pairs_in}
 use Rattle.mig_records.specs.Faults.{type_allows}
 use Rattle.mig_records.specs.declared.head.RecordHead.{RecordHead}
-use Rattle.mig_libxc.proofs.Laws.{fields_fine}
-use Rattle.mig_libxc.specs.Judging.{Opening, before, lists_of, code_of_type}
-use Rattle.mig_libxc.specs.Record.{StreamRecord, Content}
-use Rattle.mig_libxc.specs.Record.Content.{Nothing, Lists}
-use Rattle.mig_libxc.specs.Stream.{ImageOf}
+use Rattle.mig_restore_form.proofs.Laws.{fields_fine}
+use Rattle.mig_restore_form.specs.Judging.{Opening, before, lists_of, code_of_type}
+use Rattle.mig_restore_form.specs.Record.{StreamRecord, Content}
+use Rattle.mig_restore_form.specs.Record.Content.{Nothing, Lists}
+use Rattle.mig_restore_form.specs.Stream.{ImageOf}
 use Rattle.mig_relay.specs.Following.{ComesNext, more, whole, image_next, libxl_next}
 use Rattle.mig_relay.specs.Keeping.{Keeps, KeepsFirst, KeepsHead, KeepsOpen, KeepsOuter, IsBodied, IsOther, top_with, with_one}
 use Rattle.mig_relay.specs.Parts.{AtHead, AtBody, AtPadding, BeginsWithPart, record_with}

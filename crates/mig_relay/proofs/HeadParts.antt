@@ -30,14 +30,14 @@ use Rattle.mig_pieces.proofs.Types.{bodies_are_parts}
 use Rattle.mig_records.specs.Faults.{fault_of_length}
 use Rattle.mig_records.specs.Heads.{head_in}
 use Rattle.mig_records.specs.declared.head.RecordHead.{RecordHead}
-use Rattle.mig_libxc.specs.Judging.{Opening, before, body_at, code_of_type, fault_of_head, fault_of_fields}
-use Rattle.mig_libxc.specs.Record.Content.{Nothing, Sets, Lists}
-use Rattle.mig_libxc.specs.Record.{StreamRecord, Content, types_of, is_ended}
-use Rattle.mig_libxc.specs.Seen.{IsSeen}
-use Rattle.mig_libxc.specs.declared.head.RecordsSeen.{RecordsSeen}
+use Rattle.mig_restore_form.specs.Judging.{Opening, before, body_at, code_of_type, fault_of_head, fault_of_fields}
+use Rattle.mig_restore_form.specs.Record.Content.{Nothing, Sets, Lists}
+use Rattle.mig_restore_form.specs.Record.{StreamRecord, Content, types_of, is_ended}
+use Rattle.mig_restore_form.specs.Seen.{IsSeen}
+use Rattle.mig_restore_form.specs.declared.head.RecordsSeen.{RecordsSeen}
 use Rattle.mig_headers.specs.declared.kind.Kind.{Kind}
 use Rattle.std.specs.Prelude.{IfSome}
-use Rattle.mig_libxc.specs.Stream.{ImageOf, image_of}
+use Rattle.mig_restore_form.specs.Stream.{ImageOf, image_of}
 use Rattle.mig_relay.specs.Following.{ComesBehind, ComesNext, image_begins, pages_begin, image_whole, image_next, image_end, inner_end}
 use Rattle.mig_relay.specs.Keeping.{Keeps, KeepsGoing, KeepsHead, KeepsRecords, KeepsOuter, HasNumber, fault_of_empty}
 use Rattle.mig_relay.specs.Parts.{AtHead, AtBody, AtFront, judged_next, record_with, with_body, BeginsWithPart}

@@ -11,15 +11,15 @@ use Rattle.mig_libxl.specs.declared.head.RecordsBehind.{RecordsBehind}
 use Rattle.mig_libxl.proofs.Among.{emulator_more, among_more, among_first}
 use Rattle.mig_libxl.proofs.Among as libxl
 use Rattle.mig_records.specs.declared.head.RecordHead.{RecordHead}
-use Rattle.mig_libxc.specs.Judging.{Opening, before}
-use Rattle.mig_libxc.specs.Mean.{sent, put_content}
-use Rattle.mig_libxc.specs.Record.{StreamRecord, Content, types_of, is_ended, is_verified, placed_content}
-use Rattle.mig_libxc.specs.Record.Content.{Nothing, Frames, Sets, Lists, Checks}
-use Rattle.mig_libxc.specs.Seen.{IsSeen}
-use Rattle.mig_libxc.specs.Stream.{ImageOf}
-use Rattle.mig_libxc.specs.declared.head.RecordsSeen.{RecordsSeen}
-use Rattle.mig_libxc.proofs.Meaning.{ended_more}
-use Rattle.mig_libxc.proofs.Meaning.{one_more_record}
+use Rattle.mig_restore_form.specs.Judging.{Opening, before}
+use Rattle.mig_restore_form.specs.Mean.{sent, put_content}
+use Rattle.mig_restore_form.specs.Record.{StreamRecord, Content, types_of, is_ended, is_verified, placed_content}
+use Rattle.mig_restore_form.specs.Record.Content.{Nothing, Frames, Sets, Lists, Checks}
+use Rattle.mig_restore_form.specs.Seen.{IsSeen}
+use Rattle.mig_restore_form.specs.Stream.{ImageOf}
+use Rattle.mig_restore_form.specs.declared.head.RecordsSeen.{RecordsSeen}
+use Rattle.mig_restore_form.proofs.Meaning.{ended_more}
+use Rattle.mig_restore_form.proofs.Meaning.{one_more_record}
 use Rattle.mig_relay.specs.Keeping.{HasNumber, KeepsGoing, KeepsOuter, KeepsRecords, with_one}
 use Rattle.mig_relay.specs.Parts.{record_with}
 use Rattle.mig_relay.specs.Spots.{Outer, Alone, Behind}

@@ -8,15 +8,15 @@ use Rattle.mig_headers.specs.declared.kind.Kind.{Kind}
 use Rattle.mig_libxl.specs.Among.{image_among}
 use Rattle.mig_libxl.specs.Behind.{AreBehind, MayFollow, kind_of_image}
 use Rattle.mig_libxl.specs.Judging.{allows_length}
-use Rattle.mig_libxc.specs.declared.head.RecordsSeen.{RecordsSeen}
+use Rattle.mig_restore_form.specs.declared.head.RecordsSeen.{RecordsSeen}
 use Rattle.mig_libxl.specs.Stream.StreamOf.{Wrapped}
 use Rattle.mig_libxl.specs.declared.head.RecordsBehind.{RecordsBehind}
 use Rattle.mig_pieces.specs.Begun.{IsBegunBody}
 use Rattle.mig_pieces.specs.Bodies.{fault_of_libxl_body}
 use Rattle.mig_records.specs.Heads.{head_in}
 use Rattle.mig_records.specs.declared.head.RecordHead.{RecordHead}
-use Rattle.mig_libxc.specs.Judging.{most_records}
-use Rattle.mig_libxc.specs.Stream.{ImageOf}
+use Rattle.mig_restore_form.specs.Judging.{most_records}
+use Rattle.mig_restore_form.specs.Stream.{ImageOf}
 use Rattle.mig_relay.specs.Following.{ComesBehind, ComesNext, libxl_begins, libxl_whole, libxl_next, libxl_context, libxl_end}
 use Rattle.mig_relay.specs.Keeping.{Keeps, KeepsGoing, KeepsWrapper, HasNumber, with_one}
 use Rattle.mig_relay.specs.Parts.{AtMarker}

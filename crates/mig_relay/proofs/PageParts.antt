@@ -11,9 +11,9 @@ use Rattle.mig_pagetypes.specs.FrameWords.{word_has_data}
 use Rattle.mig_records.specs.Faults.{fault_of_count, fault_of_words}
 use Rattle.mig_records.specs.Words.{words}
 use Rattle.mig_records.specs.declared.head.RecordHead.{RecordHead}
-use Rattle.mig_libxc.specs.Record.{StreamRecord, FrameEntry, Content}
-use Rattle.mig_libxc.specs.Record.Content.{Frames}
-use Rattle.mig_libxc.specs.Judging.{Opening, before, fault_of_data, fault_of_page, with_places, entry_at, words_at, pages_at}
+use Rattle.mig_restore_form.specs.Record.{StreamRecord, FrameEntry, Content}
+use Rattle.mig_restore_form.specs.Record.Content.{Frames}
+use Rattle.mig_restore_form.specs.Judging.{Opening, before, fault_of_data, fault_of_page, with_places, entry_at, words_at, pages_at}
 use Rattle.mig_relay.specs.Parts.{AtPadding, judged_next, with_body, pages_behind, words_behind, fault_of_list, entry_of_word}
 
 module _ (o : Opening) (records : List StreamRecord) (head : RecordHead) where

@@ -25,15 +25,15 @@ use Rattle.mig_pagetypes.specs.declared.page_type.PageType.{PageType}
 use Rattle.mig_records.specs.Faults.{fault_of_count, fault_of_words, count_rows}
 use Rattle.mig_records.specs.Words.{words, data_len_of}
 use Rattle.mig_records.specs.declared.head.RecordHead.{RecordHead}
-use Rattle.mig_libxc.proofs.Meaning.{ended_more}
-use Rattle.mig_libxc.proofs.Meaning.{one_more_record}
-use Rattle.mig_libxc.specs.Judging.{Opening, before, type_in_word, fault_of_data, fault_of_level, fault_of_page, with_places}
-use Rattle.mig_libxc.specs.Mean.{sent, put_content, meant_type}
-use Rattle.mig_libxc.specs.Record.{StreamRecord, FrameEntry, types_of, is_verified, placed_content}
-use Rattle.mig_libxc.specs.Record.Content.{Frames}
-use Rattle.mig_libxc.specs.Seen.{IsSeen}
-use Rattle.mig_libxc.specs.Stream.{ImageOf}
-use Rattle.mig_libxc.specs.declared.head.RecordsSeen.{RecordsSeen}
+use Rattle.mig_restore_form.proofs.Meaning.{ended_more}
+use Rattle.mig_restore_form.proofs.Meaning.{one_more_record}
+use Rattle.mig_restore_form.specs.Judging.{Opening, before, type_in_word, fault_of_data, fault_of_level, fault_of_page, with_places}
+use Rattle.mig_restore_form.specs.Mean.{sent, put_content, meant_type}
+use Rattle.mig_restore_form.specs.Record.{StreamRecord, FrameEntry, types_of, is_verified, placed_content}
+use Rattle.mig_restore_form.specs.Record.Content.{Frames}
+use Rattle.mig_restore_form.specs.Seen.{IsSeen}
+use Rattle.mig_restore_form.specs.Stream.{ImageOf}
+use Rattle.mig_restore_form.specs.declared.head.RecordsSeen.{RecordsSeen}
 use Rattle.mig_relay.specs.Following.{ComesBehind, ComesNext, CountDue, FillsBody, WordsDue, bytes_behind_head, due, head_spot, in_hand, pages_to_come, to_come, more, whole as last_bytes, image_next}
 use Rattle.mig_relay.specs.Keeping.{Keeps, KeepsWords, HasNumber, KeepsRecords, KeepsHead, KeepsOuter, IsPages}
 use Rattle.mig_relay.specs.Parts.{AtHead, AtFront, AtWords, AtPages, judged_next, record_with, fault_of_list, entry_of_word, BeginsWithPart}

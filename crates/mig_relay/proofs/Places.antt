@@ -6,8 +6,8 @@ use Rattle.mig_emulators.specs.Content.{LibxlRecord, LibxlContent}
 use Rattle.mig_libxl.specs.Among.{image_in}
 use Rattle.mig_libxl.specs.Stream.{StreamOf}
 use Rattle.mig_pieces.specs.Bodies.{fault_of_record_body, fault_of_libxl_body}
-use Rattle.mig_libxc.specs.Judging.{Opening, before}
-use Rattle.mig_libxc.specs.Record.{StreamRecord, FrameEntry, Content, types_of}
+use Rattle.mig_restore_form.specs.Judging.{Opening, before}
+use Rattle.mig_restore_form.specs.Record.{StreamRecord, FrameEntry, Content, types_of}
 use Rattle.mig_relay.specs.Keeping.{Keeps, KeepsNext, KeepsOuter, KeepsGoing, KeepsOpen, KeepsRecords, KeepsHead, KeepsBody, KeepsFirst, KeepsWords, IsBodied, IsOther, IsPages, HasRecords, top_with}
 use Rattle.mig_relay.specs.Parts.{Next, AtMarker, AtVersion, AtKind, AtHead, AtBody, AtFront, AtWords, AtPages, AtPadding, record_with}
 use Rattle.mig_relay.specs.Spots.{Outer, Spot, AtStart, AtLibxlHeader, AtLibxlHead, AtLibxlBody, AtLibxlPadding, InImage, AtEnd}

@@ -28,9 +28,9 @@ use Rattle.mig_pieces.specs.Bodies.{fault_of_libxl_body}
 use Rattle.mig_policy.specs.PairMaps.{pairs_in}
 use Rattle.mig_records.specs.Heads.{head_in}
 use Rattle.mig_records.specs.declared.head.RecordHead.{RecordHead}
-use Rattle.mig_libxc.specs.Judging.{Opening}
-use Rattle.mig_libxc.specs.Record.{StreamRecord, is_ended}
-use Rattle.mig_libxc.specs.Stream.{ImageOf, image_of}
+use Rattle.mig_restore_form.specs.Judging.{Opening}
+use Rattle.mig_restore_form.specs.Record.{StreamRecord, is_ended}
+use Rattle.mig_restore_form.specs.Stream.{ImageOf, image_of}
 use Rattle.mig_relay.specs.Parts.{AtMarker, AtVersion, AtHead, BeginsWithPart}
 use Rattle.mig_relay.specs.Spots.{Alone, Behind, AtLibxlHeader, AtLibxlHead, AtLibxlBody, AtLibxlPadding, AtStart, InImage, AtEnd, spot, carry, image_record, libxl_padded, is_ident, fault_of_first}
 use Rattle.mig_relay.proofs.Unrolls.{marker_is, ended}

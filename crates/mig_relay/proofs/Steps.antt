@@ -16,9 +16,9 @@ use Rattle.mig_passable.specs.Streams.{open_stream_at, IsPassable}
 use Rattle.mig_passable.proofs.Streams.{unfinished_is_not_accepted}
 use Rattle.mig_pieces.specs.Bodies.{fault_of_record_body, record_content}
 use Rattle.mig_pieces.proofs.Types.{bodies_are_parts}
-use Rattle.mig_libxc.proofs.Batches.{places_len}
-use Rattle.mig_libxc.specs.Judging.{before, with_places}
-use Rattle.mig_libxc.specs.Stream.{ImageOf}
+use Rattle.mig_restore_form.proofs.Batches.{places_len}
+use Rattle.mig_restore_form.specs.Judging.{before, with_places}
+use Rattle.mig_restore_form.specs.Stream.{ImageOf}
 use Rattle.mig_relay.specs.Following.{head_of_next, in_hand, place_of_spot}
 use Rattle.mig_relay.specs.Keeping.{Keeps, KeepsNext, HasRecords, Stands}
 use Rattle.mig_relay.specs.Parts.{Next, AtMarker, AtVersion, AtKind, AtHead, AtBody, AtFront, AtWords, AtPages, AtPadding, judged_next, BeginsWithPart}

@@ -17,10 +17,10 @@ use Rattle.mig_passable.specs.Images.{open_next, open_records, open_image_at}
 use Rattle.mig_passable.proofs.Images.{open_shrinks}
 use Rattle.mig_records.specs.Heads.{head_in}
 use Rattle.mig_records.specs.declared.head.RecordHead.{RecordHead}
-use Rattle.mig_libxc.specs.Judging.{Opening, opening_of, before, fault_of_head, head_at, record_at, body_at}
-use Rattle.mig_libxc.specs.Record.{StreamRecord, Content, is_ended}
-use Rattle.mig_libxc.specs.Stream.{image_of, opening_at, opening_behind, marker_at, version_at, kind_at}
-use Rattle.mig_libxc.proofs.Parts.{begins, behind_head, behind_body}
+use Rattle.mig_restore_form.specs.Judging.{Opening, opening_of, before, fault_of_head, head_at, record_at, body_at}
+use Rattle.mig_restore_form.specs.Record.{StreamRecord, Content, is_ended}
+use Rattle.mig_restore_form.specs.Stream.{image_of, opening_at, opening_behind, marker_at, version_at, kind_at}
+use Rattle.mig_restore_form.proofs.Parts.{begins, behind_head, behind_body}
 use Rattle.mig_relay.specs.Parts.{AtMarker, AtVersion, AtKind, AtHead, AtBody, AtPadding, judged_next, record_with, with_record, with_body, padded, BeginsWithPart}
 
 -- ---- headers

@@ -14,10 +14,10 @@ use Rattle.mig_pagetypes.specs.FrameWords.{word_has_data}
 use Rattle.mig_pieces.specs.Begun.{IsBegunBody, piece_len}
 use Rattle.mig_pieces.specs.Bodies.{fault_of_record_body, fault_of_libxl_body}
 use Rattle.mig_records.specs.declared.head.RecordHead.{RecordHead}
-use Rattle.mig_libxc.specs.Judging.{Opening, before, fault_of_fields, most_records, with_places}
-use Rattle.mig_libxc.specs.Record.{StreamRecord, FrameEntry, types_of, is_ended}
-use Rattle.mig_libxc.specs.Seen.{IsSeen}
-use Rattle.mig_libxc.specs.Stream.{ImageOf}
+use Rattle.mig_restore_form.specs.Judging.{Opening, before, fault_of_fields, most_records, with_places}
+use Rattle.mig_restore_form.specs.Record.{StreamRecord, FrameEntry, types_of, is_ended}
+use Rattle.mig_restore_form.specs.Seen.{IsSeen}
+use Rattle.mig_restore_form.specs.Stream.{ImageOf}
 use Rattle.mig_relay.specs.Parts.{Next, AtMarker, AtVersion, AtKind, AtHead, AtBody, AtFront, AtWords, AtPages, AtPadding, record_with}
 use Rattle.mig_relay.specs.Spots.{Outer, Alone, Behind, Spot, AtStart, AtLibxlHeader, AtLibxlHead, AtLibxlBody, AtLibxlPadding, InImage, AtEnd}
 use Rattle.mig_relay.specs.declared.state.Relay.{Relay}

@@ -15,10 +15,10 @@ use Rattle.mig_passable.specs.Images.{open_image_at, open_records}
 use Rattle.mig_records.specs.Faults.{fault_of_words}
 use Rattle.mig_records.specs.Words.{words}
 use Rattle.mig_records.specs.declared.head.RecordHead.{RecordHead}
-use Rattle.mig_libxc.specs.Judging.{Opening, opening_of, before, body_at, type_in_word, fault_of_data, words_at, with_places, entry_at, pages_at}
-use Rattle.mig_libxc.specs.Record.{StreamRecord, FrameEntry, Content, types_of, is_verified, placed_content}
-use Rattle.mig_libxc.specs.Record.Content.{Frames}
-use Rattle.mig_libxc.specs.Stream.{ImageOf, opening_behind, kind_at}
+use Rattle.mig_restore_form.specs.Judging.{Opening, opening_of, before, body_at, type_in_word, fault_of_data, words_at, with_places, entry_at, pages_at}
+use Rattle.mig_restore_form.specs.Record.{StreamRecord, FrameEntry, Content, types_of, is_verified, placed_content}
+use Rattle.mig_restore_form.specs.Record.Content.{Frames}
+use Rattle.mig_restore_form.specs.Stream.{ImageOf, opening_behind, kind_at}
 
 -- What comes next behind a faultless front of an image, and what of the front decides how it is judged: the marker; the
 -- rest of the image header; the domain header; the head of a record; its body; the words of a PAGE_DATA, which has so many;

@@ -15,7 +15,7 @@ use Rattle.mig_libxl.specs.Stream.{StreamOf}
 use Rattle.mig_libxl.specs.Stream.StreamOf.{Bare}
 use Rattle.mig_passable.specs.Streams.{open_stream_at, open_wrapped, open_libxl_records, open_body}
 use Rattle.mig_records.specs.declared.head.RecordHead.{RecordHead}
-use Rattle.mig_libxc.specs.Stream.{ImageOf}
+use Rattle.mig_restore_form.specs.Stream.{ImageOf}
 use Rattle.mig_relay.specs.Parts.{Next, AtVersion, AtKind, AtBody, AtWords, AtPages, judged_next}
 
 -- an image that stands alone, or behind these records of a libxl stream and a head of LIBXC_CONTEXT

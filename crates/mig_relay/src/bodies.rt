@@ -10,8 +10,8 @@ ghost use Rattle.mig_relay.specs.Parts.{AtBody, AtPadding, record_with};
 ghost use Rattle.mig_relay.specs.Spots.{Outer, AtLibxlBody, AtLibxlPadding, InImage};
 ghost use Rattle.mig_relay.specs.Steps.{StepMoved, RisesOnFault};
 ghost use Rattle.mig_relay.specs.declared.state.Coming.TheVariants as comes;
-ghost use Rattle.mig_libxc.specs.Judging.{Opening, before, most_records};
-ghost use Rattle.mig_libxc.specs.Record.{StreamRecord, Content};
+ghost use Rattle.mig_restore_form.specs.Judging.{Opening, before, most_records};
+ghost use Rattle.mig_restore_form.specs.Record.{StreamRecord, Content};
 
 use crate::answer::{RelayAnswer, Step};
 use crate::state::{Coming, Relay, answer};

@@ -10,8 +10,8 @@ ghost use Rattle.mig_relay.specs.Parts.{AtHead};
 ghost use Rattle.mig_relay.specs.Spots.{Outer, AtLibxlHead, InImage};
 ghost use Rattle.mig_relay.specs.Steps.{StepMoved, RisesOnFault};
 ghost use Rattle.mig_relay.specs.declared.state.Coming.TheVariants as comes;
-ghost use Rattle.mig_libxc.specs.Judging.{Opening, before, most_records};
-ghost use Rattle.mig_libxc.specs.Record.{StreamRecord, types_of};
+ghost use Rattle.mig_restore_form.specs.Judging.{Opening, before, most_records};
+ghost use Rattle.mig_restore_form.specs.Record.{StreamRecord, types_of};
 
 use crate::answer::{RelayAnswer, Step};
 use crate::state::{Coming, Relay, answer};

@@ -9,8 +9,8 @@ use crate::answer::{RelayAnswer, Step};
 use crate::state::{Coming, Relay, answer};
 use mig_bytes::{Sink, Source, take_part};
 use mig_headers::{Cause, DomainHeader, ImageHeader, LibxlHeader, Place};
-use mig_libxc::RecordsSeen;
 use mig_libxl::RecordsBehind;
+use mig_restore_form::RecordsSeen;
 
 /// Before the first record of a libxl stream.
 const NONE_BEHIND: RecordsBehind = RecordsBehind {

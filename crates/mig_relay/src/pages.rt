@@ -9,16 +9,16 @@ ghost use Rattle.mig_relay.specs.Parts.{AtFront, AtWords, AtPages};
 ghost use Rattle.mig_relay.specs.Spots.{Outer, InImage};
 ghost use Rattle.mig_relay.specs.Steps.{StepMoved, RisesOnFault};
 ghost use Rattle.mig_relay.specs.declared.state.Coming.TheVariants as comes;
-ghost use Rattle.mig_libxc.specs.Judging.{Opening, before, fault_of_data};
-ghost use Rattle.mig_libxc.specs.Record.{StreamRecord, FrameEntry};
+ghost use Rattle.mig_restore_form.specs.Judging.{Opening, before, fault_of_data};
+ghost use Rattle.mig_restore_form.specs.Record.{StreamRecord, FrameEntry};
 ghost use Rattle.std.specs.Option.{option_or};
 
 use crate::answer::{RelayAnswer, Step};
 use crate::state::{Coming, Relay, answer};
 use mig_bytes::{Sink, Source, take_long, take_part, u32_le};
 use mig_headers::{Cause, Kind, Place};
-use mig_libxc::{meant, page_fault, type_in, words_of};
 use mig_records::{RecordHead, count_fault, data_len, words_fault};
+use mig_restore_form::{meant, page_fault, type_in, words_of};
 
 /// What is wrong with the words of a PAGE_DATA of so many bytes: a word, or the length that they ask for.
 fn list_fault(kind: Kind, top: u64, len: u32, words: &[u64]) -> Option<Cause>

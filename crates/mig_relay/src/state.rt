@@ -14,10 +14,10 @@ ghost use Rattle.mig_relay.specs.declared.answer.Step.TheVariants.{Done};
 use crate::answer::{RelayAnswer, Relayed, Step};
 use mig_bytes::{Sink, Source, Stop, WriteFailed, put_all};
 use mig_headers::{Cause, Kind, Place};
-use mig_libxc::RecordsSeen;
 use mig_libxl::RecordsBehind;
 use mig_pieces::BodySeen;
 use mig_records::RecordHead;
+use mig_restore_form::RecordsSeen;
 use std::alloc::Global;
 
 /// Which part comes next.

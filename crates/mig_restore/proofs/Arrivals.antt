@@ -6,13 +6,13 @@ use Rattle.mig_bytes.proofs.Placed.{placed_fine, placed_stops}
 use Rattle.mig_bytes.specs.Sequences.{sequence_at}
 use Rattle.mig_pvtables.specs.Blank.{blank}
 use Rattle.mig_restore.specs.declared.read.Reading.{Reading}
-use Rattle.mig_libxc.specs.Mean.{sent, differs_of}
-use Rattle.mig_libxc.specs.Judging.{next_at}
-use Rattle.mig_libxc.specs.Stream.{placed_next}
-use Rattle.mig_libxc.proofs.Compared.{IsUnchecked, next_placed, some_differs, unchecked_more}
+use Rattle.mig_restore_form.specs.Mean.{sent, differs_of}
+use Rattle.mig_restore_form.specs.Judging.{next_at}
+use Rattle.mig_restore_form.specs.Stream.{placed_next}
+use Rattle.mig_restore_form.proofs.Compared.{IsUnchecked, next_placed, some_differs, unchecked_more}
 use Rattle.mig_restore.proofs.Compared.{judged_too, differs_more}
-use Rattle.mig_libxc.proofs.Laws.{finds}
-use Rattle.mig_libxc.proofs.Meaning.{ended_more, one_more_record, meant_as_sent}
+use Rattle.mig_restore_form.proofs.Laws.{finds}
+use Rattle.mig_restore_form.proofs.Meaning.{ended_more, one_more_record, meant_as_sent}
 
 abbrev is_last : StreamRecord → Bool
 is_last r = nat_eq r.type 0

@@ -4,7 +4,7 @@ use Rattle.byteorder.specs.Endian.{big_bytes}
 use Rattle.mig_bytes.specs.Fields.{be64}
 use Rattle.mig_bytes.proofs.Joins.{part_whole}
 use Rattle.mig_headers.specs.Headers.{marker, behind_marker}
-use Rattle.mig_libxc.specs.Stream.{image_at, image_behind, opening_at, opening_behind}
+use Rattle.mig_restore_form.specs.Stream.{image_at, image_behind, opening_at, opening_behind}
 
 abbrev pub behind_opening : Opening × List ℕ → Judged (Place × Cause) ImageOf
 behind_opening opening = records_at opening.0 opening.1

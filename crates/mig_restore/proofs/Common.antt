@@ -19,14 +19,14 @@ pub use Rattle.mig_guest.specs.Tables.{IsWithin, entry}
 pub use Rattle.mig_guest.specs.declared.part_code.PartCode.{PartCode}
 pub use Rattle.mig_headers.specs.declared.kind.Kind.{Kind}
 pub use Rattle.mig_headers.specs.declared.record_type.RecordType.{RecordType}
-pub use Rattle.mig_libxc.specs.Judging.{Opening, before, body_at, code_of_type, entry_at, fault_of_level, fault_of_page, head_at, lists_of, opening_of, type_in_word, with_places}
-pub use Rattle.mig_libxc.specs.Mean.{Grows, IsBegun, agrees, checked_in, checked_of, differing, empty_guest, entries_in, meant_type, put_content, put_entries, put_entry, put_record}
-pub use Rattle.mig_libxc.specs.Record.{Content, FrameEntry, StreamRecord, is_ended, is_verified, placed_content, types_of}
-pub use Rattle.mig_libxc.specs.Record.Content.{Checks, Frames, Lists, Nothing, Sets}
-pub use Rattle.mig_libxc.specs.Seen.{IsSeen}
-pub use Rattle.mig_libxc.specs.Spelled.{Follows, IsGoodWord}
-pub use Rattle.mig_libxc.specs.Stream.{ImageOf, image_of, kind_at, marker_at, records_at, version_at}
-pub use Rattle.mig_libxc.specs.declared.head.RecordsSeen.{RecordsSeen}
+pub use Rattle.mig_restore_form.specs.Judging.{Opening, before, body_at, code_of_type, entry_at, fault_of_level, fault_of_page, head_at, lists_of, opening_of, type_in_word, with_places}
+pub use Rattle.mig_restore_form.specs.Mean.{Grows, IsBegun, agrees, checked_in, checked_of, differing, empty_guest, entries_in, meant_type, put_content, put_entries, put_entry, put_record}
+pub use Rattle.mig_restore_form.specs.Record.{Content, FrameEntry, StreamRecord, is_ended, is_verified, placed_content, types_of}
+pub use Rattle.mig_restore_form.specs.Record.Content.{Checks, Frames, Lists, Nothing, Sets}
+pub use Rattle.mig_restore_form.specs.Seen.{IsSeen}
+pub use Rattle.mig_restore_form.specs.Spelled.{Follows, IsGoodWord}
+pub use Rattle.mig_restore_form.specs.Stream.{ImageOf, image_of, kind_at, marker_at, records_at, version_at}
+pub use Rattle.mig_restore_form.specs.declared.head.RecordsSeen.{RecordsSeen}
 pub use Rattle.mig_pagetypes.specs.FrameWords.{word_has_data, word_pfn}
 pub use Rattle.mig_pagetypes.specs.Limits.{pfn_limit}
 pub use Rattle.mig_pagetypes.specs.PageTypes.{level_of}

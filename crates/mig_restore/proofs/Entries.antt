@@ -2,7 +2,7 @@
 use Rattle.mig_restore.proofs.Common.{◌≡◌, ℕ, List, Option, Some, None, Err, Ok, true, false, Bool, refl, ap, sym, subst, ◌∙◌, part, Gives, Passes, done, Cause, Truncated, Kind, GuestOf, PageType, level_of, word_pfn, word_has_data, FrameEntry, type_in_word, fault_of_level, fault_of_page, meant_type, entry_at, agrees}
 use Rattle.std.specs.FinMap as fin
 use Rattle.mig_bytes.specs.declared.stop.Stop.TheVariants.{Refused}
-use Rattle.mig_libxc.specs.Mean.{is_same_frame, some_frame}
+use Rattle.mig_restore_form.specs.Mean.{is_same_frame, some_frame}
 
 module _ {X : Type 0} (R : X → FrameEntry → Type 0) (kind : Kind) (top place : ℕ) where
   pub no_page : (a : Option (List ℕ)) (w : ℕ) (x : X) → word_has_data w ≡ false → R x (record { pfn = word_pfn w; type = type_in_word w; page = None }) → Gives R a a (entry_at kind top (place, w)) (Ok x)

@@ -14,17 +14,17 @@ ghost use Rattle.mig_records.specs.Shapes.{fault_of_body, parts_of_body, set_par
 ghost use Rattle.mig_records.specs.Faults.{fault_of_length};
 ghost use Rattle.mig_headers.specs.declared.kind.Kind.TheVariants.{Pv};
 ghost use Rattle.mig_restore.specs.Begun.{AreEntriesBegun, AreEntriesSet};
-ghost use Rattle.mig_libxc.specs.Mean.{put_entry, put_entries, put_content, Grows};
-ghost use Rattle.mig_libxc.specs.Judging.{sets_at, info_at, p2m_at, words_at, with_places, entry_at, list_at, pages_at, typed_at, body_at};
-ghost use Rattle.mig_libxc.specs.Record.Content.{Nothing};
-ghost use Rattle.mig_libxc.specs.Spelled.{IsGoodWord};
+ghost use Rattle.mig_restore_form.specs.Mean.{put_entry, put_entries, put_content, Grows};
+ghost use Rattle.mig_restore_form.specs.Judging.{sets_at, info_at, p2m_at, words_at, with_places, entry_at, list_at, pages_at, typed_at, body_at};
+ghost use Rattle.mig_restore_form.specs.Record.Content.{Nothing};
+ghost use Rattle.mig_restore_form.specs.Spelled.{IsGoodWord};
 
 use mig_bytes::{ReadFailed, Source, Stop, skip, take_long, take_part, u32_le};
 use mig_guest::{Guest, PartCode};
 use mig_headers::{Cause, Kind, RecordType, is_optional};
 use mig_hvm::{read_context, scan_context};
-use mig_libxc::{meant, page_fault, pfn_in, type_in, words_of};
 use mig_records::{RecordHead, body_fault, count_fault, data_len, p2m_fault, pv_info_fault, read_body, read_p2m, words_fault};
+use mig_restore_form::{meant, page_fault, pfn_in, type_in, words_of};
 use std::alloc::Global;
 
 /// Does nothing. That bytes are below 256 is what makes a guest that they are set in one of bytes.

@@ -7,17 +7,17 @@ ghost use Rattle.mig_headers.specs.RecordTypes.{record_row_of, type_of_number, m
 ghost use Rattle.mig_headers.specs.declared.record_type.RecordType.{RecordType};
 ghost use Rattle.mig_records.specs.Faults.{fault_of_length};
 ghost use Rattle.mig_restore.specs.Compared.{IsPut, differs_with};
-ghost use Rattle.mig_libxc.specs.Judging.{with_places, entry_at, pages_at, body_at};
-ghost use Rattle.mig_libxc.specs.Mean.{some_frame, is_same_page as same_page, is_same_frame as same_frame, agrees, differing, checked_in, Grows};
-ghost use Rattle.mig_libxc.specs.Record.{placed_content};
+ghost use Rattle.mig_restore_form.specs.Judging.{with_places, entry_at, pages_at, body_at};
+ghost use Rattle.mig_restore_form.specs.Mean.{some_frame, is_same_page as same_page, is_same_frame as same_frame, agrees, differing, checked_in, Grows};
+ghost use Rattle.mig_restore_form.specs.Record.{placed_content};
 
 use crate::body::{take_body, take_list};
 use mig_bytes::{Source, Stop, take_part};
 use mig_guest::Guest;
 use mig_headers::Cause;
-use mig_libxc::{meant, page_fault, pfn_in, type_in};
 use mig_pagetypes::PageType;
 use mig_records::RecordHead;
+use mig_restore_form::{meant, page_fault, pfn_in, type_in};
 use std::alloc::Global;
 
 /// The type of the records that carry frames.

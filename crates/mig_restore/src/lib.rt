@@ -1,7 +1,7 @@
 //! Reads the image of a guest from a stream (libxc migration stream).
 //!
 //! Responsible for: taking the headers and the records of an image, one after another, and the guest that they mean.
-//! Left to others: what an image is and means (mig_libxc), bytes and fields (mig_bytes), headers (mig_headers), record
+//! Left to others: what an image is and means (mig_restore_form), bytes and fields (mig_bytes), headers (mig_headers), record
 //! heads and PAGE_DATA words (mig_records), what bodies say (mig_records, mig_hvm), frames and parts (mig_guest), whole
 //! guests and blank forms (mig_pvtables).
 //!

@@ -9,12 +9,12 @@ ghost use Rattle.mig_records.specs.Faults.{fault_of_length};
 ghost use Rattle.mig_records.specs.Heads.{head_in};
 ghost use Rattle.mig_pvtables.specs.Faults.{fault_of_guest};
 ghost use Rattle.mig_pvtables.specs.Whole.{IsStreamedBare};
-ghost use Rattle.mig_libxc.specs.Mean.{sent, put_record, IsBegun, Grows};
+ghost use Rattle.mig_restore_form.specs.Mean.{sent, put_record, IsBegun, Grows};
 ghost use Rattle.mig_restore.specs.Compared.{differs_behind, IsWithinRecords};
-ghost use Rattle.mig_libxc.specs.Record.{StreamRecord, types_of, is_verified};
-ghost use Rattle.mig_libxc.specs.Judging.{Opening, Before, most_records, opening_of, head_at, record_at, next_at};
-ghost use Rattle.mig_libxc.specs.Seen.{IsSeen};
-ghost use Rattle.mig_libxc.specs.Stream.{image_at, image_behind, records_at, opening_at, opening_behind, marker_at, version_at, kind_at};
+ghost use Rattle.mig_restore_form.specs.Record.{StreamRecord, types_of, is_verified};
+ghost use Rattle.mig_restore_form.specs.Judging.{Opening, Before, most_records, opening_of, head_at, record_at, next_at};
+ghost use Rattle.mig_restore_form.specs.Seen.{IsSeen};
+ghost use Rattle.mig_restore_form.specs.Stream.{image_at, image_behind, records_at, opening_at, opening_behind, marker_at, version_at, kind_at};
 ghost use Rattle.mig_restore.specs.Reads.{ReadsImage, ReadsRest, IsReading};
 
 use crate::answer::StreamAnswer;
@@ -22,9 +22,9 @@ use crate::check::{counted, take_placed};
 use mig_bytes::{Source, Stop, answer_for, take_part};
 use mig_guest::Guest;
 use mig_headers::{Cause, DomainHeader, ImageHeader, Kind, Place};
-use mig_libxc::RecordsSeen;
 use mig_pvtables::{WholeAnswer, blank, whole};
 use mig_records::{RecordHead, take_head, take_padding};
+use mig_restore_form::RecordsSeen;
 use std::alloc::Global;
 
 /// The type of the record that ends an image.

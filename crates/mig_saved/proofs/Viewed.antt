@@ -16,7 +16,7 @@ use Rattle.mig_hosted.specs.View.{view, hvm_view, top_of}
 use Rattle.mig_hosted.proofs.HostViews.{hvm_viewed}
 use Rattle.mig_hosted.proofs.ViewedGuests.{viewed_whole}
 use Rattle.mig_canon.specs.Canon.{Frame}
-use Rattle.mig_libxc.specs.Spelled.{Accepted, IsComplete}
+use Rattle.mig_restore_form.specs.Spelled.{Accepted, IsComplete}
 use Rattle.mig_canon_laws.specs.Batched.{IsSendableBatch, TellFrames, frames_told, batched}
 use Rattle.mig_canon_laws.proofs.Batched.{batched_is_accepted}
 use Rattle.mig_wrap.specs.Canon.{bare_guest}

@@ -2,7 +2,7 @@ ghost use Rattle.std.specs.Prelude.{◌≡◌, ◌≤◌, ◌^◌, ℕ, List, �
 ghost use Rattle.mig_guest.specs.Hosts.{HostOf, IsValid};
 ghost use Rattle.mig_hosted.specs.Sound.{IsSound};
 ghost use Rattle.mig_hosted.specs.View.{view};
-ghost use Rattle.mig_libxc.specs.Spelled.{Accepted};
+ghost use Rattle.mig_restore_form.specs.Spelled.{Accepted};
 ghost use Rattle.mig_wrap.specs.Canon.{bare_guest};
 ghost use Rattle.mig_canon_laws.specs.Batched.{batched};
 ghost use Rattle.mig_records_pages.specs.Told.{FrameTold, telling_frames, all_told};

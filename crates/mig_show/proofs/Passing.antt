@@ -15,8 +15,8 @@ use Rattle.mig_pagetypes.specs.FrameWords.{word_has_data}
 use Rattle.mig_records.specs.Heads.{head_in}
 use Rattle.mig_records.specs.Words.{words}
 use Rattle.mig_records.specs.declared.head.RecordHead.{RecordHead}
-use Rattle.mig_libxc.specs.Judging.{Opening}
-use Rattle.mig_libxc.specs.Record.{StreamRecord}
+use Rattle.mig_restore_form.specs.Judging.{Opening}
+use Rattle.mig_restore_form.specs.Record.{StreamRecord}
 use Rattle.mig_relay.specs.Following.{Due, FillsBody, ComesNext, image_opens, wrapper_opens, wrapper_header, marker, version, kind, libxl_begins, libxl_whole, image_begins, pages_begin, image_whole, count, more, whole, ComesBehind, NothingDue, CountDue, WordsDue, bytes_behind_head, due, head_spot, in_hand, place_of_spot, to_come}
 use Rattle.mig_relay.specs.Keeping.{words_in_hand}
 use Rattle.mig_relay.specs.Parts.{Next, AtMarker, AtVersion, AtKind, AtHead, AtBody, AtFront, AtWords, AtPages, AtPadding}

@@ -13,7 +13,7 @@ use Rattle.mig_records.specs.declared.head.RecordHead.{RecordHead}
 use Rattle.mig_relay.specs.Following.{ComesBehind, libxl_next, libxl_context, libxl_end, image_next, image_end, inner_end, Due, NothingDue, CountDue, WordsDue, bytes_behind_head, due, head_spot, in_hand, place_of_spot, to_come}
 use Rattle.mig_relay.specs.Parts.{Next, AtMarker, AtVersion, AtKind, AtHead, AtBody, AtFront, AtWords, AtPages, AtPadding}
 use Rattle.mig_libxl.specs.Among.{image_among, image_in}
-use Rattle.mig_libxc.specs.Stream.{ImageOf}
+use Rattle.mig_restore_form.specs.Stream.{ImageOf}
 use Rattle.mig_relay.specs.Spots.{Outer, Alone, Behind, Spot, AtStart, AtLibxlHeader, AtLibxlHead, AtLibxlBody, AtLibxlPadding, InImage, AtEnd, begins_with_ident, image_record as record_of_image}
 use Rattle.mig_relay.proofs.Kept.{among_same}
 use Rattle.mig_show.specs.Fronts.{ShownFront, HasWords, StandsWhole, StandsBefore, of_form, with_shown, libxl_number, libxl_record, libxl_context as context_stands, libxl_end as libxl_stands, image_record, image_end as image_stands}

@@ -5,9 +5,9 @@ ghost use Rattle.mig_show.specs.Seeing.{begun_record, counted_record, with_step,
 
 use crate::record::ShownRecord;
 use mig_headers::Kind;
-use mig_libxc::type_in;
 use mig_records::RecordHead;
 use mig_relay::Step;
+use mig_restore_form::type_in;
 use std::alloc::{AllocError, Global};
 use std::marker::Model;
 

@@ -12,9 +12,9 @@ use Rattle.mig_bytes.specs.Sequences.Spells.{no_part, one_more}
 use Rattle.byteorder.specs.Numbers.{big_from-append}
 use Rattle.mig_headers.specs.Headers.{marker}
 use Rattle.mig_records.specs.Records.{IsRecord}
-use Rattle.mig_libxc.specs.Record.{StreamRecord, types_of, is_ended}
-use Rattle.mig_libxc.specs.Judging.{Opening}
-use Rattle.mig_libxc.specs.Spelled.{Follows, IsImage}
+use Rattle.mig_restore_form.specs.Record.{StreamRecord, types_of, is_ended}
+use Rattle.mig_restore_form.specs.Judging.{Opening}
+use Rattle.mig_restore_form.specs.Spelled.{Follows, IsImage}
 use Rattle.mig_unended.specs.Unended.{IsUnendedImage, IsUnclosedImage}
 use Rattle.mig_unended.proofs.Fronts.{AreTyped, HaveNoZero, typed_more, no_end_in_front, no_zero, ends_together, same_cut}
 

@@ -10,8 +10,8 @@ use Rattle.mig_bytes.specs.Sequences.{Spells}
 use Rattle.mig_bytes.specs.Sequences.Spells.{no_part, one_more}
 use Rattle.mig_headers.specs.Headers.{marker, libxl_ident}
 use Rattle.mig_records.specs.Records.{IsRecord}
-use Rattle.mig_libxc.specs.Spelled.{IsImage}
-use Rattle.mig_libxc.specs.Stream.{ImageOf}
+use Rattle.mig_restore_form.specs.Spelled.{IsImage}
+use Rattle.mig_restore_form.specs.Stream.{ImageOf}
 use Rattle.mig_emulators.specs.Content.{LibxlRecord}
 use Rattle.mig_libxl.specs.Among.{is_libxl_ended, image_in, image_among}
 use Rattle.mig_libxl.specs.Spelled.{IsLibxlRecord, FollowsLibxl, IsWrapped, IsStream}

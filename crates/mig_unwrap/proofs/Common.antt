@@ -20,7 +20,7 @@ pub use Rattle.mig_libxl.specs.Stream.StreamOf.{Bare, Wrapped}
 pub use Rattle.mig_policy.specs.PairFaults.{pairs_fault}
 pub use Rattle.mig_policy.specs.PairMaps.{put_pairs, text_of_map}
 pub use Rattle.mig_pvtables.specs.Whole.{IsStreamedBare}
-pub use Rattle.mig_libxc.specs.Stream.{ImageOf}
+pub use Rattle.mig_restore_form.specs.Stream.{ImageOf}
 pub use Rattle.mig_restore.specs.declared.read.Reading.{Reading}
 pub use Rattle.mig_unwrap.specs.Seen.{Holds, IsLibxlSeen}
 pub use Rattle.mig_unwrap.specs.declared.read.WrapperSeen.{WrapperSeen}

@@ -11,7 +11,7 @@ use Rattle.mig_headers.proofs.HeaderLaws.{marker_of}
 use Rattle.mig_headers.specs.Headers.{libxl_ident, fault_of_marker}
 use Rattle.mig_headers.specs.declared.fault.Place.TheVariants.{ImageHeader}
 use Rattle.mig_restore.proofs.Behind.{behind_is}
-use Rattle.mig_libxc.specs.Stream.{image_at, image_behind, marker_at, opening_at}
+use Rattle.mig_restore_form.specs.Stream.{image_at, image_behind, marker_at, opening_at}
 use Rattle.mig_restore.specs.Reads.{IsReading as IsImageReading}
 use Rattle.mig_libxl.specs.Stream.{StreamOf, wrapped_at, stream_at}
 use Rattle.mig_unwrap.specs.Reads.{IsStreamReading}

@@ -8,7 +8,7 @@ use Rattle.mig_bytes.specs.Fields.{le32}
 use Rattle.mig_bytes.specs.Judged.{Gives}
 use Rattle.mig_headers.specs.declared.fault.Cause.TheVariants.{BadEmulator, TooManyPairs, EmulatorIndex}
 use Rattle.mig_policy.specs.PairMaps.{pairs_in}
-use Rattle.mig_libxc.specs.Stream.{image_at}
+use Rattle.mig_restore_form.specs.Stream.{image_at}
 use Rattle.mig_restore.specs.Reads.{IsReading as IsImageReading}
 use Rattle.mig_emulators.specs.Emulators.{most_pairs, spelled_with}
 use Rattle.mig_libxl.specs.Judging.{fault_of_pairs, fault_of_context, inner_at}

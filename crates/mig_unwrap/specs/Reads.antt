@@ -5,8 +5,8 @@ use Rattle.mig_bytes.specs.Judged.{Gives}
 use Rattle.mig_bytes.specs.declared.answer.Answer.{Answer}
 use Rattle.mig_headers.specs.declared.fault.Cause.{Cause}
 use Rattle.mig_headers.specs.declared.fault.Place.{Place}
-use Rattle.mig_libxc.specs.Mean.{differs_of}
-use Rattle.mig_libxc.specs.Stream.{ImageOf}
+use Rattle.mig_restore_form.specs.Mean.{differs_of}
+use Rattle.mig_restore_form.specs.Stream.{ImageOf}
 use Rattle.mig_restore.specs.declared.read.Reading.{Reading}
 use Rattle.mig_libxl.specs.Stream.{StreamOf, image_of_stream, guest_of, stream_at}
 

@@ -8,7 +8,7 @@ ghost use Rattle.mig_headers.specs.RecordTypes.{most_body};
 ghost use Rattle.mig_headers.specs.declared.fault.Cause.TheVariants.{Truncated};
 ghost use Rattle.mig_pvtables.specs.Whole.{IsStreamed};
 ghost use Rattle.mig_records.specs.Heads.{head_in};
-ghost use Rattle.mig_libxc.specs.Judging.{most_records};
+ghost use Rattle.mig_restore_form.specs.Judging.{most_records};
 ghost use Rattle.mig_emulators.specs.Content.{LibxlRecord};
 ghost use Rattle.mig_libxl.specs.Behind.{AreBehind, MayFollow};
 ghost use Rattle.mig_unwrap.specs.Seen.{behind_of};

@@ -5,10 +5,10 @@ use Rattle.mig_headers.specs.Headers.{libxl_header_of}
 use Rattle.mig_headers.proofs.LibxlHeaders.{libxl_is_read_back}
 use Rattle.mig_records.specs.Records.{spelled}
 use Rattle.mig_canon.specs.Canon.{canon}
-use Rattle.mig_libxc.proofs.Meaning.{mean_kind}
-use Rattle.mig_libxc.specs.Mean.{mean}
-use Rattle.mig_libxc.specs.Spelled.{Accepted as ImageAccepted}
-use Rattle.mig_libxc.specs.Stream.{image_of}
+use Rattle.mig_restore_form.proofs.Meaning.{mean_kind}
+use Rattle.mig_restore_form.specs.Mean.{mean}
+use Rattle.mig_restore_form.specs.Spelled.{Accepted as ImageAccepted}
+use Rattle.mig_restore_form.specs.Stream.{image_of}
 use Rattle.mig_libxl.specs.Carried.{IsCarried}
 use Rattle.mig_wrap.specs.Canon.{canon_any, emulators_in_order, wrapper_opening, wrapper_closing}
 use Rattle.mig_emulators.specs.Content.LibxlContent.{Nothing}

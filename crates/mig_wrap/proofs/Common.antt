@@ -33,8 +33,8 @@ pub use Rattle.mig_policy.proofs.KeyLaws.{pairs_are_read}
 pub use Rattle.mig_policy.proofs.PairMapLaws.{some_bytes_are_some_pairs}
 pub use Rattle.mig_policy.specs.PairMaps.{put_pairs, text_of_map}
 pub use Rattle.mig_pvtables.specs.Whole.{IsStreamedBare, IsWhole}
-pub use Rattle.mig_libxc.specs.Spelled.{IsImage}
-pub use Rattle.mig_libxc.specs.Stream.{ImageOf}
+pub use Rattle.mig_restore_form.specs.Spelled.{IsImage}
+pub use Rattle.mig_restore_form.specs.Stream.{ImageOf}
 pub use Rattle.mig_wrap.specs.Canon.{bare_guest, has_emulators, is_of_converter, text_of_emulators}
 pub use Rattle.std.proofs.Common.{Bool, List, None, Option, Some, [], ap, append-nil, append_assoc, arith, cond, false, inl, inr, length, length-append, map, nat_eq, nat_le, nat_lt, not, refl, replicate, rules, subst, sym, true, ℕ, ◌*◌, ◌++◌, ◌+◌, ◌-◌, ◌<◌, ◌^◌, ◌↔◌, ◌∙◌, ◌∷◌, ◌≡◌, ◌≢◌, ◌≤◌}
 pub use Rattle.std.proofs.lemmas.Bool.{and_parts, eq-eqb, eqb-true, leb-true, or_cases}

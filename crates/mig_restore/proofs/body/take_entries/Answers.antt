@@ -3,9 +3,9 @@ use Rattle.std.proofs.lemmas.List.Elements.{All-get_or}
 use Rattle.std.proofs.lemmas.List.{take_all}
 use Rattle.mig_bytes.specs.Judged.{each}
 use Rattle.mig_restore.proofs.Begun.{none_set, one_more_set, set_so_far}
-use Rattle.mig_libxc.proofs.Growth.{grows_not, grows_on}
-use Rattle.mig_libxc.proofs.Meaning.{one_more_entry}
-use Rattle.mig_libxc.proofs.Batches.{places_len, entry_here, place_within}
+use Rattle.mig_restore_form.proofs.Growth.{grows_not, grows_on}
+use Rattle.mig_restore_form.proofs.Meaning.{one_more_entry}
+use Rattle.mig_restore_form.proofs.Batches.{places_len, entry_here, place_within}
 use Rattle.mig_restore.proofs.body.take_entries.Goals as goal
 
 pub loop-place-init : goal.loop-place-init

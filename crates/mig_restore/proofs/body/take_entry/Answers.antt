@@ -1,8 +1,8 @@
 use Rattle.mig_restore.proofs.Common.{◌≡◌, ◌<◌, pfn_limit, IsInside, IsWithin, entry, Some, None, length, ap, sym, subst, ◌∙◌, rules, AreBytes, none-some, same_Some, level_of, fault_of_level}
 use Rattle.mig_restore.proofs.Begun.{one_set}
-use Rattle.mig_libxc.proofs.Growth.{word_inside, grows_frame}
-use Rattle.mig_libxc.proofs.Meaning.{entry_set}
-use Rattle.mig_libxc.proofs.Batches.{carries, level_within}
+use Rattle.mig_restore_form.proofs.Growth.{word_inside, grows_frame}
+use Rattle.mig_restore_form.proofs.Meaning.{entry_set}
+use Rattle.mig_restore_form.proofs.Batches.{carries, level_within}
 use Rattle.mig_restore.proofs.Entries.{no_page, with_page, bad_page, judged}
 use Rattle.mig_restore.proofs.body.take_entry.Goals as goal
 

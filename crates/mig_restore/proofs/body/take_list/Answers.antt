@@ -1,5 +1,5 @@
 use Rattle.mig_restore.proofs.Common.{◌≡◌, rules, Some, None, fault_of_count, fault_of_words}
-use Rattle.mig_libxc.proofs.Batches.{words_refused}
+use Rattle.mig_restore_form.proofs.Batches.{words_refused}
 use Rattle.mig_restore.proofs.body.take_list.Goals as goal
 
 pub returns-in-Some-words_fault-clause-read : goal.returns-in-Some-words_fault-clause-read

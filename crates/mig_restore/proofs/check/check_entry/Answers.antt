@@ -1,5 +1,5 @@
 use Rattle.mig_restore.proofs.Common.{Some, None, ◌∙◌, rules}
-use Rattle.mig_libxc.proofs.Batches.{carries}
+use Rattle.mig_restore_form.proofs.Batches.{carries}
 use Rattle.mig_restore.proofs.Entries.{no_page, with_page, bad_page, judged, compared}
 use Rattle.mig_restore.proofs.check.check_entry.Goals as goal
 

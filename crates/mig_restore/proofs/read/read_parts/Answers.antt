@@ -1,5 +1,5 @@
 use Rattle.mig_restore.proofs.Common.{ℕ, List, refl, sym, subst, rules, Judged, Gives, then_reads, stopped, Cause, Place, Opening, ImageOf, records_at, IsReading}
-use Rattle.mig_libxc.specs.Stream.{image_at, opening_at}
+use Rattle.mig_restore_form.specs.Stream.{image_at, opening_at}
 use Rattle.mig_restore.proofs.read.read_parts.Goals as goal
 
 behind_opening : Opening × List ℕ → Judged (Place × Cause) ImageOf

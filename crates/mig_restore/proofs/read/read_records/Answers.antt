@@ -5,7 +5,7 @@ use Rattle.mig_restore.proofs.Arrivals.{state, arrived_first, arrived_next, arri
 use Rattle.mig_pvtables.proofs.BlankAgain.{blank_again}
 use Rattle.mig_pvtables.proofs.BlankBytesKept.{blank_bytes}
 use Rattle.mig_pvtables.proofs.BlankWhole.{whole_blank, blank_plain}
-use Rattle.mig_libxc.proofs.Growth.{empty_begun}
+use Rattle.mig_restore_form.proofs.Growth.{empty_begun}
 use Rattle.mig_restore.proofs.read.read_records.Goals as goal
 
 pub records-init : goal.records-init

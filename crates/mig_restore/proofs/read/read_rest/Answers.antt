@@ -1,5 +1,5 @@
 use Rattle.mig_restore.proofs.Common.{sym, subst, rules, Gives, then_reads, stopped, Opening, records_at, IsReading}
-use Rattle.mig_libxc.specs.Stream.{opening_behind, image_behind}
+use Rattle.mig_restore_form.specs.Stream.{opening_behind, image_behind}
 use Rattle.mig_restore.proofs.Behind.{behind_opening, behind_is}
 use Rattle.mig_restore.proofs.read.read_rest.Goals as goal
 

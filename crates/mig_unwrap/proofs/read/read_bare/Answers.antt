@@ -1,7 +1,7 @@
 use Rattle.mig_unwrap.proofs.Common.{◌++◌, sym, ◌∙◌, Passes, mapped, stopped, bare_at, Bare}
 use Rattle.mig_bytes.specs.Answers.{stop_of}
 use Rattle.mig_bytes.proofs.Joins.{refused}
-use Rattle.mig_libxc.specs.Stream.{image_behind}
+use Rattle.mig_restore_form.specs.Stream.{image_behind}
 use Rattle.mig_unwrap.proofs.Forms.{bare_is, bare_refused, bare_reading}
 use Rattle.mig_unwrap.proofs.read.read_bare.Goals as goal
 

@@ -3,7 +3,7 @@ use Rattle.std.proofs.lemmas.Grind.{common_steps}
 use Rattle.mig_headers.specs.declared.fault.Place.TheVariants.{Record}
 use Rattle.mig_pieces.specs.Begun.{IsBegunBody}
 use Rattle.mig_pieces.specs.Bodies.{fault_of_record_body, record_content}
-use Rattle.mig_libxc.specs.Judging.{before}
+use Rattle.mig_restore_form.specs.Judging.{before}
 use Rattle.mig_relay.specs.Keeping.{top_with}
 use Rattle.mig_relay.specs.Following.{more}
 use Rattle.mig_relay.specs.Parts.{AtBody}

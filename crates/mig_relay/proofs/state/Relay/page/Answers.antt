@@ -1,8 +1,8 @@
 use Rattle.std.proofs.Common.{◌≡◌, ◌≤◌, ◌+◌, ◌^◌, ◌∷◌, ◌++◌, Some, length, length-append, arith, refl, sym, [], ap, ◌∙◌}
 use Rattle.std.proofs.lemmas.List.{get_or_read}
 use Rattle.mig_headers.specs.declared.fault.Place.TheVariants.{Record}
-use Rattle.mig_libxc.specs.Judging.{before, type_in_word}
-use Rattle.mig_libxc.specs.Mean.{meant_type}
+use Rattle.mig_restore_form.specs.Judging.{before, type_in_word}
+use Rattle.mig_restore_form.specs.Mean.{meant_type}
 use Rattle.mig_relay.specs.Parts.{AtPages, entry_of_word}
 use Rattle.mig_relay.specs.Spots.{InImage, spot}
 use Rattle.mig_relay.specs.Steps.{answer_of}

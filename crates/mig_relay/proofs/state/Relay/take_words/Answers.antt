@@ -3,7 +3,7 @@ use Rattle.std.specs.Io.KnownBytes.{Appends}
 use Rattle.mig_bytes.specs.Bytes.{AppendsPart}
 use Rattle.mig_headers.specs.declared.fault.Place.TheVariants.{Record}
 use Rattle.mig_records.specs.Words.{words}
-use Rattle.mig_libxc.specs.Judging.{before, with_places}
+use Rattle.mig_restore_form.specs.Judging.{before, with_places}
 use Rattle.mig_relay.specs.Parts.{AtPages, AtWords}
 use Rattle.mig_relay.specs.Spots.{InImage, spot}
 use Rattle.mig_relay.specs.Steps.{answer_of, counted}

@@ -1,5 +1,0 @@
-use Rattle.mig_libxc.proofs.AcceptedWhole.{accepted_whole}
-use Rattle.mig_libxc.proofs.law.accepted_is_whole.Goals as goal
-
-pub returns : goal.returns
-returns c = accepted_whole

@@ -1,5 +1,0 @@
-use Rattle.mig_libxc.proofs.Converse as lemmas
-use Rattle.mig_libxc.proofs.law.accepted_or_refused.Goals as goal
-
-pub returns : goal.returns
-returns c = lemmas.accepted_or_refused

@@ -1,5 +1,0 @@
-use Rattle.mig_libxc.proofs.VerifyLaws as lemmas
-use Rattle.mig_libxc.proofs.law.entries_behind_verify_are_counted.Goals as goal
-
-pub returns : goal.returns
-returns c = lemmas.behind_are_counted

@@ -1,5 +1,0 @@
-use Rattle.mig_libxc.proofs.Listings as lemmas
-use Rattle.mig_libxc.proofs.law.last_listing_decides.Goals as goal
-
-pub returns : goal.returns
-returns c = lemmas.last_listing_is

@@ -1,5 +1,0 @@
-use Rattle.mig_libxc.proofs.VerifyLaws.{sent_or_compared}
-use Rattle.mig_libxc.proofs.law.page_data_is_sent_or_compared.Goals as goal
-
-pub returns : goal.returns
-returns c = sent_or_compared

@@ -1,5 +1,0 @@
-use Rattle.mig_libxc.proofs.VerifyLaws as lemmas
-use Rattle.mig_libxc.proofs.law.verify_parts_entries.Goals as goal
-
-pub returns : goal.returns
-returns c = lemmas.parts_entries
