@@ -4,3 +4,14 @@ pub mod Wholes
 pub mod Spelling
 pub mod Batches
 pub mod PvRecords
+pub mod LawsCommon
+pub mod CanonMaps
+pub mod CanonParts
+pub mod CanonOnce
+pub mod PvSays
+pub mod PvMaps
+pub mod CanonFrames
+pub mod CanonSteps
+pub mod CanonStages
+pub mod Canons
+pub mod Batched

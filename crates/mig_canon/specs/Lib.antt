@@ -1,2 +1,4 @@
 pub mod Canon
 pub mod Pieces
+pub mod Bare
+pub mod Batched

@@ -1,23 +1,34 @@
-//! Writes a guest as its canonical stream (libxc migration stream, version 3).
+//! The canonical stream of a guest (libxc migration stream, version 3; libxl migration stream): what it is, its image
+//! written, and the laws of the image.
 //!
-//! Responsible for: the order of the records of a canonical stream; frames in batches of 1024; and the parts of each code,
-//! written by its shape with everything that a reader ignores zero. It leaves to others the shapes (mig_records), whether a
-//! guest can be written (`IsWhole` of mig_pvtables), what the stream means to a reader, and the wrapper.
+//! Responsible for: the order of the records of a canonical stream; frames in batches of 1024; the parts of each code,
+//! written by its shape with everything that a reader ignores zero; as definitions, what stands around the image where a
+//! guest has emulators; and that the records of a guest, one after another in their canonical order, may each stand where
+//! they stand and say the guest's parts and frames. Left to others: the bytes of PAGE_DATA records (mig_records_pages), the
+//! shapes of bodies (mig_records), whether a guest can be written (`IsWhole` of mig_pvtables), what an image is
+//! (mig_restore_form), and what is written around the image (mig_libxl).
 //!
-//! What the layers above rely on: for a whole guest the bytes that are appended are exactly `canon` of specs/Canon,
-//! and after a failed write a part of them that isn't all; a failure is answered only where the count of the sink rose.
-//! It takes no memory. A writer of frames that come from elsewhere takes the pieces: `write_headers` appends the headers
-//! alone; `write_codes` the records of the parts of some codes, of a guest that need only be well formed; `write_info`,
-//! `write_p2m_frames` and `write_vcpus` what a PV guest alone has, of one that need only be well formed too; `write_count` the
-//! front of a PAGE_DATA record; `pages_with` counts a frame's pages, and `put_page` puts them into a buffer.
+//! What the layers above rely on: for a whole guest the bytes that are appended are exactly `canon` of specs/Canon, and
+//! after a failed write a part of them that isn't all; a failure is answered only where the count of the sink rose; and the
+//! canonical image of a bare guest is accepted with this guest, whatever follows it, and so is one with its frames in other
+//! records. It takes no memory. A writer of frames that come from elsewhere takes the pieces: `write_headers` appends the
+//! headers alone; `write_codes` the records of the parts of some codes, of a guest that need only be well formed;
+//! `write_info`, `write_p2m_frames` and `write_vcpus` what a PV guest alone has.
+//!
+//! The steps of these proofs serve for any image with a canonical front: `State` of proofs/CanonSteps says that so many
+//! records are accepted and what they mean, `more` and the lemmas behind it that with the next ones they still are;
+//! proofs/CanonStages which record may be next, proofs/Canons what is said at each stage from the headers to END, and
+//! `batches_more` of proofs/Batched that frames may come in any records.
 #![tactic(auto)]
 
 mod frames;
+mod law;
 mod parts;
 mod pv;
 mod writer;
 
 pub use frames::{no_pages, no_words, pages_with, put_page};
+pub use law::{canonical_image_is_accepted, frames_may_come_in_any_records};
 pub use parts::write_count;
 pub use pv::{write_info, write_p2m_frames, write_vcpus};
 pub use writer::{write_canon, write_codes, write_headers};

@@ -15,7 +15,7 @@ use Rattle.mig_guest.specs.declared.part_key.PartKey.{PartKey}
 use Rattle.std.specs.FinMap as maps
 use Rattle.mig_canon.specs.Canon.{Record, headers, info_records, static_bodies, p2m_records, last_records, text_of}
 use Rattle.mig_canon.proofs.Spelling.{text_join}
-use Rattle.mig_canon_laws.specs.Batched.{batch_records, batched}
+use Rattle.mig_canon.specs.Batched.{batch_records, batched}
 use Rattle.mig_hosted.specs.Sound.{unsoundness}
 use Rattle.mig_hosted.specs.View.{view, top_of}
 use Rattle.mig_hosted.proofs.SoundRows.{sound_is_faultless}

@@ -29,8 +29,8 @@ use Rattle.mig_canon.specs.Canon.{Frame, Record, batch, batches, page_in, pages_
 use Rattle.mig_canon.proofs.Batches.{words_len}
 use Rattle.mig_canon.proofs.PvRecords.{vcpus_end}
 use Rattle.mig_canon.proofs.Spelling.{spelled_flat, text_one, text_join, canon_is}
-use Rattle.mig_canon_laws.proofs.CanonFrames.{body_len, take_more, all_taken}
-use Rattle.mig_canon_laws.proofs.PvMaps.{vcpus_more}
+use Rattle.mig_canon.proofs.CanonFrames.{body_len, take_more, all_taken}
+use Rattle.mig_canon.proofs.PvMaps.{vcpus_more}
 use Rattle.mig_wrap.specs.Canon.{is_of_converter, opening_text, text_of_emulators, emulators_in_order, wrapper_opening, wrapper_closing, canon_any}
 
 -- ---- headers and records

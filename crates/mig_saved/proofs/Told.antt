@@ -20,7 +20,7 @@ use Rattle.mig_hosted.specs.View.{top_of}
 use Rattle.mig_hosted.proofs.ViewedFrames.{not_absent, inside_is}
 use Rattle.mig_canon.specs.Canon.{Frame}
 use Rattle.mig_restore_form.specs.Mean.{meant_type, put_entry, put_entries}
-use Rattle.mig_canon_laws.specs.Batched.{IsSendable, IsSendableBatch, told, frames_told}
+use Rattle.mig_canon.specs.Batched.{IsSendable, IsSendableBatch, told, frames_told}
 use Rattle.mig_records_pages.specs.Told.{FrameTold, frame_or_xtab, telling_frame, telling_frames, all_told}
 use Rattle.mig_records_pages.specs.Batches.{AreSized}
 use Rattle.mig_rounds.specs.Findings.{IsToldFrame}

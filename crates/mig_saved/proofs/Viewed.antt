@@ -17,8 +17,8 @@ use Rattle.mig_hosted.proofs.HostViews.{hvm_viewed}
 use Rattle.mig_hosted.proofs.ViewedGuests.{viewed_whole}
 use Rattle.mig_canon.specs.Canon.{Frame}
 use Rattle.mig_restore_form.specs.Spelled.{Accepted, IsComplete}
-use Rattle.mig_canon_laws.specs.Batched.{IsSendableBatch, TellFrames, frames_told, batched}
-use Rattle.mig_canon_laws.proofs.Batched.{batched_is_accepted}
+use Rattle.mig_canon.specs.Batched.{IsSendableBatch, TellFrames, frames_told, batched}
+use Rattle.mig_canon.proofs.Batched.{batched_is_accepted}
 use Rattle.mig_wrap.specs.Canon.{bare_guest}
 use Rattle.mig_wrap.proofs.Canon.{bare_is, bare_plain, bare_whole, batched_bare}
 use Rattle.mig_records_pages.specs.Told.{FrameTold, telling_frames, all_told}

@@ -4,7 +4,7 @@ ghost use Rattle.mig_hosted.specs.Sound.{IsSound};
 ghost use Rattle.mig_hosted.specs.View.{view};
 ghost use Rattle.mig_restore_form.specs.Spelled.{Accepted};
 ghost use Rattle.mig_wrap.specs.Canon.{bare_guest};
-ghost use Rattle.mig_canon_laws.specs.Batched.{batched};
+ghost use Rattle.mig_canon.specs.Batched.{batched};
 ghost use Rattle.mig_records_pages.specs.Told.{FrameTold, telling_frames, all_told};
 ghost use Rattle.mig_records_pages.specs.Batches.{AreSized};
 ghost use Rattle.mig_rounds.specs.Entries.{meant, AreTold};

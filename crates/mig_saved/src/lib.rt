@@ -3,7 +3,7 @@
 //! Responsible for: that the records of frames which a saver sent, between the other records of a canonical image, make an
 //! image that is accepted, and that its guest is what the host is seen as. It has no code of its own. Left to others: the
 //! saver and what it sends (mig_rounds), what a host is seen as (mig_hosted), that frames may come in any records
-//! (mig_canon_laws), and who writes the records around the frames.
+//! (mig_canon), and who writes the records around the frames.
 //!
 //! What the layers above rely on: where the host is valid and sound, and the entries sent mean its frames, the records sent,
 //! between the other records of the canonical image of the host's view, make an image whose guest is this view without the

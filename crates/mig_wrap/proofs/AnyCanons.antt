@@ -18,11 +18,11 @@ use Rattle.mig_libxl.specs.Spelled.HasLibxlContent.{ends}
 use Rattle.mig_libxl.specs.Spelled.IsLibxlRecord.{image as an_image, body as a_body}
 use Rattle.mig_libxl.proofs.Among.{emulators_more, among_more, ended_more}
 use Rattle.mig_wrap.proofs.Canon.{bare_is, bare_plain, bare_whole, canon_bare, plain_is, pv_plain}
-use Rattle.mig_canon_laws.proofs.Batched.{canon_is_accepted as image_is_accepted}
+use Rattle.mig_canon.proofs.Batched.{canon_is_accepted as image_is_accepted}
 use Rattle.mig_emulators.proofs.EmulatorGuests.{none_set}
 use Rattle.mig_wrap.proofs.EmulatorParts.{few_emulators, in_order_differ, in_order_holds}
 use Rattle.mig_wrap.proofs.EmulatorRecords.{record_of_part}
-use Rattle.mig_canon_laws.proofs.CanonParts.{is_record}
+use Rattle.mig_canon.proofs.CanonParts.{is_record}
 use Rattle.mig_wrap.proofs.EmulatorMaps.{said_of, said_is, guest_again}
 use Rattle.mig_wrap.proofs.Around.{canon_any_is, opening_none, opening_some, closing_none, closing_some}
 use Rattle.mig_libxl.proofs.Laws.{one_front}

@@ -8,8 +8,8 @@ use Rattle.mig_guest.proofs.Counts.{same_parts}
 use Rattle.mig_canon.proofs.Common.{bodies_by_shape, shape_of}
 use Rattle.mig_pvtables.specs.Blank.{blank, blank_of, IsOfBytes}
 use Rattle.mig_canon.specs.Canon.{Frame, all_vcpus, canon}
-use Rattle.mig_canon_laws.specs.Batched.{batch_records, batched}
-use Rattle.mig_canon_laws.proofs.CanonMaps.{nothing}
+use Rattle.mig_canon.specs.Batched.{batch_records, batched}
+use Rattle.mig_canon.proofs.CanonMaps.{nothing}
 use Rattle.mig_emulators.proofs.EmulatorGuests.{plain_policy, hvm_faultless}
 
 -- what is false of all entries is false of one that is found

@@ -5,7 +5,7 @@ pub use Rattle.mig_bytes.specs.Bytes.{padding_len}
 pub use Rattle.mig_bytes.specs.Sequences.{Spells}
 pub use Rattle.mig_bytes.specs.Sequences.Spells.{no_part, one_more}
 pub use Rattle.mig_canon.specs.Canon.{batches, bodies_of, frame_bodies, frames_in, headers, info_records, key_of, last_codes, last_records, p2m_record, p2m_records, part_record, pv_last_codes, records_in_order, records_of, records_of_vcpu, static_bodies, static_codes, text_of, vcpu_codes, vcpu_record, vcpus_below}
-pub use Rattle.mig_canon_laws.specs.Bare.{IsBare}
+pub use Rattle.mig_canon.specs.Bare.{IsBare}
 pub use Rattle.mig_emulators.specs.Content.{LibxlContent, LibxlRecord}
 pub use Rattle.mig_emulators.specs.Content.LibxlContent.{Context, Image, Pairs}
 pub use Rattle.mig_emulators.specs.Emulators.{EmulatorsOf, add_pairs, no_emulators, put_libxl_content, store_at, with_emulators}

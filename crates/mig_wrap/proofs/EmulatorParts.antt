@@ -14,7 +14,7 @@ use Rattle.mig_guest.proofs.Counts.{same_parts}
 use Rattle.mig_guest.proofs.Found.{all_found}
 use Rattle.mig_guest.proofs.PartCursor.{both_of, less, true_of}
 use Rattle.mig_canon.proofs.Wholes.{code_next}
-use Rattle.mig_canon_laws.proofs.CanonMaps.{found_holds, mixed}
+use Rattle.mig_canon.proofs.CanonMaps.{found_holds, mixed}
 use Rattle.mig_wrap.specs.Canon.{AreEmulatorsInOrder, NextEmulator, emulator_cmp, emulators_after, emulators_in_order, in_emulator_order}
 
 -- ---- the order

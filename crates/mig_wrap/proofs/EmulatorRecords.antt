@@ -13,7 +13,7 @@ use Rattle.mig_libxl.specs.Spelled.HasLibxlContent.{pairs as says_pairs, context
 use Rattle.mig_libxl.specs.Spelled.IsLibxlRecord.{body as a_body}
 use Rattle.mig_wrap.proofs.EmulatorParts.{IsEmulatorPart, small}
 use Rattle.mig_wrap.proofs.EmulatorTexts.{key_front, short_emulator}
-use Rattle.mig_canon_laws.proofs.CanonParts.{is_record}
+use Rattle.mig_canon.proofs.CanonParts.{is_record}
 
 -- ---- what a part's record says
 

@@ -4,8 +4,8 @@ ghost use Rattle.mig_guest.specs.Formed.{IsFormed, HasNoEmulators};
 ghost use Rattle.mig_pvtables.specs.Blank.{blank};
 ghost use Rattle.mig_canon.specs.Canon.{Frame, canon};
 ghost use Rattle.mig_restore_form.specs.Spelled.{Accepted, IsComplete};
-ghost use Rattle.mig_canon_laws.specs.Bare.{IsBare};
-ghost use Rattle.mig_canon_laws.specs.Batched.{TellFrames, batched};
+ghost use Rattle.mig_canon.specs.Bare.{IsBare};
+ghost use Rattle.mig_canon.specs.Batched.{TellFrames, batched};
 
 /// The canonical image of a bare guest is an accepted image with this guest, whatever follows it.
 #[tactic(auto, using(crate::proofs::Batched::canon_is_accepted))]

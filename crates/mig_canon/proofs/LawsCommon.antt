@@ -6,7 +6,7 @@ pub use Rattle.mig_bytes.specs.Bytes.{padding_len}
 pub use Rattle.mig_bytes.specs.Sequences.{Spells}
 pub use Rattle.mig_bytes.specs.Sequences.Spells.{no_part, one_more}
 pub use Rattle.mig_canon.specs.Canon.{Frame, Record, batch, batches, frame_word_in, frames_in, headers, info_records, key_of, last_codes, last_records, p2m_body, p2m_record, p2m_records, page_in, pages_of, part_record, pv_last_codes, records_in_order, records_of, records_of_vcpu, static_bodies, static_codes, text_of, vcpu_codes, vcpu_record, vcpus_below, words_of}
-pub use Rattle.mig_canon_laws.specs.Bare.{IsBare}
+pub use Rattle.mig_canon.specs.Bare.{IsBare}
 pub use Rattle.mig_guest.proofs.Found.{all_found, found_first}
 pub use Rattle.mig_guest.proofs.KeyedMaps.{tied}
 pub use Rattle.mig_guest.proofs.PartCursor.{both_of}

@@ -1,5 +1,5 @@
 -- Records of a canonical stream one after another, each in its place.
-use Rattle.mig_canon_laws.proofs.Common.{◌≡◌, ℕ, zero, suc, ◌+◌, ◌*◌, ◌≤◌, ◌<◌, ◌^◌, List, [], ◌∷◌, ◌++◌, length, map, Bool, true, false, nat_eq, Option, Some, None, refl, sym, ap, subst, ◌∙◌, arith, append_assoc, append-nil, length-append, ◌||◌, ◌&&◌, fold, is_some, AllByRecursion, list_any, flat_map, Kind, FrameMap, GuestOf, PartCode, code_number, PartKey, Part, PartMap, IsFormed, shape_of, set_parts, parts_at, canonical_bodies, contents_by_shape, IsRecordBody, part_body, SayAll, Record, records_of, records_in_order, key_of, part_record, vcpu_codes, vcpu_record, records_of_vcpu, vcpus_below, text_of, StreamRecord, Content, types_of, is_ended, Checks, Frames, Lists, Nothing, Sets, put_content, IsComplete, HasContent, Follows, Spells, one_more_record, flat_map-append, canonical_bodies_say, one_more}
+use Rattle.mig_canon.proofs.LawsCommon.{◌≡◌, ℕ, zero, suc, ◌+◌, ◌*◌, ◌≤◌, ◌<◌, ◌^◌, List, [], ◌∷◌, ◌++◌, length, map, Bool, true, false, nat_eq, Option, Some, None, refl, sym, ap, subst, ◌∙◌, arith, append_assoc, append-nil, length-append, ◌||◌, ◌&&◌, fold, is_some, AllByRecursion, list_any, flat_map, Kind, FrameMap, GuestOf, PartCode, code_number, PartKey, Part, PartMap, IsFormed, shape_of, set_parts, parts_at, canonical_bodies, contents_by_shape, IsRecordBody, part_body, SayAll, Record, records_of, records_in_order, key_of, part_record, vcpu_codes, vcpu_record, records_of_vcpu, vcpus_below, text_of, StreamRecord, Content, types_of, is_ended, Checks, Frames, Lists, Nothing, Sets, put_content, IsComplete, HasContent, Follows, Spells, one_more_record, flat_map-append, canonical_bodies_say, one_more}
 use Rattle.std.proofs.lemmas.List.{map-append}
 use Rattle.std.proofs.lemmas.List.Folds.{list_any-append}
 use Rattle.std.specs.FinMap as maps
@@ -12,10 +12,10 @@ use Rattle.mig_order.proofs.OrderLaw.{faultless_is_in_order}
 use Rattle.mig_restore_form.specs.Judging.{Opening}
 use Rattle.mig_restore_form.specs.Mean.{sent}
 use Rattle.mig_restore_form.specs.Record.{placed_content}
-use Rattle.mig_canon_laws.proofs.CanonMaps.{with_parts}
-use Rattle.mig_canon_laws.proofs.CanonOnce.{AtOnce}
-use Rattle.mig_canon_laws.proofs.CanonParts.{is_record, Fits, fits_of}
-use Rattle.mig_canon_laws.proofs.PvMaps.{set_found, vcpu_set, vcpu_parts, vcpus_more}
+use Rattle.mig_canon.proofs.CanonMaps.{with_parts}
+use Rattle.mig_canon.proofs.CanonOnce.{AtOnce}
+use Rattle.mig_canon.proofs.CanonParts.{is_record, Fits, fits_of}
+use Rattle.mig_canon.proofs.PvMaps.{set_found, vcpu_set, vcpu_parts, vcpus_more}
 
 abbrev pub opening : Kind → Opening
 opening kind = record { version = 3; kind = kind }

@@ -1,5 +1,5 @@
 -- A stream whose frames stand in any records is accepted, and means the guest that they tell; the canonical stream is one.
-use Rattle.mig_canon_laws.proofs.Common.{zero, suc, ◌*◌, take, drop, flat_map, range_with_len, flat_map-append, map-range_with_len_more, All-nil, All-cons, All-drop, batch, batches, frames_in, IsFew, IsBare, le_refl, ◌≡◌, ℕ, ◌+◌, ◌≤◌, ◌<◌, ◌^◌, List, [], ◌∷◌, ◌++◌, length, map, Bool, true, false, refl, sym, ap, subst, ◌∙◌, arith, append_assoc, append-nil, inr, ◌||◌, fold-append, All, All-head, All-tail, Kind, GuestOf, FrameMap, PartMap, IsFormed, HasNoEmulators, Record, records_in_order, static_codes, info_records, last_records, static_bodies, p2m_records, text_of, headers, Frame, StreamRecord, is_ended, Nothing, Frames, empty_guest, put_entry, put_entries, IsComplete, Spells, IsImage, Accepted, meant_as_sent, Follows}
+use Rattle.mig_canon.proofs.LawsCommon.{zero, suc, ◌*◌, take, drop, flat_map, range_with_len, flat_map-append, map-range_with_len_more, All-nil, All-cons, All-drop, batch, batches, frames_in, IsFew, IsBare, le_refl, ◌≡◌, ℕ, ◌+◌, ◌≤◌, ◌<◌, ◌^◌, List, [], ◌∷◌, ◌++◌, length, map, Bool, true, false, refl, sym, ap, subst, ◌∙◌, arith, append_assoc, append-nil, inr, ◌||◌, fold-append, All, All-head, All-tail, Kind, GuestOf, FrameMap, PartMap, IsFormed, HasNoEmulators, Record, records_in_order, static_codes, info_records, last_records, static_bodies, p2m_records, text_of, headers, Frame, StreamRecord, is_ended, Nothing, Frames, empty_guest, put_entry, put_entries, IsComplete, Spells, IsImage, Accepted, meant_as_sent, Follows}
 use Rattle.std.proofs.lemmas.List.{map-append}
 use Rattle.std.proofs.lemmas.List.Elements.{All-append, All-take}
 use Rattle.std.proofs.lemmas.List.FromFn.{length-map-range_with_len}
@@ -11,15 +11,15 @@ use Rattle.mig_canon.specs.Canon.{body_of, canon}
 use Rattle.mig_canon.proofs.Batches.{words_len}
 use Rattle.mig_restore_form.specs.Mean.{sent}
 use Rattle.mig_restore_form.specs.Spelled.HasContent.{pages as pages_say}
-use Rattle.mig_canon_laws.specs.Batched.{IsSendable, IsSendableBatch, TellFrames, told, frames_told, batch_records, batched_bodies, batched}
-use Rattle.mig_canon_laws.proofs.CanonMaps.{frames_again}
-use Rattle.mig_canon_laws.proofs.CanonOnce.{all_at_once}
-use Rattle.mig_canon_laws.proofs.CanonParts.{Fits}
-use Rattle.mig_canon_laws.proofs.CanonFrames.{is_batch, body_len, pages_len, all_fine, all_kept, all_taken, batch_len, few_batches, take_more}
-use Rattle.mig_canon_laws.proofs.CanonSteps.{opening, guest_with, State, Stage, IsStep, ended_more, looser, spells_more, means_more, more, codes_more}
-use Rattle.mig_canon_laws.proofs.CanonStages.{settled, framed, static_end_step, frames_step, end_step, static_written}
-use Rattle.mig_canon_laws.proofs.PvMaps.{static_set}
-use Rattle.mig_canon_laws.proofs.Canons.{complete_of, few_of, listed_set, all_set, behind, parts_again, nothing_fits, end_fits, begun_state, listed_state, framed_state, last_state, regroup}
+use Rattle.mig_canon.specs.Batched.{IsSendable, IsSendableBatch, TellFrames, told, frames_told, batch_records, batched_bodies, batched}
+use Rattle.mig_canon.proofs.CanonMaps.{frames_again}
+use Rattle.mig_canon.proofs.CanonOnce.{all_at_once}
+use Rattle.mig_canon.proofs.CanonParts.{Fits}
+use Rattle.mig_canon.proofs.CanonFrames.{is_batch, body_len, pages_len, all_fine, all_kept, all_taken, batch_len, few_batches, take_more}
+use Rattle.mig_canon.proofs.CanonSteps.{opening, guest_with, State, Stage, IsStep, ended_more, looser, spells_more, means_more, more, codes_more}
+use Rattle.mig_canon.proofs.CanonStages.{settled, framed, static_end_step, frames_step, end_step, static_written}
+use Rattle.mig_canon.proofs.PvMaps.{static_set}
+use Rattle.mig_canon.proofs.Canons.{complete_of, few_of, listed_set, all_set, behind, parts_again, nothing_fits, end_fits, begun_state, listed_state, framed_state, last_state, regroup}
 
 -- ---- records of frames, one after another
 

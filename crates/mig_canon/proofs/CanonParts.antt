@@ -1,5 +1,5 @@
 -- What a body of a record says, and that fields are read back.
-use Rattle.mig_canon_laws.proofs.Common.{arith, replicate, ◌≡◌, ℕ, ◌≤◌, ◌<◌, ◌^◌, List, [], ◌++◌, length, true, Option, Some, None, refl, subst, is_some, little_bytes, Kind, PartCode, code_number, Part, IsRecordBody, Content, Sets, HasContent, sets, length-replicate, padding_len, IsRecord}
+use Rattle.mig_canon.proofs.LawsCommon.{arith, replicate, ◌≡◌, ℕ, ◌≤◌, ◌<◌, ◌^◌, List, [], ◌++◌, length, true, Option, Some, None, refl, subst, is_some, little_bytes, Kind, PartCode, code_number, Part, IsRecordBody, Content, Sets, HasContent, sets, length-replicate, padding_len, IsRecord}
 use Rattle.byteorder.specs.Numbers.{little_number-reads_back}
 use Rattle.mig_bytes.specs.Fields.{le32}
 use Rattle.mig_headers.specs.RecordTypes.{type_number, type_of_number}

@@ -1,5 +1,5 @@
 -- The body of each batch of frames says these frames.
-use Rattle.mig_canon_laws.proofs.Common.{◌≡◌, ℕ, zero, suc, ◌+◌, ◌-◌, ◌*◌, ◌/◌, ◌%◌, ◌≤◌, ◌<◌, ◌^◌, min, List, [], ◌∷◌, ◌++◌, length, take, drop, map, replicate, Bool, true, false, Option, Some, None, refl, sym, ap, subst, ◌∙◌, arith, length-append, drop-drop, unwrap_or, is_some, All, nat_lt, IsInside, meant_type, range_with_len, nat_cmp-IsAntisymmetric, little_bytes, little_number, Kind, Hvm, Pv, is_type_of, GuestOf, IsFormed, Frame, batch, batches, frame_word_in, page_in, words_of, pages_of, frames_in, IsPage, IsEntry, AreEntries, IsGoodWord, IsBatch, common_steps, All-nil, All-cons, All-head, All-tail, all_found}
+use Rattle.mig_canon.proofs.LawsCommon.{◌≡◌, ℕ, zero, suc, ◌+◌, ◌-◌, ◌*◌, ◌/◌, ◌%◌, ◌≤◌, ◌<◌, ◌^◌, min, List, [], ◌∷◌, ◌++◌, length, take, drop, map, replicate, Bool, true, false, Option, Some, None, refl, sym, ap, subst, ◌∙◌, arith, length-append, drop-drop, unwrap_or, is_some, All, nat_lt, IsInside, meant_type, range_with_len, nat_cmp-IsAntisymmetric, little_bytes, little_number, Kind, Hvm, Pv, is_type_of, GuestOf, IsFormed, Frame, batch, batches, frame_word_in, page_in, words_of, pages_of, frames_in, IsPage, IsEntry, AreEntries, IsGoodWord, IsBatch, common_steps, All-nil, All-cons, All-head, All-tail, all_found}
 use Rattle.mig_pagetypes.specs.Limits.{pfn_limit}
 use Rattle.std.proofs.lemmas.List.{length-take, length-drop, take_all}
 use Rattle.std.proofs.Math.Seq.{take-add}
@@ -16,9 +16,9 @@ use Rattle.mig_records.specs.Words.{words, has_reserved_type, is_outside}
 use Rattle.mig_guest.specs.Tables.{EachEntry, IsWithin}
 use Rattle.mig_canon.specs.Canon.{body_of}
 use Rattle.mig_canon.proofs.Batches.{words_len}
-use Rattle.mig_canon_laws.specs.Batched.{IsSendable, told}
-use Rattle.mig_canon_laws.proofs.CanonMaps.{IsKept}
-use Rattle.mig_canon_laws.proofs.CanonParts.{le32_first}
+use Rattle.mig_canon.specs.Batched.{IsSendable, told}
+use Rattle.mig_canon.proofs.CanonMaps.{IsKept}
+use Rattle.mig_canon.proofs.CanonParts.{le32_first}
 
 -- a type of a guest of this kind stays
 stays : (kind : Kind) (t : PageType) → is_type_of kind t ≡ true → meant_type kind t ≡ t
