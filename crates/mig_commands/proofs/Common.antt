@@ -6,8 +6,8 @@ pub use Rattle.mig_guest.specs.Guests.{GuestOf}
 pub use Rattle.mig_headers.specs.declared.kind.Kind.{Kind}
 pub use Rattle.mig_headers.specs.declared.kind.Kind.TheVariants.{Hvm, Pv}
 pub use Rattle.mig_restore_form.proofs.Meaning.{mean_kind}
-pub use Rattle.mig_libxl.specs.Carried.{IsCarried}
-pub use Rattle.mig_libxl.specs.Spelled.{AcceptedStream}
+pub use Rattle.mig_libxl_form.specs.Carried.{IsCarried}
+pub use Rattle.mig_libxl_form.specs.Spelled.{AcceptedStream}
 pub use Rattle.mig_commands.specs.Fronts.{Accepting, Normalised, PartWritten, restored_text, summary_of}
 pub use Rattle.mig_commands.specs.Outcomes.{outcome_of}
 pub use Rattle.mig_commands.specs.Refusals.{HasLegacyRefusal, HasStreamRefusal, HasWalkImageRefusal, HasWalkRefusal}

@@ -9,7 +9,7 @@ use Rattle.mig_guest.specs.Hosts.{HostOf}
 use Rattle.mig_hosted.specs.Sound.{unsoundness}
 use Rattle.mig_hosted.specs.View.{view}
 use Rattle.mig_hosted.proofs.SoundRows.{sound_is_faultless}
-use Rattle.mig_libxl.proofs.Laws.{one_front}
+use Rattle.mig_libxl_form.proofs.Laws.{one_front}
 use Rattle.mig_report.specs.declared.outcome.WalkEnd.{WalkEnd}
 use Rattle.mig_report.specs.declared.outcome.WalkEnd.TheVariants as ends
 use Rattle.mig_report.specs.declared.outcome.WalkSummary.{WalkSummary}

@@ -12,7 +12,7 @@ use Rattle.mig_guest.specs.Hosts.{HostOf, most_width}
 use Rattle.mig_hosted.specs.Sound.{IsSound, unsoundness}
 use Rattle.mig_hosted.specs.View.{view}
 use Rattle.mig_image.specs.ImageForm.{host_at}
-use Rattle.mig_libxl.specs.Spelled.{AcceptedStream}
+use Rattle.mig_libxl_form.specs.Spelled.{AcceptedStream}
 use Rattle.mig_report.specs.Report.{walked_line}
 use Rattle.mig_report.specs.declared.outcome.WalkEnd.{WalkEnd}
 use Rattle.mig_report.specs.declared.outcome.WalkEnd.TheVariants as ends

@@ -3,7 +3,7 @@
 //!
 //! Responsible for: `normalise`, `convert`, `restore`, `verify`, `walk` and `walkimage`, each as one function that answers the
 //! status, and what a status says of each. Left to others: which command the words name, and the lines (mig_report), how a
-//! stream, a legacy stream or an image is read and written (mig_libxl, mig_legacy, mig_image), where an address leads
+//! stream, a legacy stream or an image is read and written (mig_libxl_form, mig_legacy, mig_image), where an address leads
 //! (mig_walk), `relay` and `show` (mig_passing), and `save` and `exercise` (mig_live).
 //!
 //! What the layers above rely on: of an input that tells its bytes each status says of it, of what is left of it and of what

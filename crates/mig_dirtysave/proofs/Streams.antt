@@ -21,7 +21,7 @@ use Rattle.mig_hosted.specs.View.{view, top_of}
 use Rattle.mig_hosted.proofs.SoundRows.{sound_is_faultless}
 use Rattle.mig_hosted.proofs.ViewedGuests.{viewed_whole}
 use Rattle.mig_wrap.specs.Canon.{bare_guest, wrapper_opening, wrapper_closing}
-use Rattle.mig_libxl.specs.Spelled.{AcceptedStream}
+use Rattle.mig_libxl_form.specs.Spelled.{AcceptedStream}
 use Rattle.mig_wrap.proofs.Alike.{opening_alike, closing_alike}
 use Rattle.mig_wrap.proofs.AnyCanons.{around_is_accepted}
 use Rattle.mig_guest.specs.MachineStates.{MachineState}

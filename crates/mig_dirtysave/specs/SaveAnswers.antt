@@ -11,7 +11,7 @@ use Rattle.mig_records_pages.specs.Told.{FrameTold, telling_record, all_told}
 use Rattle.mig_records_pages.specs.Written.{AreRecordsWithin}
 use Rattle.mig_hosted.specs.View.{view}
 use Rattle.mig_wrap.specs.Canon.{wrapper_opening, wrapper_closing}
-use Rattle.mig_libxl.specs.Spelled.{AcceptedStream}
+use Rattle.mig_libxl_form.specs.Spelled.{AcceptedStream}
 use Rattle.mig_around.specs.SaveTexts.{IsOtherRecord}
 use Rattle.mig_guest.specs.MachineStates.{MachineState}
 use Rattle.mig_guest.specs.Rounds.{all_read}

@@ -5,7 +5,7 @@
 //! to others: the machine (mig_guest), the parts that are kept of its host, judging an HVM host, and what is written
 //! before the frames and behind them (mig_around), the frames and the rounds in which they are sent (mig_rounds), judging a
 //! PV host and bringing its contexts to their form in a stream (mig_pause), and what a stream is and what stands around its
-//! image (mig_libxl).
+//! image (mig_libxl_form).
 //!
 //! What the layers above rely on: over an honest machine what `run` wrote is accepted, whatever follows it, and its guest is
 //! what the paused host is seen as. An HVM host is judged as it is in the end, over any machine; a PV host over an honest

@@ -7,7 +7,7 @@ use Rattle.mig_bytes.specs.Sequences.{Spells}
 use Rattle.mig_bytes.specs.Sequences.Spells.{no_part, one_more}
 use Rattle.mig_chunks.specs.Chunks.{IsWithinLimits}
 use Rattle.mig_chunks.proofs.ChunkNumbers.{sound_kind}
-use Rattle.mig_emulators.proofs.Formed.{none_yet}
+use Rattle.mig_libxl_form.proofs.Formed.{none_yet}
 use Rattle.mig_pvtables.specs.Whole.{IsWhole}
 use Rattle.mig_restore_form.proofs.Growth.{empty_begun, grows_not}
 use Rattle.mig_bytes.specs.Fields.{le32}

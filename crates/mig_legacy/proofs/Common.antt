@@ -52,11 +52,11 @@ pub use Rattle.mig_chunks.specs.Toolstack.{Physmap, IsToolstack}
 pub use Rattle.mig_chunks.specs.declared.chunk.ChunkKind.{ChunkKind}
 pub use Rattle.mig_chunks.specs.declared.chunk.ChunkKind.TheVariants.{End, Batch, VcpuMap, Tsc, LastCheckpoint, Toolstack, Param}
 pub use Rattle.mig_legacy.specs.declared.read.ChunksSeen.{ChunksSeen}
-pub use Rattle.mig_emulators.proofs.Formed.{store_small, pairs_kept, context_kept}
-pub use Rattle.mig_emulators.proofs.EmulatorGuests.{part_there, guest_done}
-unfoldable pub use Rattle.mig_emulators.specs.Emulators.{emulators_of}
-pub use Rattle.mig_emulators.specs.Emulators.{EmulatorsOf, put_libxl_content, no_emulators, with_emulators, store_at, add_pairs, last_context, most_pairs, spelled_with}
-pub use Rattle.mig_emulators.specs.Formed.{AreEmulators}
+pub use Rattle.mig_libxl_form.proofs.Formed.{store_small, pairs_kept, context_kept}
+pub use Rattle.mig_libxl_form.proofs.EmulatorGuests.{part_there, guest_done}
+unfoldable pub use Rattle.mig_libxl_form.specs.Emulators.{emulators_of}
+pub use Rattle.mig_libxl_form.specs.Emulators.{EmulatorsOf, put_libxl_content, no_emulators, with_emulators, store_at, add_pairs, last_context, most_pairs, spelled_with}
+pub use Rattle.mig_libxl_form.specs.Formed.{AreEmulators}
 pub use Rattle.mig_pagetypes.specs.FrameWords.{word_pfn, word_type}
 pub use Rattle.mig_pagetypes.specs.LegacyWords.{legacy_type, legacy_pfn, placeholder}
 pub use Rattle.mig_policy.specs.PairFaults.{pairs_fault}

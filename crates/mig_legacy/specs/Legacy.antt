@@ -12,9 +12,9 @@ use Rattle.mig_guest.specs.Parts.{Part}
 use Rattle.mig_restore_form.specs.Mean.{mean}
 use Rattle.mig_restore_form.specs.Record.{FrameEntry, StreamRecord}
 use Rattle.mig_restore_form.specs.Record.Content.{Frames as SentFrames, Sets}
-use Rattle.mig_emulators.specs.Content.{LibxlRecord}
-use Rattle.mig_emulators.specs.Content.LibxlContent.{Pairs as StorePairs, Context}
-use Rattle.mig_emulators.specs.Emulators.{EmulatorsOf, emulators_of, with_emulators}
+use Rattle.mig_libxl_form.specs.Content.{LibxlRecord}
+use Rattle.mig_libxl_form.specs.Content.LibxlContent.{Pairs as StorePairs, Context}
+use Rattle.mig_libxl_form.specs.Emulators.{EmulatorsOf, emulators_of, with_emulators}
 use Rattle.mig_chunks.specs.declared.chunk.ChunkKind.{ChunkKind}
 use Rattle.mig_chunks.specs.declared.chunk.ChunkKind.TheVariants as kinds
 

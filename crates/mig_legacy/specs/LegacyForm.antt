@@ -24,7 +24,7 @@ use Rattle.mig_records.specs.Words.{words}
 use Rattle.mig_restore_form.specs.Judging.{type_in_word}
 use Rattle.mig_restore_form.specs.Mean.{sent}
 use Rattle.mig_restore_form.specs.Record.{FrameEntry}
-use Rattle.mig_emulators.specs.Emulators.{EmulatorsOf, emulators_of, most_pairs, spelled_with}
+use Rattle.mig_libxl_form.specs.Emulators.{EmulatorsOf, emulators_of, most_pairs, spelled_with}
 use Rattle.mig_chunks.specs.declared.chunk.ChunkKind.{ChunkKind}
 use Rattle.mig_chunks.specs.declared.chunk.ChunkKind.TheVariants.{End, Batch, VcpuMap, Tsc, LastCheckpoint, Toolstack, Param}
 use Rattle.mig_chunks.specs.Batches.{fault_of_batch, page_data_words}

@@ -9,8 +9,8 @@ use Rattle.mig_headers.specs.declared.legacy_fault.LegacyCause.TheVariants.{Trun
 use Rattle.mig_guest.specs.Guests.{GuestOf}
 use Rattle.mig_restore_form.specs.Mean.{sent, put_record}
 use Rattle.mig_restore_form.specs.Mean.{IsBegun as IsGuestBegun}
-use Rattle.mig_emulators.specs.Emulators.{EmulatorsOf, put_libxl_content, emulators_of}
-use Rattle.mig_emulators.specs.Formed.{AreEmulators}
+use Rattle.mig_libxl_form.specs.Emulators.{EmulatorsOf, put_libxl_content, emulators_of}
+use Rattle.mig_libxl_form.specs.Formed.{AreEmulators}
 use Rattle.mig_legacy.specs.Legacy.{LegacyContent, LegacyChunk, LegacyTail, has_value, records_in, pair_records, tail_records, device_records, image_records, store_records}
 use Rattle.mig_legacy.specs.declared.read.ChunksSeen.{ChunksSeen}
 

@@ -14,7 +14,7 @@ use Rattle.mig_records.specs.Words.{words}
 use Rattle.mig_restore_form.specs.Mean.{sent}
 use Rattle.mig_restore_form.specs.Record.{FrameEntry}
 use Rattle.mig_restore_form.specs.Spelled.{AreEntries}
-use Rattle.mig_emulators.specs.Emulators.{emulators_of, most_pairs, spelled_with}
+use Rattle.mig_libxl_form.specs.Emulators.{emulators_of, most_pairs, spelled_with}
 use Rattle.mig_chunks.specs.declared.chunk.ChunkKind.{ChunkKind}
 use Rattle.mig_chunks.specs.declared.chunk.ChunkKind.TheVariants.{End, Batch, VcpuMap, Tsc, LastCheckpoint, Toolstack, Param}
 use Rattle.mig_chunks.specs.Batches.{is_reserved, is_high, page_data_words}

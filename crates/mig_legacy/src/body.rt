@@ -6,7 +6,7 @@ ghost use Rattle.mig_bytes.specs.declared.stop.Stop.TheVariants.{Memory as NoMem
 ghost use Rattle.mig_bytes_form.specs.Form.{judged_as};
 ghost use Rattle.mig_headers.specs.declared.kind.Kind.TheVariants.{Hvm};
 ghost use Rattle.mig_restore_form.specs.Mean.{Grows};
-ghost use Rattle.mig_emulators.specs.Formed.{AreEmulators};
+ghost use Rattle.mig_libxl_form.specs.Formed.{AreEmulators};
 ghost use Rattle.mig_chunks.specs.Batches.{fault_of_batch};
 ghost use Rattle.mig_legacy.specs.LegacyForm.{length_form, words_form, batch_form, clock_of as clock_in, vcpus_form, clock_form, value_form, toolstack_form};
 ghost use Rattle.mig_legacy.specs.Legacy.{LegacyContent, param_key as key_of_param};
@@ -15,9 +15,9 @@ ghost use Rattle.mig_legacy.specs.Seen.{cut_short, put_in_guest, put_in_emulator
 
 use mig_bytes::{Memory, ReadFailed, Source, Stop, skip, take_long, take_part, u32_le};
 use mig_chunks::{batch_fault, page_data_words, physmap_pairs, put, toolstack_fault};
-use mig_emulators::Emulators;
 use mig_guest::{EMULATOR_PAIRS, Guest, PartKey};
 use mig_headers::{Cause, LegacyCause, MOST_BODY};
+use mig_libxl_form::Emulators;
 use mig_policy::PairsAnswer;
 use mig_restore::take_entries;
 use mig_restore_form::words_of;

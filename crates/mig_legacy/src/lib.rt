@@ -3,7 +3,7 @@
 //! Responsible for: judging a legacy stream part by part, in byte order, and the guest that its chunks and its tail mean;
 //! the laws that join the judging with the spelling of the form, and those that say in its words what it means. Left to
 //! others: what is wrong with a chunk by itself, and what it says (mig_chunks), the pages of a batch (mig_restore), what
-//! pairs of texts mean (mig_policy), the device model (mig_emulators), contexts (mig_hvm), and the printed texts of
+//! pairs of texts mean (mig_policy), the device model (mig_libxl_form), contexts (mig_hvm), and the printed texts of
 //! refusals (mig_headers_text).
 //!
 //! What the layers above rely on: `read_legacy` answers the guest that the accepted front of the input means, or the

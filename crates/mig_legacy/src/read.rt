@@ -12,8 +12,8 @@ ghost use Rattle.mig_headers.specs.declared.kind.Kind.TheVariants.{Hvm};
 ghost use Rattle.mig_guest.specs.Frames.{IsFew};
 ghost use Rattle.mig_pagetypes.specs.Limits.{most_frames};
 ghost use Rattle.mig_pvtables.specs.Whole.{IsStreamed, IsStreamedBare};
-ghost use Rattle.mig_emulators.specs.Emulators.{with_emulators};
-ghost use Rattle.mig_emulators.specs.Formed.{AreEmulators};
+ghost use Rattle.mig_libxl_form.specs.Emulators.{with_emulators};
+ghost use Rattle.mig_libxl_form.specs.Formed.{AreEmulators};
 ghost use Rattle.mig_chunks.specs.declared.chunk.ChunkKind.TheVariants as kinds;
 ghost use Rattle.mig_legacy.specs.LegacyForm.{most_chunks, start_causes, place_causes, start_form, type_form, content_form, chunk_form};
 ghost use Rattle.mig_legacy.specs.Legacy.{LegacyChunk, device_records, is_end, is_value_of, mean_legacy};
@@ -25,9 +25,9 @@ use crate::body::{take_batch, take_clock, take_toolstack, take_value, take_vcpus
 use crate::tail::{take_device, take_tail};
 use mig_bytes::{Answer, Memory, Source, Stop, answer_for, take_part, u32_le};
 use mig_chunks::{ChunkKind, chunk_kind};
-use mig_emulators::Emulators;
 use mig_guest::Guest;
 use mig_headers::{ImageHeader, Kind, LegacyCause, LegacyPlace, LibxlHeader};
+use mig_libxl_form::Emulators;
 use mig_pagetypes::MAX_FRAMES;
 use std::alloc::Global;
 

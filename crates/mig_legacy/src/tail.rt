@@ -7,7 +7,7 @@ ghost use Rattle.mig_headers.specs.Contexts.{scan};
 ghost use Rattle.mig_headers.specs.declared.kind.Kind.TheVariants.{Hvm};
 ghost use Rattle.mig_guest.specs.Frames.{IsFew};
 ghost use Rattle.mig_restore_form.specs.Mean.{IsBegun};
-ghost use Rattle.mig_emulators.specs.Formed.{AreEmulators};
+ghost use Rattle.mig_libxl_form.specs.Formed.{AreEmulators};
 ghost use Rattle.mig_pvtables.specs.Whole.{IsStreamedBare};
 ghost use Rattle.mig_legacy.specs.LegacyForm.{tail_of, tail_form, device_form};
 ghost use Rattle.mig_legacy.specs.Seen.{put_tail, put_device};
@@ -15,10 +15,10 @@ ghost use Rattle.mig_legacy.specs.Stream.{device_at};
 
 use crate::body::{are_bytes, param_key, take_length};
 use mig_bytes::{Memory, Source, Stop, take_long, take_part};
-use mig_emulators::Emulators;
 use mig_guest::{EMULATOR_CONTEXT, Guest, PartKey};
 use mig_headers::{LegacyCause, MOST_BODY};
 use mig_hvm::{read_context, scan_context};
+use mig_libxl_form::Emulators;
 use std::alloc::Global;
 
 /// The HVM parameters that are the frames of I/O requests, of buffered ones and of the store.

@@ -10,7 +10,7 @@ use Rattle.mig_headers.specs.declared.fault.Place.{Place}
 use Rattle.mig_guest.specs.Hosts.{HostOf}
 use Rattle.mig_hosted.specs.Sound.{unsoundness}
 use Rattle.mig_unwrap.specs.Reads.{ReadsStream}
-use Rattle.mig_libxl.proofs.Laws.{accepted_is_stream, one_front, never_both}
+use Rattle.mig_libxl_form.proofs.Laws.{accepted_is_stream, one_front, never_both}
 use Rattle.mig_restore.specs.declared.read.Reading.{Reading}
 use Rattle.mig_bytes.specs.declared.answer.Answer.{Answer}
 use Rattle.mig_report.specs.declared.outcome.Outcome.{Outcome}

@@ -7,7 +7,7 @@ ghost use Rattle.mig_guest.specs.Guests.{GuestOf};
 ghost use Rattle.mig_hosted.specs.Sound.{unsoundness};
 ghost use Rattle.mig_hosted.specs.View.{view};
 ghost use Rattle.mig_wrap.specs.Canon.{canon_any};
-ghost use Rattle.mig_libxl.specs.Spelled.{AcceptedStream};
+ghost use Rattle.mig_libxl_form.specs.Spelled.{AcceptedStream};
 ghost use Rattle.mig_pvtables.specs.Blank.{blank as blank_form};
 ghost use Rattle.mig_pvtables.specs.Whole.{IsWhole};
 ghost use Rattle.mig_report.specs.Report.{Reports, memory_line};

@@ -8,16 +8,16 @@ use Rattle.mig_bytes.specs.Judged.Judged.{Passes}
 use Rattle.mig_bytes.proofs.Fronts.{TakesFronts, front_pass, front_part, front_said, front_then, front_placed}
 use Rattle.mig_bytes.proofs.Joins.{both_pass, placed_passes}
 use Rattle.mig_bytes.proofs.Said.{said_passes}
-use Rattle.mig_emulators.specs.Content.{LibxlRecord, LibxlContent}
-use Rattle.mig_emulators.specs.Content.LibxlContent.{Nothing, Image, Pairs, Context}
-use Rattle.mig_emulators.specs.Emulators.{EmulatorsOf, emulators_of, most_pairs, spelled_with}
+use Rattle.mig_libxl_form.specs.Content.{LibxlRecord, LibxlContent}
+use Rattle.mig_libxl_form.specs.Content.LibxlContent.{Nothing, Image, Pairs, Context}
+use Rattle.mig_libxl_form.specs.Emulators.{EmulatorsOf, emulators_of, most_pairs, spelled_with}
 use Rattle.mig_headers.specs.Rows.{first_fault}
 use Rattle.mig_headers.specs.declared.fault.Cause.{Cause}
 use Rattle.mig_headers.specs.declared.fault.Cause.TheVariants.{Truncated, BadEmulator, TooManyPairs, EmulatorIndex}
 use Rattle.mig_headers.specs.declared.fault.Place.{Place}
 use Rattle.mig_headers.specs.declared.fault.Place.TheVariants.{LibxlRecord as AtRecord}
-use Rattle.mig_libxl.specs.Among.{is_libxl_ended}
-use Rattle.mig_libxl.specs.Judging.{emulator_key, fault_of_context, fault_of_pairs, fault_of_libxl_head, libxl_head_at, context_at, pairs_at, skipped_at, inner_at, body_of_type, libxl_content_at, libxl_record_at}
+use Rattle.mig_libxl_form.specs.Among.{is_libxl_ended}
+use Rattle.mig_libxl_form.specs.Judging.{emulator_key, fault_of_context, fault_of_pairs, fault_of_libxl_head, libxl_head_at, context_at, pairs_at, skipped_at, inner_at, body_of_type, libxl_content_at, libxl_record_at}
 use Rattle.mig_policy.specs.PairFaults.{pairs_fault}
 use Rattle.mig_policy.specs.PairMaps.{pairs_in}
 use Rattle.mig_restore_form.specs.Stream.{image_at}

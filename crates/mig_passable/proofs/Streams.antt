@@ -11,7 +11,7 @@ use Rattle.mig_bytes.proofs.Fronts.{Front, TakesFronts, front_pass, front_said, 
 use Rattle.mig_bytes.proofs.Joins.{both_pass, passes_not, placed_passes, same_passes}
 use Rattle.mig_bytes.proofs.Said.{said_passes}
 use Rattle.mig_bytes.proofs.Sequences.{starts}
-use Rattle.mig_emulators.specs.Content.{LibxlRecord}
+use Rattle.mig_libxl_form.specs.Content.{LibxlRecord}
 use Rattle.mig_headers.proofs.FirstFaults.{rows_fine}
 use Rattle.mig_headers.proofs.HeaderLaws.{marker_of}
 use Rattle.mig_headers.specs.Headers.{libxl_ident, marker, marker_rows, fault_of_marker, fault_of_libxl}
@@ -19,10 +19,10 @@ use Rattle.mig_headers.specs.declared.fault.Cause.{Cause}
 use Rattle.mig_headers.specs.declared.fault.Cause.TheVariants.{Truncated}
 use Rattle.mig_headers.specs.declared.fault.Place.{Place}
 use Rattle.mig_headers.specs.declared.fault.Place.TheVariants.{ImageHeader, LibxlHeader}
-use Rattle.mig_libxl.specs.Among.{is_libxl_ended}
-use Rattle.mig_libxl.specs.Judging.{libxl_record_at}
-use Rattle.mig_libxl.specs.Stream.{StreamOf, header_at, bare_at, wrapped_at, stream_at, IsStreamRefused}
-use Rattle.mig_libxl.specs.Stream.StreamOf.{Bare, Wrapped}
+use Rattle.mig_libxl_form.specs.Among.{is_libxl_ended}
+use Rattle.mig_libxl_form.specs.Judging.{libxl_record_at}
+use Rattle.mig_libxl_form.specs.Stream.{StreamOf, header_at, bare_at, wrapped_at, stream_at, IsStreamRefused}
+use Rattle.mig_libxl_form.specs.Stream.StreamOf.{Bare, Wrapped}
 use Rattle.mig_restore_form.specs.Stream.{ImageOf, image_at, marker_at, opening_at, opening_behind}
 use Rattle.mig_passable.specs.Causes.{is_unasked}
 use Rattle.mig_passable.specs.Images.{open_records, open_image_at}

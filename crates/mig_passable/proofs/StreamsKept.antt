@@ -6,18 +6,18 @@ use Rattle.mig_bytes.specs.Fields.{le32, be64}
 use Rattle.mig_bytes.specs.Judged.{part, placed}
 use Rattle.mig_bytes.specs.Judged.Judged.{Passes}
 use Rattle.mig_bytes.specs.Sequences.{onward}
-use Rattle.mig_emulators.specs.Content.{LibxlRecord}
-use Rattle.mig_emulators.specs.Content.LibxlContent.{Nothing, Image, Pairs, Context}
+use Rattle.mig_libxl_form.specs.Content.{LibxlRecord}
+use Rattle.mig_libxl_form.specs.Content.LibxlContent.{Nothing, Image, Pairs, Context}
 use Rattle.mig_headers.specs.Headers.{libxl_ident, libxl_rows, fault_of_libxl}
 use Rattle.mig_headers.specs.Pairs.{texts_in}
 use Rattle.mig_headers.specs.declared.fault.Cause.{Cause}
 use Rattle.mig_headers.specs.declared.fault.Cause.TheVariants.{Truncated, BadEmulator, EmulatorIndex}
 use Rattle.mig_headers.specs.declared.fault.Place.{Place}
 use Rattle.mig_headers.specs.declared.fault.Place.TheVariants.{LibxlHeader, LibxlRecord as AtRecord}
-use Rattle.mig_libxl.specs.Among.{is_libxl_ended}
-use Rattle.mig_libxl.specs.Judging.{emulator_key, field_rows, order_rows, fault_of_libxl_fields, fault_of_order, fault_of_context, fault_of_libxl_head, libxl_head_at, context_at, skipped_at}
-use Rattle.mig_libxl.specs.Stream.{header_at}
-use Rattle.mig_libxl.specs.Stream.StreamOf.{Bare, Wrapped}
+use Rattle.mig_libxl_form.specs.Among.{is_libxl_ended}
+use Rattle.mig_libxl_form.specs.Judging.{emulator_key, field_rows, order_rows, fault_of_libxl_fields, fault_of_order, fault_of_context, fault_of_libxl_head, libxl_head_at, context_at, skipped_at}
+use Rattle.mig_libxl_form.specs.Stream.{header_at}
+use Rattle.mig_libxl_form.specs.Stream.StreamOf.{Bare, Wrapped}
 use Rattle.mig_policy.specs.PairFaults.{torn_at, bad_key_at, first_of, pairs_fault}
 use Rattle.mig_policy.specs.PairMaps.{pairs_in}
 use Rattle.mig_passable.specs.Causes.{is_unasked}

@@ -4,7 +4,7 @@ use Rattle.mig_bytes.specs.Judged.{◌>>=◌}
 use Rattle.mig_bytes.specs.Judged.Judged.{Passes}
 use Rattle.mig_headers.specs.declared.fault.Cause.{Cause}
 use Rattle.mig_headers.specs.declared.fault.Place.{Place}
-use Rattle.mig_libxl.specs.Stream.{StreamOf, stream_at, IsStreamRefused}
+use Rattle.mig_libxl_form.specs.Stream.{StreamOf, stream_at, IsStreamRefused}
 use Rattle.mig_restore_form.specs.Stream.{image_at}
 use Rattle.mig_passable.specs.Causes.{is_unasked}
 use Rattle.mig_passable.specs.Images.{open_image_at, guest_asked}

@@ -6,17 +6,17 @@ use Rattle.mig_bytes.specs.Fields.{le32, be64}
 use Rattle.mig_bytes.specs.Judged.{Judged, ◌>>=◌, part, placed, said_at}
 use Rattle.mig_bytes.specs.Judged.Judged.{Passes, Faulty}
 use Rattle.mig_bytes.specs.Sequences.{onward}
-use Rattle.mig_emulators.specs.Content.{LibxlRecord, LibxlContent}
-use Rattle.mig_emulators.specs.Content.LibxlContent.{Image, Pairs}
+use Rattle.mig_libxl_form.specs.Content.{LibxlRecord, LibxlContent}
+use Rattle.mig_libxl_form.specs.Content.LibxlContent.{Image, Pairs}
 use Rattle.mig_headers.specs.Headers.{libxl_ident}
 use Rattle.mig_headers.specs.declared.fault.Cause.{Cause}
 use Rattle.mig_headers.specs.declared.fault.Cause.TheVariants.{Truncated}
 use Rattle.mig_headers.specs.declared.fault.Place.{Place}
 use Rattle.mig_headers.specs.declared.fault.Place.TheVariants.{LibxlHeader, LibxlRecord as AtRecord}
-use Rattle.mig_libxl.specs.Among.{is_libxl_ended}
-use Rattle.mig_libxl.specs.Judging.{emulator_key, fault_of_context, context_at, skipped_at, libxl_head_at}
-use Rattle.mig_libxl.specs.Stream.{StreamOf, header_at}
-use Rattle.mig_libxl.specs.Stream.StreamOf.{Bare, Wrapped}
+use Rattle.mig_libxl_form.specs.Among.{is_libxl_ended}
+use Rattle.mig_libxl_form.specs.Judging.{emulator_key, fault_of_context, context_at, skipped_at, libxl_head_at}
+use Rattle.mig_libxl_form.specs.Stream.{StreamOf, header_at}
+use Rattle.mig_libxl_form.specs.Stream.StreamOf.{Bare, Wrapped}
 use Rattle.mig_policy.specs.PairFaults.{pairs_fault}
 use Rattle.mig_policy.specs.PairMaps.{pairs_in}
 use Rattle.mig_passable.specs.Images.{open_image_at}

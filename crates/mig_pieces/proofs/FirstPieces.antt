@@ -10,7 +10,7 @@ use Rattle.mig_guest.specs.declared.part_code.PartCode.TheVariants.{VcpuBasic, V
 use Rattle.mig_headers.proofs.ContextTexts.{in32}
 use Rattle.mig_headers.specs.declared.fault.Cause.{Cause}
 use Rattle.mig_headers.specs.declared.fault.Cause.TheVariants.{BadLength}
-use Rattle.mig_libxl.specs.Judging.{fault_of_context}
+use Rattle.mig_libxl_form.specs.Judging.{fault_of_context}
 use Rattle.mig_policy.specs.PairFaults.{pairs_fault}
 use Rattle.mig_pieces.specs.Begun.{piece_of, FitsForm, fault_of_form, params, IsKnown}
 use Rattle.mig_pieces.specs.PairPieces.{no_bytes, then_byte}

@@ -8,7 +8,7 @@ use Rattle.mig_records.specs.declared.layout.Layout.{Layout}
 use Rattle.mig_guest.specs.declared.part_code.PartCode.TheVariants.{VcpuBasic, VcpuExtended, HvmParam}
 use Rattle.mig_headers.specs.Contexts.{scan}
 use Rattle.mig_headers.specs.declared.fault.Cause.{Cause}
-use Rattle.mig_libxl.specs.Judging.{fault_of_context}
+use Rattle.mig_libxl_form.specs.Judging.{fault_of_context}
 use Rattle.mig_policy.specs.PairFaults.{pairs_fault}
 use Rattle.mig_pieces.specs.Bodies.{fault_of_pair_body}
 use Rattle.mig_pieces.specs.ContextChain.{IsBegunContext, chain_piece}

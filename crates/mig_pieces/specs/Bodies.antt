@@ -8,7 +8,7 @@ use Rattle.mig_headers.specs.RecordTypes.{is_optional, type_of_number}
 use Rattle.mig_headers.specs.declared.fault.Cause.{Cause}
 use Rattle.mig_headers.specs.declared.record_type.RecordType.{RecordType}
 use Rattle.mig_headers.specs.declared.record_type.RecordType.TheVariants.{X86PvInfo, X86PvP2mFrames}
-use Rattle.mig_libxl.specs.Judging.{fault_of_context}
+use Rattle.mig_libxl_form.specs.Judging.{fault_of_context}
 use Rattle.mig_policy.specs.PairFaults.{pairs_fault}
 use Rattle.mig_restore_form.specs.Judging.{code_of_type, lists_of}
 use Rattle.mig_restore_form.specs.Record.{Content}

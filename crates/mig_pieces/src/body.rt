@@ -4,7 +4,7 @@ ghost use Rattle.mig_headers.specs.declared.fault.Cause.{Cause};
 ghost use Rattle.mig_headers.specs.RecordTypes.{most_body, record_row_of};
 ghost use Rattle.mig_headers.specs.Contexts.{scan};
 ghost use Rattle.mig_records.specs.Shapes.{fault_of_scan};
-ghost use Rattle.mig_libxl.specs.Judging.{allows_length};
+ghost use Rattle.mig_libxl_form.specs.Judging.{allows_length};
 ghost use Rattle.mig_records.specs.Faults.{fault_of_length};
 ghost use Rattle.mig_pieces.specs.Bodies.{fault_of_record_body, fault_of_typed, fault_of_libxl_body};
 ghost use Rattle.mig_pieces.specs.Begun.{IsBegunBody, IsKnown, piece_len};
@@ -18,7 +18,7 @@ use crate::front::{behind_first, gdt_fault, params_fault};
 use crate::known::{BodyForm, FRONT, Knows, PIECE};
 use crate::pairs::{behind_bytes, pairs_fault};
 use mig_headers::{Cause, RecordType, is_optional};
-use mig_libxl::{EMULATOR_CONTEXT, EMULATOR_XENSTORE_DATA};
+use mig_libxl_form::{EMULATOR_CONTEXT, EMULATOR_XENSTORE_DATA};
 
 /// What is known of a body of which some first bytes were taken.
 #[derive(Clone, Copy, Debug, PartialEq, Eq)]

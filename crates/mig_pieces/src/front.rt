@@ -4,7 +4,7 @@ ghost use Rattle.mig_records.specs.Layouts.{fault_of_entry, fault_of_entries};
 ghost use Rattle.mig_records.specs.PvBodies.{fault_of_pv_info, fault_of_p2m};
 ghost use Rattle.mig_records.specs.Shapes.{fault_of_body, fault_of_content, is_chain, shape_of};
 ghost use Rattle.mig_guest.specs.declared.part_code.PartCode.TheVariants.{VcpuBasic, HvmParam};
-ghost use Rattle.mig_libxl.specs.Judging.{fault_of_context};
+ghost use Rattle.mig_libxl_form.specs.Judging.{fault_of_context};
 ghost use Rattle.mig_pieces.specs.Begun.{FitsForm, IsKnown, fault_of_form, params, piece_of};
 ghost use Rattle.mig_pieces.specs.declared.known.Knows.TheVariants.{Nothing};
 ghost use Rattle.mig_pieces.specs.declared.known.BodyForm.TheVariants.{HvmParams};
@@ -65,7 +65,7 @@ fn id_fault(code: PartCode, front: &[u8]) -> Option<Cause>
 }
 
 /// What is wrong with an emulator's id and its index, which an emulator's records begin with.
-#[tactic(auto, unfolding(mig_libxl::specs::Judging::fault_of_context))]
+#[tactic(auto, unfolding(mig_libxl_form::specs::Judging::fault_of_context))]
 fn emulator_fault(front: &[u8]) -> Option<Cause>
     requires { 8 ≤ length front.now }
     ensures { (body : List ℕ) → le32 body 0 ≡ le32 front.now 0 → le32 body 4 ≡ le32 front.now 4 → result ≡ fault_of_context body }

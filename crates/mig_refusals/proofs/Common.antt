@@ -112,19 +112,19 @@ pub use Rattle.mig_restore_form.specs.Record.{FrameEntry, StreamRecord, is_ended
 pub use Rattle.mig_restore_form.specs.Spelled.{Accepted, Follows}
 unfoldable pub use Rattle.mig_restore_form.specs.Stream.{image_at, opening_at}
 pub use Rattle.mig_restore_form.specs.Stream.{IsRefused, image_of, placed_next, records_at}
-pub use Rattle.mig_libxl.proofs.Forms.{behind_header}
-pub use Rattle.mig_libxl.proofs.Laws.{Ident, header_goes, ident_of, is_header, libxl_goes}
-pub use Rattle.mig_libxl.proofs.Records.{behind_content, behind_head as libxl_behind_head, found, not_ended as libxl_not_ended, record_goes}
-pub use Rattle.mig_emulators.specs.Content.{LibxlContent, LibxlRecord}
-pub use Rattle.mig_libxl.specs.Among.{is_libxl_ended}
-pub use Rattle.mig_emulators.specs.Content.LibxlContent.{Image, Nothing as LibxlNothing}
-pub use Rattle.mig_emulators.specs.Emulators.{EmulatorsOf, emulators_of, most_pairs, spelled_with}
-unfoldable pub use Rattle.mig_libxl.specs.Judging.{fault_of_context, fault_of_libxl_fields, fault_of_order, fault_of_pairs, libxl_record_at}
-pub use Rattle.mig_libxl.specs.Judging.{allows_length, body_of_type, emulator_key, fault_of_libxl_head, inner_at, libxl_content_at, libxl_head_at, skipped_at}
-pub use Rattle.mig_libxl.specs.Spelled.{AcceptedStream, FollowsLibxl}
-unfoldable pub use Rattle.mig_libxl.specs.Stream.{stream_at, wrapped_at}
-pub use Rattle.mig_libxl.specs.Stream.{IsStreamRefused, bare_at, header_at, libxl_records_at}
-pub use Rattle.mig_libxl.specs.Stream.StreamOf.{Bare, Wrapped}
+pub use Rattle.mig_libxl_form.proofs.Forms.{behind_header}
+pub use Rattle.mig_libxl_form.proofs.Laws.{Ident, header_goes, ident_of, is_header, libxl_goes}
+pub use Rattle.mig_libxl_form.proofs.Records.{behind_content, behind_head as libxl_behind_head, found, not_ended as libxl_not_ended, record_goes}
+pub use Rattle.mig_libxl_form.specs.Content.{LibxlContent, LibxlRecord}
+pub use Rattle.mig_libxl_form.specs.Among.{is_libxl_ended}
+pub use Rattle.mig_libxl_form.specs.Content.LibxlContent.{Image, Nothing as LibxlNothing}
+pub use Rattle.mig_libxl_form.specs.Emulators.{EmulatorsOf, emulators_of, most_pairs, spelled_with}
+unfoldable pub use Rattle.mig_libxl_form.specs.Judging.{fault_of_context, fault_of_libxl_fields, fault_of_order, fault_of_pairs, libxl_record_at}
+pub use Rattle.mig_libxl_form.specs.Judging.{allows_length, body_of_type, emulator_key, fault_of_libxl_head, inner_at, libxl_content_at, libxl_head_at, skipped_at}
+pub use Rattle.mig_libxl_form.specs.Spelled.{AcceptedStream, FollowsLibxl}
+unfoldable pub use Rattle.mig_libxl_form.specs.Stream.{stream_at, wrapped_at}
+pub use Rattle.mig_libxl_form.specs.Stream.{IsStreamRefused, bare_at, header_at, libxl_records_at}
+pub use Rattle.mig_libxl_form.specs.Stream.StreamOf.{Bare, Wrapped}
 pub use Rattle.mig_legacy.proofs.ChunkTexts.{finds as legacy_finds, goes as legacy_goes, not_ended as legacy_not_ended}
 pub use Rattle.mig_chunks.proofs.Entries.{faultless_first, faulty_first, nothing_left}
 pub use Rattle.mig_chunks.proofs.Fields.{first32}

@@ -5,8 +5,8 @@ use Rattle.mig_bytes_form.specs.Form.FormOf.{Gives}
 use Rattle.mig_bytes_form.proofs.Joined.{bytes_spelled, first_refused, gives_begins, refused_then, then_is, then_refused}
 use Rattle.mig_bytes_form.specs.Tests.{NoneHolds}
 use Rattle.mig_bytes.proofs.Joins.{no_bytes}
-use Rattle.mig_emulators.specs.Content.LibxlContent.{Pairs, Context}
-use Rattle.mig_libxl.specs.Judging.{emulator_key, pairs_at, context_at}
+use Rattle.mig_libxl_form.specs.Content.LibxlContent.{Pairs, Context}
+use Rattle.mig_libxl_form.specs.Judging.{emulator_key, pairs_at, context_at}
 use Rattle.mig_bytes_form.proofs.Verdicts.{begins_passes, is_refused, never_both, passes_is_spelled, refused_is, spelled_passes}
 use Rattle.mig_refusals.specs.Stream.{head_causes, record_head_form, record_body_form, behind_record_head, record_form}
 use Rattle.mig_refusals.proofs.StreamCauses.{context_named, head_named, pairs_named}

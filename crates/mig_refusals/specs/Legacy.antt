@@ -16,7 +16,7 @@ use Rattle.mig_headers.specs.declared.legacy_fault.LegacyPlace.{LegacyPlace}
 use Rattle.mig_headers.specs.declared.legacy_fault.LegacyPlace.TheVariants as places
 use Rattle.mig_pagetypes.specs.LegacyWords.{legacy_type}
 use Rattle.mig_restore_form.specs.Mean.{sent}
-use Rattle.mig_emulators.specs.Emulators.{EmulatorsOf}
+use Rattle.mig_libxl_form.specs.Emulators.{EmulatorsOf}
 use Rattle.mig_chunks.specs.declared.chunk.ChunkKind.{ChunkKind}
 use Rattle.mig_chunks.specs.Batches.{fault_of_batch}
 use Rattle.mig_chunks.specs.Chunks.{number_causes}

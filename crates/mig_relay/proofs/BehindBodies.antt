@@ -6,8 +6,8 @@ use Rattle.mig_records.specs.PvBodies.{greater}
 use Rattle.mig_bytes.specs.Bytes.{padding_len}
 use Rattle.mig_bytes.specs.Fields.{le32}
 use Rattle.mig_bytes.specs.Judged.{Judged, ◌>>=◌}
-use Rattle.mig_emulators.specs.Content.{LibxlRecord, LibxlContent}
-use Rattle.mig_emulators.specs.Content.LibxlContent.{Nothing as NothingWrapped, Pairs, Context}
+use Rattle.mig_libxl_form.specs.Content.{LibxlRecord, LibxlContent}
+use Rattle.mig_libxl_form.specs.Content.LibxlContent.{Nothing as NothingWrapped, Pairs, Context}
 use Rattle.mig_guest.specs.declared.part_code.PartCode.{PartCode}
 use Rattle.mig_headers.proofs.ContextTexts.{in32}
 use Rattle.mig_headers.proofs.RecordNumbers.{numbers_are_inverse}
@@ -17,9 +17,9 @@ use Rattle.mig_headers.specs.declared.fault.Place.{Place}
 use Rattle.mig_headers.specs.declared.fault.Place.TheVariants.{Record}
 use Rattle.mig_headers.specs.declared.record_type.RecordType.{RecordType}
 use Rattle.mig_headers.specs.declared.record_type.RecordType.TheVariants.{X86PvInfo, X86PvP2mFrames}
-use Rattle.mig_libxl.specs.Among.{image_in}
-use Rattle.mig_libxl.specs.Judging.{emulator_key}
-use Rattle.mig_libxl.specs.declared.head.RecordsBehind.{RecordsBehind}
+use Rattle.mig_libxl_form.specs.Among.{image_in}
+use Rattle.mig_libxl_form.specs.Judging.{emulator_key}
+use Rattle.mig_libxl_form.specs.declared.head.RecordsBehind.{RecordsBehind}
 use Rattle.mig_pieces.proofs.Types.{bodies_are_parts}
 use Rattle.mig_pieces.specs.Begun.{piece_len}
 use Rattle.mig_pieces.specs.Bodies.{fault_of_record_body, coded_content, typed_content, record_content}

@@ -7,7 +7,7 @@ use Rattle.std.specs.Option.{option_or}
 use Rattle.mig_bytes.specs.Bytes.{padding_len}
 use Rattle.mig_bytes.specs.Judged.{Judged, ◌>>=◌, part, tried, placed}
 use Rattle.mig_bytes.specs.Judged.Judged.{Passes, Faulty}
-use Rattle.mig_emulators.specs.Content.{LibxlRecord}
+use Rattle.mig_libxl_form.specs.Content.{LibxlRecord}
 use Rattle.mig_records.specs.Shapes.{parts_of_body}
 use Rattle.mig_guest.specs.declared.part_code.PartCode.{PartCode}
 use Rattle.mig_headers.proofs.RecordNumbers.{numbers_are_inverse}
@@ -19,11 +19,11 @@ use Rattle.mig_headers.specs.declared.fault.Cause.{Cause}
 use Rattle.mig_headers.specs.declared.fault.Cause.TheVariants.{Truncated, BadLength}
 use Rattle.mig_headers.specs.declared.fault.Place.{Place}
 use Rattle.mig_headers.specs.declared.fault.Place.TheVariants.{Record}
-use Rattle.mig_libxl.specs.Among.{is_libxl_ended, has_emulator, image_among}
-use Rattle.mig_libxl.specs.Behind.{AreBehind, kind_of_image}
-use Rattle.mig_libxl.specs.Stream.StreamOf.{Bare}
-use Rattle.mig_libxl.specs.declared.head.RecordsBehind.{RecordsBehind}
-use Rattle.mig_libxl.proofs.Among.{emulator_more, among_first}
+use Rattle.mig_libxl_form.specs.Among.{is_libxl_ended, has_emulator, image_among}
+use Rattle.mig_libxl_form.specs.Behind.{AreBehind, kind_of_image}
+use Rattle.mig_libxl_form.specs.Stream.StreamOf.{Bare}
+use Rattle.mig_libxl_form.specs.declared.head.RecordsBehind.{RecordsBehind}
+use Rattle.mig_libxl_form.proofs.Among.{emulator_more, among_first}
 use Rattle.mig_pieces.specs.Begun.{IsBegunBody, piece_len}
 use Rattle.mig_pieces.specs.Bodies.{fault_of_record_body, record_content, typed_content, coded_content}
 use Rattle.mig_pieces.proofs.Types.{bodies_are_parts}

@@ -3,13 +3,13 @@ use Rattle.std.proofs.Common.{◌≡◌, ◌≢◌, ℕ, ◌-◌, Bool, true, fa
 use Rattle.std.proofs.lemmas.Bool.{ne_eqb, eq-eqb}
 use Rattle.std.proofs.lemmas.List.{length-map, map-append}
 use Rattle.mig_records.specs.PvBodies.{greater}
-use Rattle.mig_emulators.specs.Content.{LibxlRecord}
+use Rattle.mig_libxl_form.specs.Content.{LibxlRecord}
 use Rattle.mig_guest.specs.Guests.{GuestOf}
-use Rattle.mig_libxl.specs.Among.{is_libxl_ended, image_in, image_among}
-use Rattle.mig_libxl.specs.Behind.{AreBehind, kind_of_image}
-use Rattle.mig_libxl.specs.declared.head.RecordsBehind.{RecordsBehind}
-use Rattle.mig_libxl.proofs.Among.{emulator_more, among_more, among_first}
-use Rattle.mig_libxl.proofs.Among as libxl
+use Rattle.mig_libxl_form.specs.Among.{is_libxl_ended, image_in, image_among}
+use Rattle.mig_libxl_form.specs.Behind.{AreBehind, kind_of_image}
+use Rattle.mig_libxl_form.specs.declared.head.RecordsBehind.{RecordsBehind}
+use Rattle.mig_libxl_form.proofs.Among.{emulator_more, among_more, among_first}
+use Rattle.mig_libxl_form.proofs.Among as libxl
 use Rattle.mig_records.specs.declared.head.RecordHead.{RecordHead}
 use Rattle.mig_restore_form.specs.Judging.{Opening, before}
 use Rattle.mig_restore_form.specs.Mean.{sent, put_content}

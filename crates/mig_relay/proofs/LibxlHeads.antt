@@ -3,14 +3,14 @@ use Rattle.std.proofs.Common.{◌≡◌, ◌≢◌, ◌⊎◌, inl, inr, ℕ, �
 use Rattle.std.specs.Prelude.{IsSome}
 use Rattle.std.proofs.lemmas.Bool.{leb-true, eqb-true, eqb-false}
 use Rattle.std.proofs.lemmas.Grind.{common_steps}
-use Rattle.mig_emulators.specs.Content.{LibxlRecord}
+use Rattle.mig_libxl_form.specs.Content.{LibxlRecord}
 use Rattle.mig_headers.specs.declared.kind.Kind.{Kind}
-use Rattle.mig_libxl.specs.Among.{image_among}
-use Rattle.mig_libxl.specs.Behind.{AreBehind, MayFollow, kind_of_image}
-use Rattle.mig_libxl.specs.Judging.{allows_length}
+use Rattle.mig_libxl_form.specs.Among.{image_among}
+use Rattle.mig_libxl_form.specs.Behind.{AreBehind, MayFollow, kind_of_image}
+use Rattle.mig_libxl_form.specs.Judging.{allows_length}
 use Rattle.mig_restore_form.specs.declared.head.RecordsSeen.{RecordsSeen}
-use Rattle.mig_libxl.specs.Stream.StreamOf.{Wrapped}
-use Rattle.mig_libxl.specs.declared.head.RecordsBehind.{RecordsBehind}
+use Rattle.mig_libxl_form.specs.Stream.StreamOf.{Wrapped}
+use Rattle.mig_libxl_form.specs.declared.head.RecordsBehind.{RecordsBehind}
 use Rattle.mig_pieces.specs.Begun.{IsBegunBody}
 use Rattle.mig_pieces.specs.Bodies.{fault_of_libxl_body}
 use Rattle.mig_records.specs.Heads.{head_in}

@@ -12,7 +12,7 @@ use Rattle.mig_headers.specs.Headers.{unless_faulty}
 use Rattle.mig_headers.specs.declared.fault.Cause.{Cause}
 use Rattle.mig_headers.specs.declared.fault.Cause.TheVariants.{Truncated}
 use Rattle.mig_headers.specs.declared.fault.Place.{Place}
-use Rattle.mig_libxl.specs.Stream.{StreamOf}
+use Rattle.mig_libxl_form.specs.Stream.{StreamOf}
 use Rattle.mig_relay.specs.Following.{ComesNext, place_of_spot}
 use Rattle.mig_relay.specs.Keeping.{Keeps}
 use Rattle.mig_relay.specs.Parts.{BeginsWithPart}

@@ -12,12 +12,12 @@ use Rattle.mig_headers.specs.declared.fault.Cause.{Cause}
 use Rattle.mig_headers.specs.declared.fault.Cause.TheVariants.{Truncated}
 use Rattle.mig_headers.specs.declared.fault.Place.TheVariants.{ImageHeader}
 use Rattle.mig_headers.specs.declared.kind.Kind.{Kind}
-use Rattle.mig_libxl.specs.Among.{image_among}
+use Rattle.mig_libxl_form.specs.Among.{image_among}
 use Rattle.mig_restore_form.specs.Judging.{before, opening_of}
 use Rattle.mig_restore_form.specs.Mean.{sent}
 use Rattle.mig_restore_form.specs.Seen.{IsSeen}
 use Rattle.mig_restore_form.specs.declared.head.RecordsSeen.{RecordsSeen}
-use Rattle.mig_emulators.specs.Content.{LibxlRecord}
+use Rattle.mig_libxl_form.specs.Content.{LibxlRecord}
 use Rattle.mig_relay.specs.Keeping.{KeepsRecords, KeepsWrapper, HasNumber}
 use Rattle.mig_relay.specs.Parts.{AtVersion}
 use Rattle.mig_relay.specs.Spots.{Alone, AtLibxlHeader, InImage, spot, is_ident, begins_with_ident, fault_of_first}

@@ -18,7 +18,7 @@ use Rattle.mig_headers.specs.declared.fault.Cause.TheVariants.{Truncated, BadLen
 use Rattle.mig_headers.specs.declared.fault.Place.{Place}
 use Rattle.mig_headers.specs.declared.fault.Place.TheVariants.{Record}
 use Rattle.mig_headers.specs.declared.kind.Kind.{Kind}
-use Rattle.mig_libxl.specs.Among.{image_among}
+use Rattle.mig_libxl_form.specs.Among.{image_among}
 use Rattle.mig_pagetypes.specs.FrameWords.{word_has_data}
 use Rattle.mig_pagetypes.specs.PageTypes.{level_of}
 use Rattle.mig_pagetypes.specs.declared.page_type.PageType.{PageType}

@@ -2,9 +2,9 @@
 use Rattle.std.proofs.Common.{◌≡◌, ◌≢◌, ℕ, List, [], ◌∷◌, ◌++◌, None, sym, subst, ◌∙◌}
 use Rattle.std.specs.Prelude.{⊤}
 use Rattle.mig_bytes.specs.Bytes.{padding_len}
-use Rattle.mig_emulators.specs.Content.{LibxlRecord, LibxlContent}
-use Rattle.mig_libxl.specs.Among.{image_in}
-use Rattle.mig_libxl.specs.Stream.{StreamOf}
+use Rattle.mig_libxl_form.specs.Content.{LibxlRecord, LibxlContent}
+use Rattle.mig_libxl_form.specs.Among.{image_in}
+use Rattle.mig_libxl_form.specs.Stream.{StreamOf}
 use Rattle.mig_pieces.specs.Bodies.{fault_of_record_body, fault_of_libxl_body}
 use Rattle.mig_restore_form.specs.Judging.{Opening, before}
 use Rattle.mig_restore_form.specs.Record.{StreamRecord, FrameEntry, Content, types_of}

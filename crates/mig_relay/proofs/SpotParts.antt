@@ -9,18 +9,18 @@ use Rattle.mig_bytes.specs.Sequences.{onward}
 use Rattle.mig_bytes.proofs.Joins.{said_part, no_bytes, part_whole}
 use Rattle.mig_relay.proofs.Binds.{bind_assoc}
 use Rattle.mig_bytes.proofs.Sequences.{over, goes_on}
-use Rattle.mig_emulators.specs.Content.{LibxlRecord, LibxlContent}
-use Rattle.mig_emulators.specs.Content.LibxlContent.{Nothing, Image, Pairs, Context}
+use Rattle.mig_libxl_form.specs.Content.{LibxlRecord, LibxlContent}
+use Rattle.mig_libxl_form.specs.Content.LibxlContent.{Nothing, Image, Pairs, Context}
 use Rattle.mig_headers.proofs.HeaderLaws.{marker_of}
 use Rattle.mig_headers.specs.Headers.{fault_of_marker, fault_of_libxl}
 use Rattle.mig_headers.specs.declared.fault.Cause.{Cause}
 use Rattle.mig_headers.specs.declared.fault.Cause.TheVariants.{Truncated}
 use Rattle.mig_headers.specs.declared.fault.Place.{Place}
 use Rattle.mig_headers.specs.declared.fault.Place.TheVariants.{ImageHeader, LibxlHeader, LibxlRecord as AtRecord}
-use Rattle.mig_libxl.specs.Among.{is_libxl_ended}
-use Rattle.mig_libxl.specs.Judging.{emulator_key, fault_of_libxl_head, libxl_head_at}
-use Rattle.mig_libxl.specs.Stream.{StreamOf}
-use Rattle.mig_libxl.specs.Stream.StreamOf.{Bare, Wrapped}
+use Rattle.mig_libxl_form.specs.Among.{is_libxl_ended}
+use Rattle.mig_libxl_form.specs.Judging.{emulator_key, fault_of_libxl_head, libxl_head_at}
+use Rattle.mig_libxl_form.specs.Stream.{StreamOf}
+use Rattle.mig_libxl_form.specs.Stream.StreamOf.{Bare, Wrapped}
 use Rattle.mig_passable.specs.Images.{open_image_at}
 use Rattle.mig_passable.specs.Streams.{open_stream_at, open_wrapped, open_bare, open_libxl_records, open_libxl_record, open_content, open_inner, open_body}
 use Rattle.mig_passable.proofs.Records.{libxl_shrinks}

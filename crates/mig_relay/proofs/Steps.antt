@@ -11,7 +11,7 @@ use Rattle.mig_bytes.proofs.Joins.{passes_not}
 use Rattle.mig_headers.specs.declared.fault.Cause.{Cause}
 use Rattle.mig_headers.specs.declared.fault.Cause.TheVariants.{Truncated}
 use Rattle.mig_headers.specs.declared.fault.Place.{Place}
-use Rattle.mig_libxl.specs.Stream.{StreamOf}
+use Rattle.mig_libxl_form.specs.Stream.{StreamOf}
 use Rattle.mig_passable.specs.Streams.{open_stream_at, IsPassable}
 use Rattle.mig_passable.proofs.Streams.{unfinished_is_not_accepted}
 use Rattle.mig_pieces.specs.Bodies.{fault_of_record_body, record_content}

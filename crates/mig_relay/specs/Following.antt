@@ -3,11 +3,11 @@
 use Rattle.std.specs.Prelude.{◌≡◌, ◌≢◌, ◌≤◌, ◌+◌, ◌-◌, ◌*◌, ⊤, ℕ, true, false, List, [], ◌∷◌, ◌++◌, length, count_by, Option, Some, None}
 use Rattle.mig_bytes.specs.Bytes.{padding_len}
 use Rattle.mig_bytes.specs.Fields.{le32}
-use Rattle.mig_emulators.specs.Content.{LibxlRecord}
+use Rattle.mig_libxl_form.specs.Content.{LibxlRecord}
 use Rattle.mig_headers.specs.declared.fault.Place.{Place}
 use Rattle.mig_headers.specs.declared.fault.Place.TheVariants.{ImageHeader, DomainHeader, Record, LibxlHeader, LibxlRecord as AtRecord}
-use Rattle.mig_libxl.specs.Among.{image_among, image_in}
-use Rattle.mig_libxl.specs.Stream.{StreamOf}
+use Rattle.mig_libxl_form.specs.Among.{image_among, image_in}
+use Rattle.mig_libxl_form.specs.Stream.{StreamOf}
 use Rattle.mig_pagetypes.specs.FrameWords.{word_has_data}
 use Rattle.mig_records.specs.Heads.{head_in}
 use Rattle.mig_records.specs.Words.{words}

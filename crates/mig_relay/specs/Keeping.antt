@@ -3,13 +3,13 @@ use Rattle.std.specs.Prelude.{◌≡◌, ◌≢◌, ◌<◌, ◌≤◌, ◌+◌,
 use Rattle.mig_records.specs.PvBodies.{greater}
 use Rattle.mig_bytes.specs.Bytes.{padding_len}
 use Rattle.mig_bytes.specs.Fields.{le32}
-use Rattle.mig_emulators.specs.Content.{LibxlRecord}
+use Rattle.mig_libxl_form.specs.Content.{LibxlRecord}
 use Rattle.mig_headers.specs.RecordTypes.{most_body}
 use Rattle.mig_headers.specs.declared.fault.Cause.{Cause}
-use Rattle.mig_libxl.specs.Among.{is_libxl_ended, image_in, image_among}
-use Rattle.mig_libxl.specs.Behind.{AreBehind}
-use Rattle.mig_libxl.specs.Stream.{StreamOf, image_of_stream}
-use Rattle.mig_libxl.specs.declared.head.RecordsBehind.{RecordsBehind}
+use Rattle.mig_libxl_form.specs.Among.{is_libxl_ended, image_in, image_among}
+use Rattle.mig_libxl_form.specs.Behind.{AreBehind}
+use Rattle.mig_libxl_form.specs.Stream.{StreamOf, image_of_stream}
+use Rattle.mig_libxl_form.specs.declared.head.RecordsBehind.{RecordsBehind}
 use Rattle.mig_pagetypes.specs.FrameWords.{word_has_data}
 use Rattle.mig_pieces.specs.Begun.{IsBegunBody, piece_len}
 use Rattle.mig_pieces.specs.Bodies.{fault_of_record_body, fault_of_libxl_body}

@@ -4,15 +4,15 @@ use Rattle.mig_bytes.specs.Bytes.{padding_len}
 use Rattle.mig_bytes.specs.Fields.{be64}
 use Rattle.mig_bytes.specs.Judged.{Judged, ◌>>=◌, part, placed}
 use Rattle.mig_bytes.specs.Judged.Judged.{Passes}
-use Rattle.mig_emulators.specs.Content.{LibxlRecord, LibxlContent}
-use Rattle.mig_emulators.specs.Content.LibxlContent.{Image}
+use Rattle.mig_libxl_form.specs.Content.{LibxlRecord, LibxlContent}
+use Rattle.mig_libxl_form.specs.Content.LibxlContent.{Image}
 use Rattle.mig_headers.specs.Headers.{libxl_ident, fault_of_marker}
 use Rattle.mig_headers.specs.declared.fault.Cause.{Cause}
 use Rattle.mig_headers.specs.declared.fault.Cause.TheVariants.{Truncated}
 use Rattle.mig_headers.specs.declared.fault.Place.{Place}
 use Rattle.mig_headers.specs.declared.fault.Place.TheVariants.{LibxlRecord as AtRecord}
-use Rattle.mig_libxl.specs.Stream.{StreamOf}
-use Rattle.mig_libxl.specs.Stream.StreamOf.{Bare}
+use Rattle.mig_libxl_form.specs.Stream.{StreamOf}
+use Rattle.mig_libxl_form.specs.Stream.StreamOf.{Bare}
 use Rattle.mig_passable.specs.Streams.{open_stream_at, open_wrapped, open_libxl_records, open_body}
 use Rattle.mig_records.specs.declared.head.RecordHead.{RecordHead}
 use Rattle.mig_restore_form.specs.Stream.{ImageOf}

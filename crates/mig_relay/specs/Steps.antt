@@ -11,7 +11,7 @@ use Rattle.mig_headers.specs.Headers.{libxl_ident, kind_of_number}
 use Rattle.mig_headers.specs.declared.fault.Cause.{Cause}
 use Rattle.mig_headers.specs.declared.fault.Cause.TheVariants.{Truncated}
 use Rattle.mig_headers.specs.declared.fault.Place.{Place}
-use Rattle.mig_libxl.specs.Stream.{StreamOf}
+use Rattle.mig_libxl_form.specs.Stream.{StreamOf}
 use Rattle.mig_records.specs.Heads.{head_in}
 use Rattle.mig_records.specs.Words.{words as words_in}
 use Rattle.mig_relay.specs.Following.{ComesNext, place_of_spot}

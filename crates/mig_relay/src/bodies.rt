@@ -1,8 +1,8 @@
 ghost use Rattle.std.specs.Prelude.{◌≡◌, ◌≢◌, ◌<◌, ◌≤◌, ◌+◌, [], ◌∷◌, ◌++◌, List, ℕ, None, Some, length, IfSome, IsSome};
 ghost use Rattle.std.specs.declared.option.Option.{Option};
 ghost use Rattle.mig_bytes.specs.Bytes.{padding_len};
-ghost use Rattle.mig_emulators.specs.Content.{LibxlRecord, LibxlContent};
-ghost use Rattle.mig_libxl.specs.Among.{image_in};
+ghost use Rattle.mig_libxl_form.specs.Content.{LibxlRecord, LibxlContent};
+ghost use Rattle.mig_libxl_form.specs.Among.{image_in};
 ghost use Rattle.mig_pieces.specs.Begun.{piece_len};
 ghost use Rattle.mig_pieces.specs.Bodies.{fault_of_record_body, fault_of_libxl_body};
 ghost use Rattle.mig_relay.specs.Keeping.{KeepsBody, KeepsHead, KeepsOpen, KeepsOuter, KeepsFirst, IsBodied, IsOther, top_with, with_one};
@@ -17,7 +17,7 @@ use crate::answer::{RelayAnswer, Step};
 use crate::state::{Coming, Relay, answer};
 use mig_bytes::{Sink, Source, pad_len, take_part, u32_le};
 use mig_headers::{Cause, Place};
-use mig_libxl::RecordsBehind;
+use mig_libxl_form::RecordsBehind;
 use mig_records::RecordHead;
 
 /// The type of the records that list P2M frames.

@@ -1,7 +1,7 @@
 ghost use Rattle.std.specs.Prelude.{min, ◌≡◌, ◌≢◌, ◌<◌, ◌≤◌, ◌+◌, [], List, ℕ, false, true, None, Some, IfSome, IsSome};
-ghost use Rattle.mig_emulators.specs.Content.{LibxlRecord};
+ghost use Rattle.mig_libxl_form.specs.Content.{LibxlRecord};
 ghost use Rattle.mig_headers.specs.RecordTypes.{most_body};
-ghost use Rattle.mig_libxl.specs.Judging.{allows_length as length_allowed};
+ghost use Rattle.mig_libxl_form.specs.Judging.{allows_length as length_allowed};
 ghost use Rattle.mig_pieces.specs.Begun.{IsBegunBody, piece_len};
 ghost use Rattle.mig_pieces.specs.Bodies.{fault_of_record_body, fault_of_libxl_body};
 ghost use Rattle.mig_records.specs.Faults.{fault_of_length};
@@ -17,7 +17,7 @@ use crate::answer::{RelayAnswer, Step};
 use crate::state::{Coming, Relay, answer};
 use mig_bytes::{Sink, Source, take_part};
 use mig_headers::{Cause, Place};
-use mig_libxl::{EMULATOR_CONTEXT, EMULATOR_XENSTORE_DATA, RecordsBehind, libxl_head_fault};
+use mig_libxl_form::{EMULATOR_CONTEXT, EMULATOR_XENSTORE_DATA, RecordsBehind, libxl_head_fault};
 use mig_pieces::BodySeen;
 use mig_records::RecordHead;
 

@@ -9,7 +9,7 @@ use crate::answer::{RelayAnswer, Step};
 use crate::state::{Coming, Relay, answer};
 use mig_bytes::{Sink, Source, take_part};
 use mig_headers::{Cause, DomainHeader, ImageHeader, LibxlHeader, Place};
-use mig_libxl::RecordsBehind;
+use mig_libxl_form::RecordsBehind;
 use mig_restore_form::RecordsSeen;
 
 /// Before the first record of a libxl stream.

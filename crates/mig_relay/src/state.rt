@@ -1,7 +1,7 @@
 ghost use Rattle.std.specs.Prelude.{true, false, ◌≡◌, ◌*◌, ◌+◌, ◌-◌, ◌^◌, min, [], List, ℕ, length, is_ok, is_some, Some, if◌then◌else◌, Ok, OnOk};
 ghost use Rattle.mig_bytes.specs.Bytes.{Puts};
 ghost use Rattle.mig_bytes.specs.Faults.{HasCause};
-ghost use Rattle.mig_libxl.specs.Stream.{StreamOf};
+ghost use Rattle.mig_libxl_form.specs.Stream.{StreamOf};
 ghost use Rattle.mig_passable.specs.Streams.{IsPassable};
 ghost use Rattle.mig_relay.specs.Following.{in_hand};
 ghost use Rattle.mig_relay.specs.Keeping.{Keeps, Stands, words_in_hand};
@@ -14,7 +14,7 @@ ghost use Rattle.mig_relay.specs.declared.answer.Step.TheVariants.{Done};
 use crate::answer::{RelayAnswer, Relayed, Step};
 use mig_bytes::{Sink, Source, Stop, WriteFailed, put_all};
 use mig_headers::{Cause, Kind, Place};
-use mig_libxl::RecordsBehind;
+use mig_libxl_form::RecordsBehind;
 use mig_pieces::BodySeen;
 use mig_records::RecordHead;
 use mig_restore_form::RecordsSeen;

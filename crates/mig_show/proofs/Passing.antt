@@ -7,7 +7,7 @@ use Rattle.std.proofs.lemmas.List.FromFn.{length-map-range_with_len}
 use Rattle.byteorder.specs.Endian.{big_number}
 use Rattle.mig_bytes.specs.Bytes.{padding_len}
 use Rattle.mig_bytes.specs.Fields.{le32, le64, be32}
-use Rattle.mig_emulators.specs.Content.{LibxlRecord}
+use Rattle.mig_libxl_form.specs.Content.{LibxlRecord}
 use Rattle.mig_headers.specs.declared.fault.Place.TheVariants.{ImageHeader, DomainHeader, LibxlHeader, Record}
 use Rattle.mig_headers.specs.Headers.{kind_of_number}
 use Rattle.mig_headers.specs.declared.kind.Kind.{Kind as KindOf}

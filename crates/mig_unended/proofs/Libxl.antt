@@ -12,13 +12,13 @@ use Rattle.mig_headers.specs.Headers.{marker, libxl_ident}
 use Rattle.mig_records.specs.Records.{IsRecord}
 use Rattle.mig_restore_form.specs.Spelled.{IsImage}
 use Rattle.mig_restore_form.specs.Stream.{ImageOf}
-use Rattle.mig_emulators.specs.Content.{LibxlRecord}
-use Rattle.mig_libxl.specs.Among.{is_libxl_ended, image_in, image_among}
-use Rattle.mig_libxl.specs.Spelled.{IsLibxlRecord, FollowsLibxl, IsWrapped, IsStream}
-use Rattle.mig_libxl.specs.Spelled.IsLibxlRecord.{image as an_image, body as a_body}
-use Rattle.mig_libxl.specs.Stream.{StreamOf}
-use Rattle.mig_libxl.specs.Stream.StreamOf.{Bare, Wrapped}
-use Rattle.mig_libxl.proofs.Bodies.{has_no_image}
+use Rattle.mig_libxl_form.specs.Content.{LibxlRecord}
+use Rattle.mig_libxl_form.specs.Among.{is_libxl_ended, image_in, image_among}
+use Rattle.mig_libxl_form.specs.Spelled.{IsLibxlRecord, FollowsLibxl, IsWrapped, IsStream}
+use Rattle.mig_libxl_form.specs.Spelled.IsLibxlRecord.{image as an_image, body as a_body}
+use Rattle.mig_libxl_form.specs.Stream.{StreamOf}
+use Rattle.mig_libxl_form.specs.Stream.StreamOf.{Bare, Wrapped}
+use Rattle.mig_libxl_form.proofs.Bodies.{has_no_image}
 use Rattle.mig_unended.specs.Unended.{IsUnendedImage, IsUnclosedImage, IsCutLibxl, IsUnended}
 use Rattle.mig_unended.specs.Unread.{HasNoStream}
 use Rattle.mig_unended.proofs.Fronts.{AreTyped, typed_more, no_end_in_front, same_cut, same_record, record_len}

@@ -6,7 +6,7 @@ use Rattle.mig_headers.specs.declared.kind.Kind.{Kind}
 use Rattle.mig_records.specs.Records.{spelled}
 use Rattle.mig_canon.specs.Canon.{Record, headers}
 use Rattle.mig_records_pages.specs.Written.{WroteAll}
-use Rattle.mig_libxl.specs.Spelled.{AcceptedStream}
+use Rattle.mig_libxl_form.specs.Spelled.{AcceptedStream}
 
 -- the bytes are no accepted stream, and begin with none
 abbrev pub HasNoStream : List ℕ → Type 0

@@ -4,7 +4,7 @@ use Rattle.std.proofs.Common.{length-drop}
 use Rattle.std.specs.FinMap as maps
 use Rattle.std.proofs.lemmas.Bool.{false≢true}
 use Rattle.mig_policy.specs.PairMaps.{pairs_in}
-use Rattle.mig_emulators.proofs.Formed.{context_kept, pairs_kept}
+use Rattle.mig_libxl_form.proofs.Formed.{context_kept, pairs_kept}
 use Rattle.mig_unwrap.specs.Seen.{IsLibxlBegun}
 
 module _ (seen : WrapperSeen) (new : EmulatorsOf) (slice : List ℕ) (id index : ℕ) (begun : IsLibxlBegun seen) (known : id < 3) (small : index < 256) where

@@ -7,16 +7,16 @@ pub use Rattle.mig_headers.specs.declared.fault.Cause.{Cause}
 pub use Rattle.mig_headers.specs.declared.fault.Cause.TheVariants.{Truncated}
 pub use Rattle.mig_headers.specs.declared.fault.Place.{Place}
 pub use Rattle.mig_headers.specs.declared.fault.Place.TheVariants.{LibxlHeader}
-pub use Rattle.mig_emulators.specs.Content.{LibxlContent, LibxlRecord}
-pub use Rattle.mig_emulators.specs.Content.LibxlContent.{Context, Image, Pairs}
-pub use Rattle.mig_emulators.specs.Emulators.{EmulatorsOf, add_pairs, put_libxl_content, store_at, with_emulators}
-pub use Rattle.mig_emulators.specs.Formed.{AreEmulators}
+pub use Rattle.mig_libxl_form.specs.Content.{LibxlContent, LibxlRecord}
+pub use Rattle.mig_libxl_form.specs.Content.LibxlContent.{Context, Image, Pairs}
+pub use Rattle.mig_libxl_form.specs.Emulators.{EmulatorsOf, add_pairs, put_libxl_content, store_at, with_emulators}
+pub use Rattle.mig_libxl_form.specs.Formed.{AreEmulators}
 pub use Rattle.mig_headers.specs.declared.kind.Kind.TheVariants.{Pv}
-pub use Rattle.mig_libxl.specs.Among.{image_among, image_in, is_libxl_ended}
-pub use Rattle.mig_libxl.specs.Judging.{body_of_type, emulator_key, libxl_content_at, libxl_head_at}
-pub use Rattle.mig_libxl.specs.Spelled.{FollowsLibxl}
-pub use Rattle.mig_libxl.specs.Stream.{bare_at, header_at, libxl_records_at}
-pub use Rattle.mig_libxl.specs.Stream.StreamOf.{Bare, Wrapped}
+pub use Rattle.mig_libxl_form.specs.Among.{image_among, image_in, is_libxl_ended}
+pub use Rattle.mig_libxl_form.specs.Judging.{body_of_type, emulator_key, libxl_content_at, libxl_head_at}
+pub use Rattle.mig_libxl_form.specs.Spelled.{FollowsLibxl}
+pub use Rattle.mig_libxl_form.specs.Stream.{bare_at, header_at, libxl_records_at}
+pub use Rattle.mig_libxl_form.specs.Stream.StreamOf.{Bare, Wrapped}
 pub use Rattle.mig_policy.specs.PairFaults.{pairs_fault}
 pub use Rattle.mig_policy.specs.PairMaps.{put_pairs, text_of_map}
 pub use Rattle.mig_pvtables.specs.Whole.{IsStreamedBare}

@@ -13,10 +13,10 @@ use Rattle.mig_headers.specs.declared.fault.Place.TheVariants.{ImageHeader}
 use Rattle.mig_restore.proofs.Behind.{behind_is}
 use Rattle.mig_restore_form.specs.Stream.{image_at, image_behind, marker_at, opening_at}
 use Rattle.mig_restore.specs.Reads.{IsReading as IsImageReading}
-use Rattle.mig_libxl.specs.Stream.{StreamOf, wrapped_at, stream_at}
+use Rattle.mig_libxl_form.specs.Stream.{StreamOf, wrapped_at, stream_at}
 use Rattle.mig_unwrap.specs.Reads.{IsStreamReading}
-use Rattle.mig_emulators.proofs.EmulatorGuests.{none_set}
-use Rattle.mig_libxl.proofs.Forms.{behind_header}
+use Rattle.mig_libxl_form.proofs.EmulatorGuests.{none_set}
+use Rattle.mig_libxl_form.proofs.Forms.{behind_header}
 
 -- ---- a libxl stream behind its ident
 

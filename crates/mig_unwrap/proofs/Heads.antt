@@ -1,7 +1,7 @@
 -- The image that the reader keeps, as heads ask for it.
 use Rattle.mig_unwrap.proofs.Common.{◌≡◌, List, Option, Some, None, refl, ap, ◌∙◌, ImageOf, Reading, LibxlRecord, image_among, Holds, IsLibxlSeen, WrapperSeen}
 use Rattle.mig_restore_form.proofs.Meaning.{mean_kind}
-use Rattle.mig_libxl.specs.Behind.{AreBehind, kind_of_image}
+use Rattle.mig_libxl_form.specs.Behind.{AreBehind, kind_of_image}
 use Rattle.mig_unwrap.specs.Seen.{kind_of_reading, behind_of}
 
 -- what was read of the image is of its kind

@@ -10,10 +10,10 @@ use Rattle.mig_headers.specs.declared.fault.Cause.TheVariants.{BadEmulator, TooM
 use Rattle.mig_policy.specs.PairMaps.{pairs_in}
 use Rattle.mig_restore_form.specs.Stream.{image_at}
 use Rattle.mig_restore.specs.Reads.{IsReading as IsImageReading}
-use Rattle.mig_emulators.specs.Emulators.{most_pairs, spelled_with}
-use Rattle.mig_libxl.specs.Judging.{fault_of_pairs, fault_of_context, inner_at}
+use Rattle.mig_libxl_form.specs.Emulators.{most_pairs, spelled_with}
+use Rattle.mig_libxl_form.specs.Judging.{fault_of_pairs, fault_of_context, inner_at}
 use Rattle.mig_unwrap.specs.Seen.{TakesLibxl}
-use Rattle.mig_libxl.proofs.Bodies.{fine_pairs}
+use Rattle.mig_libxl_form.proofs.Bodies.{fine_pairs}
 
 -- ---- the causes of an emulator's body
 

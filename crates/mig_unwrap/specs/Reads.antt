@@ -8,7 +8,7 @@ use Rattle.mig_headers.specs.declared.fault.Place.{Place}
 use Rattle.mig_restore_form.specs.Mean.{differs_of}
 use Rattle.mig_restore_form.specs.Stream.{ImageOf}
 use Rattle.mig_restore.specs.declared.read.Reading.{Reading}
-use Rattle.mig_libxl.specs.Stream.{StreamOf, image_of_stream, guest_of, stream_at}
+use Rattle.mig_libxl_form.specs.Stream.{StreamOf, image_of_stream, guest_of, stream_at}
 
 -- a reading of a stream: the guest that it means, and of its image the version, the number of records, and how many entries
 -- behind a VERIFY differ

@@ -5,12 +5,12 @@ use Rattle.mig_headers.specs.declared.kind.Kind.TheVariants.{Pv}
 use Rattle.mig_restore_form.specs.Stream.{ImageOf}
 use Rattle.mig_restore.specs.Reads.{IsReading as IsImageReading}
 use Rattle.mig_restore.specs.declared.read.Reading.{Reading}
-use Rattle.mig_emulators.specs.Content.{LibxlRecord, LibxlContent}
-use Rattle.mig_libxl.specs.declared.head.RecordsBehind.{RecordsBehind}
-use Rattle.mig_libxl.specs.Among.{has_emulator, image_in, image_among}
-use Rattle.mig_emulators.specs.Emulators.{no_emulators, put_libxl_content, emulators_of}
+use Rattle.mig_libxl_form.specs.Content.{LibxlRecord, LibxlContent}
+use Rattle.mig_libxl_form.specs.declared.head.RecordsBehind.{RecordsBehind}
+use Rattle.mig_libxl_form.specs.Among.{has_emulator, image_in, image_among}
+use Rattle.mig_libxl_form.specs.Emulators.{no_emulators, put_libxl_content, emulators_of}
 use Rattle.mig_unwrap.specs.declared.read.WrapperSeen.{WrapperSeen}
-use Rattle.mig_emulators.specs.Formed.{AreEmulators}
+use Rattle.mig_libxl_form.specs.Formed.{AreEmulators}
 use Rattle.mig_pvtables.specs.Whole.{IsStreamedBare}
 
 -- what was read of the image, where there was one

@@ -9,21 +9,20 @@ ghost use Rattle.mig_headers.specs.declared.fault.Cause.TheVariants.{Truncated};
 ghost use Rattle.mig_pvtables.specs.Whole.{IsStreamed};
 ghost use Rattle.mig_records.specs.Heads.{head_in};
 ghost use Rattle.mig_restore_form.specs.Judging.{most_records};
-ghost use Rattle.mig_emulators.specs.Content.{LibxlRecord};
-ghost use Rattle.mig_libxl.specs.Behind.{AreBehind, MayFollow};
+ghost use Rattle.mig_libxl_form.specs.Content.{LibxlRecord};
+ghost use Rattle.mig_libxl_form.specs.Behind.{AreBehind, MayFollow};
 ghost use Rattle.mig_unwrap.specs.Seen.{behind_of};
-ghost use Rattle.mig_emulators.specs.Content.LibxlContent.{Nothing};
-ghost use Rattle.mig_libxl.specs.Judging.{fault_of_libxl_head, libxl_head_at, pairs_at, context_at, skipped_at, inner_at, body_of_type, libxl_content_at, libxl_record_at, allows_length as length_allowed};
+ghost use Rattle.mig_libxl_form.specs.Content.LibxlContent.{Nothing};
+ghost use Rattle.mig_libxl_form.specs.Judging.{fault_of_libxl_head, libxl_head_at, pairs_at, context_at, skipped_at, inner_at, body_of_type, libxl_content_at, libxl_record_at, allows_length as length_allowed};
 ghost use Rattle.mig_unwrap.specs.Seen.{IsLibxlSeen, IsLibxlBegun, IsClosed};
-ghost use Rattle.mig_libxl.specs.Stream.StreamOf.{Wrapped};
-ghost use Rattle.mig_libxl.specs.Stream.{header_at, libxl_records_at, wrapped_at, bare_at, stream_at};
+ghost use Rattle.mig_libxl_form.specs.Stream.StreamOf.{Wrapped};
+ghost use Rattle.mig_libxl_form.specs.Stream.{header_at, libxl_records_at, wrapped_at, bare_at, stream_at};
 ghost use Rattle.mig_unwrap.specs.Reads.{IsStreamReading, ReadsStream};
 
 use mig_bytes::{Memory, ReadFailed, Source, Stop, answer_for, skip, stop_for, take_long, take_part, u32_le};
-use mig_emulators::Emulators;
 use mig_guest::PartKey;
 use mig_headers::{Cause, ImageHeader, LibxlHeader, Place};
-use mig_libxl::{EMULATOR_CONTEXT, EMULATOR_XENSTORE_DATA, LIBXC_CONTEXT, LIBXL_END, RecordsBehind, libxl_head_fault};
+use mig_libxl_form::{EMULATOR_CONTEXT, EMULATOR_XENSTORE_DATA, Emulators, LIBXC_CONTEXT, LIBXL_END, RecordsBehind, libxl_head_fault};
 use mig_policy::{PairsAnswer, pairs_fault};
 use mig_records::{RecordHead, take_head, take_padding};
 use mig_restore::{Reading, StreamAnswer, read_image, read_image_rest};
@@ -73,7 +72,7 @@ impl WrapperSeen {
     ghost use Rattle.mig_unwrap.specs.Seen.{IsLibxlSeen, IsLibxlBegun, IsClosed, TakesLibxl};
 
     /// Before the first record.
-    #[tactic(auto, unfolding(mig_emulators::specs::Emulators::emulators_of))]
+    #[tactic(auto, unfolding(mig_libxl_form::specs::Emulators::emulators_of))]
     fn new(alloc: Global) -> WrapperSeen
         ensures seen { IsLibxlSeen result [] }
         ensures begun { IsLibxlBegun result }

@@ -9,23 +9,23 @@ use Rattle.mig_restore_form.proofs.Meaning.{mean_kind}
 use Rattle.mig_restore_form.specs.Mean.{mean}
 use Rattle.mig_restore_form.specs.Spelled.{Accepted as ImageAccepted}
 use Rattle.mig_restore_form.specs.Stream.{image_of}
-use Rattle.mig_libxl.specs.Carried.{IsCarried}
+use Rattle.mig_libxl_form.specs.Carried.{IsCarried}
 use Rattle.mig_wrap.specs.Canon.{canon_any, emulators_in_order, wrapper_opening, wrapper_closing}
-use Rattle.mig_emulators.specs.Content.LibxlContent.{Nothing}
-use Rattle.mig_emulators.specs.Emulators.{emulators_of}
-use Rattle.mig_libxl.specs.Spelled.{AcceptedStream}
-use Rattle.mig_libxl.specs.Spelled.HasLibxlContent.{ends}
-use Rattle.mig_libxl.specs.Spelled.IsLibxlRecord.{image as an_image, body as a_body}
-use Rattle.mig_libxl.proofs.Among.{emulators_more, among_more, ended_more}
+use Rattle.mig_libxl_form.specs.Content.LibxlContent.{Nothing}
+use Rattle.mig_libxl_form.specs.Emulators.{emulators_of}
+use Rattle.mig_libxl_form.specs.Spelled.{AcceptedStream}
+use Rattle.mig_libxl_form.specs.Spelled.HasLibxlContent.{ends}
+use Rattle.mig_libxl_form.specs.Spelled.IsLibxlRecord.{image as an_image, body as a_body}
+use Rattle.mig_libxl_form.proofs.Among.{emulators_more, among_more, ended_more}
 use Rattle.mig_wrap.proofs.Canon.{bare_is, bare_plain, bare_whole, canon_bare, plain_is, pv_plain}
 use Rattle.mig_canon.proofs.Batched.{canon_is_accepted as image_is_accepted}
-use Rattle.mig_emulators.proofs.EmulatorGuests.{none_set}
+use Rattle.mig_libxl_form.proofs.EmulatorGuests.{none_set}
 use Rattle.mig_wrap.proofs.EmulatorParts.{few_emulators, in_order_differ, in_order_holds}
 use Rattle.mig_wrap.proofs.EmulatorRecords.{record_of_part}
 use Rattle.mig_canon.proofs.CanonParts.{is_record}
 use Rattle.mig_wrap.proofs.EmulatorMaps.{said_of, said_is, guest_again}
 use Rattle.mig_wrap.proofs.Around.{canon_any_is, opening_none, opening_some, closing_none, closing_some}
-use Rattle.mig_libxl.proofs.Laws.{one_front}
+use Rattle.mig_libxl_form.proofs.Laws.{one_front}
 use Rattle.mig_wrap.proofs.WrappedCanons.{Here, here_all}
 
 -- ---- a bare image

@@ -10,7 +10,7 @@ use Rattle.mig_pvtables.specs.Blank.{blank, blank_of, IsOfBytes}
 use Rattle.mig_canon.specs.Canon.{Frame, all_vcpus, canon}
 use Rattle.mig_canon.specs.Batched.{batch_records, batched}
 use Rattle.mig_canon.proofs.CanonMaps.{nothing}
-use Rattle.mig_emulators.proofs.EmulatorGuests.{plain_policy, hvm_faultless}
+use Rattle.mig_libxl_form.proofs.EmulatorGuests.{plain_policy, hvm_faultless}
 
 -- what is false of all entries is false of one that is found
 none_found : (test : PartKey → Bool) (q : PartKey) (bytes : List ℕ) (es : List Part) → list_any (λ e. test e.0) es ≡ false → find part_cmp q es ≡ Some bytes → test q ≡ false

@@ -6,9 +6,9 @@ pub use Rattle.mig_bytes.specs.Sequences.{Spells}
 pub use Rattle.mig_bytes.specs.Sequences.Spells.{no_part, one_more}
 pub use Rattle.mig_canon.specs.Canon.{batches, bodies_of, frame_bodies, frames_in, headers, info_records, key_of, last_codes, last_records, p2m_record, p2m_records, part_record, pv_last_codes, records_in_order, records_of, records_of_vcpu, static_bodies, static_codes, text_of, vcpu_codes, vcpu_record, vcpus_below}
 pub use Rattle.mig_canon.specs.Bare.{IsBare}
-pub use Rattle.mig_emulators.specs.Content.{LibxlContent, LibxlRecord}
-pub use Rattle.mig_emulators.specs.Content.LibxlContent.{Context, Image, Pairs}
-pub use Rattle.mig_emulators.specs.Emulators.{EmulatorsOf, add_pairs, no_emulators, put_libxl_content, store_at, with_emulators}
+pub use Rattle.mig_libxl_form.specs.Content.{LibxlContent, LibxlRecord}
+pub use Rattle.mig_libxl_form.specs.Content.LibxlContent.{Context, Image, Pairs}
+pub use Rattle.mig_libxl_form.specs.Emulators.{EmulatorsOf, add_pairs, no_emulators, put_libxl_content, store_at, with_emulators}
 pub use Rattle.mig_guest.proofs.CodeParts.{all_of}
 pub use Rattle.mig_guest.proofs.Found.{all_found}
 pub use Rattle.mig_guest.proofs.KeyedMaps.{tied}
@@ -26,9 +26,9 @@ pub use Rattle.mig_guest.specs.declared.part_key.PartKey.{PartKey}
 pub use Rattle.mig_headers.specs.Pairs.{Pair}
 pub use Rattle.mig_headers.specs.declared.kind.Kind.{Kind}
 pub use Rattle.mig_headers.specs.declared.kind.Kind.TheVariants.{Hvm, Pv}
-pub use Rattle.mig_libxl.specs.Among.{image_among, is_libxl_ended}
-pub use Rattle.mig_libxl.specs.Spelled.{EmulatorsFit, FollowsLibxl, HasLibxlContent}
-pub use Rattle.mig_libxl.specs.Stream.StreamOf.{Bare, Wrapped}
+pub use Rattle.mig_libxl_form.specs.Among.{image_among, is_libxl_ended}
+pub use Rattle.mig_libxl_form.specs.Spelled.{EmulatorsFit, FollowsLibxl, HasLibxlContent}
+pub use Rattle.mig_libxl_form.specs.Stream.StreamOf.{Bare, Wrapped}
 pub use Rattle.mig_policy.proofs.KeyLaws.{pairs_are_read}
 pub use Rattle.mig_policy.proofs.PairMapLaws.{some_bytes_are_some_pairs}
 pub use Rattle.mig_policy.specs.PairMaps.{put_pairs, text_of_map}

@@ -6,14 +6,14 @@ use Rattle.mig_guest.proofs.KeyedMaps.{insert_leaves}
 use Rattle.mig_policy.specs.PairMaps.{pairs_in, map_of}
 use Rattle.mig_policy.proofs.PairMapLaws.{texts_are_canonical}
 use Rattle.mig_wrap.specs.Canon.{emulators_in_order}
-use Rattle.mig_emulators.specs.Emulators.{emulators_of, emulator_parts}
+use Rattle.mig_libxl_form.specs.Emulators.{emulators_of, emulator_parts}
 use Rattle.mig_wrap.proofs.Canon.{bare_get}
 use Rattle.mig_wrap.proofs.EmulatorParts.{KeysDiffer, in_order_holds, in_order_differ, emulators_found}
 use Rattle.mig_restore_form.proofs.PartsInOrder.{or_none}
 use Rattle.mig_wrap.proofs.EmulatorRecords.{content_of, record_of_part, some_pairs}
 use Rattle.std.proofs.lemmas.Bool.{or_left, or_right}
-use Rattle.mig_emulators.proofs.EmulatorGuests.{part_there}
-use Rattle.mig_emulators.proofs.Stores.{some_added}
+use Rattle.mig_libxl_form.proofs.EmulatorGuests.{part_there}
+use Rattle.mig_libxl_form.proofs.Stores.{some_added}
 
 -- ---- what records add
 

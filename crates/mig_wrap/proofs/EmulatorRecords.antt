@@ -8,9 +8,9 @@ use Rattle.mig_policy.specs.PairMaps.{pairs_in}
 use Rattle.mig_records.specs.Records.{head_of, spelled}
 use Rattle.mig_records.proofs.HeadBytes.{type_in_head, len_in_head}
 use Rattle.mig_wrap.specs.Canon.{emulator_body, emulator_record}
-use Rattle.mig_libxl.specs.Spelled.{IsFront, IsLibxlRecord}
-use Rattle.mig_libxl.specs.Spelled.HasLibxlContent.{pairs as says_pairs, context as says_context}
-use Rattle.mig_libxl.specs.Spelled.IsLibxlRecord.{body as a_body}
+use Rattle.mig_libxl_form.specs.Spelled.{IsFront, IsLibxlRecord}
+use Rattle.mig_libxl_form.specs.Spelled.HasLibxlContent.{pairs as says_pairs, context as says_context}
+use Rattle.mig_libxl_form.specs.Spelled.IsLibxlRecord.{body as a_body}
 use Rattle.mig_wrap.proofs.EmulatorParts.{IsEmulatorPart, small}
 use Rattle.mig_wrap.proofs.EmulatorTexts.{key_front, short_emulator}
 use Rattle.mig_canon.proofs.CanonParts.{is_record}

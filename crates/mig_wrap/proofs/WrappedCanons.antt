@@ -6,8 +6,8 @@ use Rattle.mig_guest.proofs.KeyedMaps.{insert_leaves}
 use Rattle.mig_policy.specs.PairMaps.{pairs_in}
 use Rattle.mig_policy.proofs.PairMapLaws.{texts_are_canonical}
 use Rattle.mig_wrap.specs.Canon.{emulator_record}
-use Rattle.mig_emulators.specs.Emulators.{emulators_of}
-use Rattle.mig_libxl.proofs.Among.{emulators_more, among_more, ended_more}
+use Rattle.mig_libxl_form.specs.Emulators.{emulators_of}
+use Rattle.mig_libxl_form.proofs.Among.{emulators_more, among_more, ended_more}
 use Rattle.mig_wrap.proofs.EmulatorParts.{IsEmulatorPart, KeysDiffer}
 use Rattle.mig_wrap.proofs.EmulatorRecords.{content_of, record_of_part, some_pairs, emulator_is_spelled}
 use Rattle.mig_wrap.proofs.EmulatorMaps.{apart}

@@ -3,7 +3,7 @@
 //!
 //! Responsible for: what stands around the image, which is the libxl header, the records of emulators in their order, and
 //! END; and the laws of the canonical stream. Left to others: images (mig_canon, mig_canon), what a stream is
-//! (mig_libxl), what the records of emulators mean (mig_emulators), record heads (mig_records). It takes no memory.
+//! (mig_libxl_form), what the records of emulators mean (mig_libxl_form), record heads (mig_records). It takes no memory.
 //!
 //! What the layers above rely on: `write_any` appends exactly the canonical stream of a guest, which is accepted with this
 //! guest, and that of no other.

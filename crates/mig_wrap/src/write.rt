@@ -16,7 +16,7 @@ use mig_bytes::{Sink, WriteFailed, put_all, put_u32_le};
 use mig_canon::write_canon;
 use mig_guest::{EMULATOR_CONTEXT as CONTEXT, EMULATOR_PAIRS as PAIRS, Guest, PartKey};
 use mig_headers::LibxlHeader;
-use mig_libxl::{LIBXC_CONTEXT, LIBXL_END};
+use mig_libxl_form::{LIBXC_CONTEXT, LIBXL_END};
 use mig_records::{write_head, write_padding, write_record};
 
 /// Appends the header of a libxl stream, and the record that an image follows. `legacy` says that the stream is made from

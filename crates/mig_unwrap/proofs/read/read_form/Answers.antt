@@ -1,6 +1,6 @@
 use Rattle.mig_unwrap.proofs.Common.{◌++◌, rules, sym, ◌∙◌, bare_at}
-use Rattle.mig_libxl.specs.Stream.{wrapped_at}
-use Rattle.mig_libxl.proofs.Forms.{form_wrapped}
+use Rattle.mig_libxl_form.specs.Stream.{wrapped_at}
+use Rattle.mig_libxl_form.proofs.Forms.{form_wrapped}
 use Rattle.mig_unwrap.proofs.Forms.{form_reads, form_stops, form_bare}
 use Rattle.mig_unwrap.proofs.read.read_form.Goals as goal
 

@@ -1,7 +1,7 @@
 use Rattle.mig_unwrap.proofs.Common.{refl, rules, ◌>>=◌, placed, Passes, judged_so, mapped, stopped, LibxlHeader, header_at, libxl_records_at, Wrapped}
 use Rattle.mig_bytes.proofs.Placed.{placed_then, placed_ends}
-use Rattle.mig_libxl.specs.Stream.{wrapped_at}
-use Rattle.mig_libxl.proofs.Forms.{behind_header}
+use Rattle.mig_libxl_form.specs.Stream.{wrapped_at}
+use Rattle.mig_libxl_form.proofs.Forms.{behind_header}
 use Rattle.mig_unwrap.proofs.Forms.{wrapped_is}
 use Rattle.mig_unwrap.proofs.read.read_wrapped.Goals as goal
 

@@ -1,9 +1,9 @@
 use Rattle.mig_unwrap.proofs.Common.{arith, refl, rules, is_libxl_ended, IsLibxlSeen, FollowsLibxl}
 use Rattle.mig_bytes.proofs.Arrivals.{arrived_first, arrived_next, arrived_end, arrived_ends}
-use Rattle.mig_libxl.specs.Judging.{libxl_record_at}
-use Rattle.mig_libxl.proofs.Among.{ended_more}
+use Rattle.mig_libxl_form.specs.Judging.{libxl_record_at}
+use Rattle.mig_libxl_form.proofs.Among.{ended_more}
 use Rattle.mig_unwrap.proofs.Arrivals.{is_last}
-use Rattle.mig_libxl.proofs.Records.{found}
+use Rattle.mig_libxl_form.proofs.Records.{found}
 use Rattle.mig_unwrap.proofs.read.take_records.Goals as goal
 
 pub loop-seen-init : goal.loop-seen-init

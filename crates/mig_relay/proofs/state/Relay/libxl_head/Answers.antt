@@ -1,6 +1,6 @@
 use Rattle.std.proofs.Common.{arith, refl, sym, ap, ◌∙◌, []}
 use Rattle.mig_headers.specs.declared.fault.Place.TheVariants.{LibxlRecord as AtRecord}
-use Rattle.mig_libxl.specs.Judging.{fault_of_libxl_head}
+use Rattle.mig_libxl_form.specs.Judging.{fault_of_libxl_head}
 use Rattle.mig_records.specs.declared.head.RecordHead.{RecordHead}
 use Rattle.mig_relay.specs.Steps.{answer_of}
 use Rattle.mig_relay.specs.declared.answer.RelayAnswer.TheVariants.{Refused}

@@ -1,7 +1,7 @@
 use Rattle.mig_unwrap.proofs.Common.{◌≡◌, Option, Some, subst, false, Pv, Reading, with_emulators, IsStreamedBare, WrapperSeen}
 use Rattle.std.specs.Prelude.{IfSome}
 use Rattle.mig_unwrap.specs.Seen.{IsLibxlBegun, IsClosed}
-use Rattle.mig_emulators.proofs.EmulatorGuests.{guest_done}
+use Rattle.mig_libxl_form.proofs.EmulatorGuests.{guest_done}
 use Rattle.mig_pvtables.specs.Whole.{IsStreamed}
 use Rattle.mig_unwrap.proofs.read.WrapperSeen.finish.Goals as goal
 

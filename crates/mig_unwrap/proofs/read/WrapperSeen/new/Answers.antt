@@ -1,5 +1,5 @@
 use Rattle.mig_unwrap.proofs.Common.{sym, subst, AreEmulators}
-use Rattle.mig_emulators.proofs.Formed.{none_yet}
+use Rattle.mig_libxl_form.proofs.Formed.{none_yet}
 use Rattle.mig_unwrap.proofs.read.WrapperSeen.new.Goals as goal
 
 pub returns-clause-begun : goal.returns-clause-begun

@@ -1,8 +1,8 @@
 use Rattle.mig_unwrap.proofs.Common.{◌≡◌, ◌≤◌, ◌<◌, ◌^◌, length, drop, rules, refl, sym, ap, subst, ◌∙◌, AreBytes, Context, emulator_key, Truncated}
 use Rattle.mig_bytes.specs.Fields.{le32}
-use Rattle.mig_libxl.specs.Judging.{fault_of_context}
+use Rattle.mig_libxl_form.specs.Judging.{fault_of_context}
 use Rattle.mig_unwrap.proofs.Begun.{context_begun}
-use Rattle.mig_libxl.proofs.Bodies.{fine_context}
+use Rattle.mig_libxl_form.proofs.Bodies.{fine_context}
 use Rattle.mig_bytes.proofs.Said.{said_read, said_refused}
 use Rattle.mig_unwrap.proofs.Taking.{are_read, read_in, context_bad_id, context_bad_index, context_put, takes_of, behind_front}
 use Rattle.mig_unwrap.proofs.read.WrapperSeen.take_context.Goals as goal

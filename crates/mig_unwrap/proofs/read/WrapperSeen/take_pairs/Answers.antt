@@ -1,7 +1,7 @@
 use Rattle.mig_unwrap.proofs.Common.{◌≡◌, ◌<◌, drop, rules, refl, sym, subst, ◌∙◌, All-drop, AreBytes, Pairs, emulator_key, Truncated}
 use Rattle.mig_policy.specs.PairMaps.{pairs_in}
-use Rattle.mig_libxl.specs.Judging.{fault_of_pairs}
-use Rattle.mig_emulators.proofs.Formed.{store_small}
+use Rattle.mig_libxl_form.specs.Judging.{fault_of_pairs}
+use Rattle.mig_libxl_form.proofs.Formed.{store_small}
 use Rattle.mig_unwrap.proofs.Begun.{pairs_begun}
 use Rattle.mig_bytes.proofs.Said.{said_read, said_refused}
 use Rattle.mig_unwrap.proofs.Taking.{are_read, read_in, pairs_bad, pairs_bad_id, pairs_too_many, pairs_bad_index, pairs_fine, pairs_put, takes_of, behind_front}

@@ -3,8 +3,8 @@ use Rattle.mig_bytes.specs.Judged.{stop_at}
 use Rattle.mig_bytes.proofs.Joins.{then_reads}
 use Rattle.mig_bytes.proofs.Placed.{placed_fine, placed_then, placed_ends}
 use Rattle.mig_headers.specs.declared.fault.Place.TheVariants.{LibxlRecord as AtRecord}
-use Rattle.mig_libxl.specs.Judging.{libxl_record_at}
-use Rattle.mig_libxl.proofs.Records.{behind_content, behind_head}
+use Rattle.mig_libxl_form.specs.Judging.{libxl_record_at}
+use Rattle.mig_libxl_form.proofs.Records.{behind_content, behind_head}
 use Rattle.mig_unwrap.proofs.Recorded.{begins, goes_behind, padded, seen_more}
 use Rattle.mig_unwrap.proofs.read.WrapperSeen.take_record.Goals as goal
 

@@ -1,5 +1,0 @@
-use Rattle.mig_libxl.proofs.Laws.{one_front}
-use Rattle.mig_libxl.proofs.law.one_front.Goals as goal
-
-pub returns : goal.returns
-returns c = one_front

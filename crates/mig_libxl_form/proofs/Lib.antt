@@ -1,0 +1,13 @@
+pub mod EmulatorCommon
+pub mod Stores
+pub mod EmulatorGuests
+pub mod EmulatorMeaning
+pub mod Formed
+pub mod Begun
+pub mod Common
+pub mod Among
+pub mod AcceptedWhole
+pub mod Bodies
+pub mod Forms
+pub mod Laws
+pub mod Records

@@ -1,0 +1,32 @@
+-- What the head of a libxl record is judged by, of the records before it.
+use Rattle.std.specs.Prelude.{◌≡◌, ◌≤◌, ◌<◌, ℕ, true, false, List, length, Option, Some, None, IsSome}
+use Rattle.mig_headers.specs.RecordTypes.{most_body}
+use Rattle.mig_headers.specs.declared.kind.Kind.{Kind}
+use Rattle.mig_headers.specs.declared.kind.Kind.TheVariants.{Pv}
+use Rattle.mig_restore_form.specs.Judging.{most_records}
+use Rattle.mig_restore_form.specs.Stream.{ImageOf}
+use Rattle.mig_libxl_form.specs.Content.{LibxlRecord}
+use Rattle.mig_libxl_form.specs.Among.{has_emulator, image_among}
+use Rattle.mig_libxl_form.specs.Judging.{allows_length}
+use Rattle.mig_libxl_form.specs.declared.head.RecordsBehind.{RecordsBehind}
+
+-- the kind of guest of an image, where there is one
+abbrev pub kind_of_image : Option ImageOf → Option Kind
+kind_of_image None = None
+kind_of_image (Some image) = Some image.opening.kind
+
+-- what is known of these records
+pub record AreBehind (behind : RecordsBehind) (records : List LibxlRecord) : Type 0 where
+  pub count : behind.records ≡ length records
+  pub emulated : behind.emulated ≡ has_emulator records
+  pub image : behind.image ≡ kind_of_image (image_among records)
+
+-- A head of this type and length may follow these records: its body is as long as the type allows, one more record has
+-- room, LIBXC_CONTEXT comes first, and END behind it, for a PV guest with no emulator.
+pub record MayFollow (behind : RecordsBehind) (type len : ℕ) : Type 0 where
+  pub small : len ≤ most_body
+  pub allowed : allows_length type len ≡ true
+  pub room : behind.records < most_records
+  pub first : type ≡ 1 → behind.image ≡ None
+  pub ends : type ≡ 0 → IsSome behind.image
+  pub alone : type ≡ 0 → behind.image ≡ Some Pv → behind.emulated ≡ false
