@@ -9,7 +9,7 @@ use Rattle.mig_guest.specs.Hosts.{HostOf, most_width}
 use Rattle.mig_host.specs.HostView.{HostAndSpare}
 use Rattle.mig_hosted.specs.Sound.{IsSound}
 use Rattle.mig_image.specs.Answer.{ReadsHost}
-use Rattle.mig_unwrap.specs.Reads.{ReadsStream}
+use Rattle.mig_libxl.specs.Reads.{ReadsStream}
 use Rattle.mig_restore.specs.declared.read.Reading.{Reading}
 use Rattle.mig_report.specs.declared.outcome.Outcome.{Outcome}
 use Rattle.mig_report.specs.declared.outcome.Outcome.TheVariants as outcomes

@@ -16,8 +16,8 @@ ghost use Rattle.mig_report.specs.Statuses.{EndsWithOwnLine, InputRises, PutsLin
 use crate::commands::unread;
 use mig_bytes::{Sink, Source};
 use mig_image::{Host, ImageAnswer, SoundAnswer, read_host};
+use mig_libxl::read_any;
 use mig_report::{Outcome, Refusal, Status, WalkEnd, WalkSummary, finish, put_walked};
-use mig_unwrap::read_any;
 use mig_walk::{Walked, walk_guest, walk_host};
 use std::alloc::Global;
 

@@ -3,7 +3,7 @@ ghost use Rattle.std.specs.Io.KnownBytes.{Appends};
 ghost use Rattle.mig_bytes.specs.Bytes.{AppendsPart};
 ghost use Rattle.mig_bytes.specs.Faults.{Rose};
 ghost use Rattle.mig_pvtables.specs.Whole.{IsWhole};
-ghost use Rattle.mig_wrap.specs.Canon.{canon_any};
+ghost use Rattle.mig_libxl.specs.Canon.{canon_any};
 ghost use Rattle.mig_commands.specs.Fronts.{restored_text};
 ghost use Rattle.mig_commands.specs.Outcomes.{outcome_of};
 ghost use Rattle.mig_commands.specs.Refusals.{HasLegacyRefusal, HasStreamRefusal};
@@ -20,10 +20,9 @@ use mig_bytes::{Sink, Source};
 use mig_guest::Guest;
 use mig_image::{HostAnswer, host_of, write_host};
 use mig_legacy::{LegacyAnswer, read_legacy};
+use mig_libxl::{read_any, write_any};
 use mig_report::{Outcome, Refusal, Status, Summary, finish, put_ok};
 use mig_restore::StreamAnswer;
-use mig_unwrap::read_any;
-use mig_wrap::write_any;
 use std::alloc::Global;
 
 /// The outcome where no stream is read.

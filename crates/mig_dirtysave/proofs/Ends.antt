@@ -13,8 +13,8 @@ use Rattle.mig_guest.specs.Parts.{PartMap}
 use Rattle.mig_records.specs.Records.{spelled}
 use Rattle.mig_canon.specs.Canon.{Record, headers, text_of}
 use Rattle.mig_canon.proofs.Spelling.{text_join, text_one}
-use Rattle.mig_wrap.specs.Canon.{has_emulators, is_of_converter, opening_text, wrapper_opening, wrapper_closing}
-use Rattle.mig_wrap.proofs.Around.{opening_none, opening_some}
+use Rattle.mig_libxl.specs.Canon.{has_emulators, is_of_converter, opening_text, wrapper_opening, wrapper_closing}
+use Rattle.mig_libxl.proofs.Around.{opening_none, opening_some}
 use Rattle.mig_records_pages.specs.Told.{FrameTold, telling_record, all_told}
 use Rattle.mig_records_pages.specs.Written.{WroteAll, WroteSome, IsRecordWithin, AreRecordsWithin}
 use Rattle.mig_records_pages.specs.Batches.{IsBehind}

@@ -12,7 +12,7 @@ use Rattle.mig_guest.specs.Hosts.{HostOf, HostFrame, IsValid}
 use Rattle.mig_canon.specs.Canon.{headers, text_of}
 use Rattle.mig_records_pages.specs.Told.{telling_record}
 use Rattle.mig_hosted.specs.View.{view}
-use Rattle.mig_wrap.specs.Canon.{wrapper_opening, wrapper_closing}
+use Rattle.mig_libxl.specs.Canon.{wrapper_opening, wrapper_closing}
 use Rattle.mig_libxl_form.specs.Spelled.{AcceptedStream}
 use Rattle.mig_guest.specs.History.{History}
 use Rattle.mig_guest.specs.MachineStates.{MachineState}

@@ -20,10 +20,10 @@ use Rattle.mig_hosted.specs.Sound.{unsoundness}
 use Rattle.mig_hosted.specs.View.{view, top_of}
 use Rattle.mig_hosted.proofs.SoundRows.{sound_is_faultless}
 use Rattle.mig_hosted.proofs.ViewedGuests.{viewed_whole}
-use Rattle.mig_wrap.specs.Canon.{bare_guest, wrapper_opening, wrapper_closing}
+use Rattle.mig_libxl.specs.Canon.{bare_guest, wrapper_opening, wrapper_closing}
 use Rattle.mig_libxl_form.specs.Spelled.{AcceptedStream}
-use Rattle.mig_wrap.proofs.Alike.{opening_alike, closing_alike}
-use Rattle.mig_wrap.proofs.AnyCanons.{around_is_accepted}
+use Rattle.mig_libxl.proofs.Alike.{opening_alike, closing_alike}
+use Rattle.mig_libxl.proofs.AnyCanons.{around_is_accepted}
 use Rattle.mig_guest.specs.MachineStates.{MachineState}
 use Rattle.mig_records_pages.specs.Told.{FrameTold, telling_frames, telling_record}
 use Rattle.mig_restore_form.specs.Spelled.{Accepted}

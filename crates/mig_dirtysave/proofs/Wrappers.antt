@@ -20,11 +20,11 @@ use Rattle.mig_guest.specs.Parts.{Part, PartMap}
 use Rattle.mig_records.specs.Records.{spelled}
 use Rattle.mig_canon.specs.Canon.{Record, text_of}
 use Rattle.mig_canon.proofs.Spelling.{text_one}
-use Rattle.mig_wrap.specs.Canon.{emulator_body, emulator_record, emulators_in_order, has_emulators, text_of_emulators, wrapper_opening, wrapper_closing}
-use Rattle.mig_wrap.proofs.Alike.{opening_alike, some_alike}
-use Rattle.mig_wrap.proofs.Around.{closing_none, closing_some}
-use Rattle.mig_wrap.proofs.EmulatorParts.{IsEmulatorPart, in_order_holds}
-use Rattle.mig_wrap.proofs.EmulatorTexts.{short_emulator}
+use Rattle.mig_libxl.specs.Canon.{emulator_body, emulator_record, emulators_in_order, has_emulators, text_of_emulators, wrapper_opening, wrapper_closing}
+use Rattle.mig_libxl.proofs.Alike.{opening_alike, some_alike}
+use Rattle.mig_libxl.proofs.Around.{closing_none, closing_some}
+use Rattle.mig_libxl.proofs.EmulatorParts.{IsEmulatorPart, in_order_holds}
+use Rattle.mig_libxl.proofs.EmulatorTexts.{short_emulator}
 use Rattle.mig_records_pages.specs.Written.{IsRecordWithin, AreRecordsWithin, WroteSome}
 use Rattle.mig_guest.specs.MachineStates.{MachineState}
 use Rattle.mig_rounds.specs.Live.{StaysSame}

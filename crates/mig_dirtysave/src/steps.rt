@@ -10,7 +10,7 @@ ghost use Rattle.mig_guest.specs.History.{no_history};
 ghost use Rattle.mig_guest.specs.MachineStates.{IsValidState};
 ghost use Rattle.mig_rounds.specs.Parts.{total};
 ghost use Rattle.mig_rounds.specs.Live.{StaysSame, HasRounds, IsTight, FramesSaved, SawTypes, AnswersTables, IsUnsound};
-ghost use Rattle.mig_wrap.specs.Canon.{wrapper_opening, wrapper_closing};
+ghost use Rattle.mig_libxl.specs.Canon.{wrapper_opening, wrapper_closing};
 ghost use Rattle.mig_around.specs.SaveTexts.{text_before};
 ghost use Rattle.mig_dirtysave.specs.SaveAnswers.{IfUnsound};
 ghost use Rattle.mig_dirtysave.specs.declared.answer.SaveAnswer.TheVariants.{MachineFault, WriteFault};
@@ -21,8 +21,8 @@ use mig_bytes::Sink;
 use mig_guest::Guest;
 use mig_guest::mig_machine_api::Machine;
 use mig_headers::Unsound;
+use mig_libxl::{write_closing, write_opening};
 use mig_rounds::{Room, SendFault, Sent, send_frames};
-use mig_wrap::{write_closing, write_opening};
 
 /// Writes what stands before the frames.
 pub(crate) fn open<K: Sink>(sink: &mut K, early: &Guest) -> Result<(), SaveAnswer>

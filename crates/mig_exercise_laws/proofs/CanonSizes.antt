@@ -31,7 +31,7 @@ use Rattle.mig_canon.proofs.PvRecords.{vcpus_end}
 use Rattle.mig_canon.proofs.Spelling.{spelled_flat, text_one, text_join, canon_is}
 use Rattle.mig_canon.proofs.CanonFrames.{body_len, take_more, all_taken}
 use Rattle.mig_canon.proofs.PvMaps.{vcpus_more}
-use Rattle.mig_wrap.specs.Canon.{is_of_converter, opening_text, text_of_emulators, emulators_in_order, wrapper_opening, wrapper_closing, canon_any}
+use Rattle.mig_libxl.specs.Canon.{is_of_converter, opening_text, text_of_emulators, emulators_in_order, wrapper_opening, wrapper_closing, canon_any}
 
 -- ---- headers and records
 

@@ -1,7 +1,7 @@
 ghost use Rattle.std.specs.Prelude.{◌≡◌, ◌≤◌, ◌*◌, ℕ, length, None};
 ghost use Rattle.mig_hosted.specs.Sound.{unsoundness};
 ghost use Rattle.mig_hosted.specs.View.{view};
-ghost use Rattle.mig_wrap.specs.Canon.{canon_any};
+ghost use Rattle.mig_libxl.specs.Canon.{canon_any};
 ghost use Rattle.mig_lines.specs.Groups.{ran};
 ghost use Rattle.mig_lines.specs.HostLines.{after};
 ghost use Rattle.mig_paced.specs.Paced.{Paced};

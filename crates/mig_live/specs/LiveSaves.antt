@@ -13,7 +13,7 @@ use Rattle.mig_records_pages.specs.Told.{FrameTold, telling_record, all_told}
 use Rattle.mig_hosted.specs.Sound.{unsoundness}
 use Rattle.mig_hosted.specs.View.{view}
 use Rattle.mig_image.specs.ImageForm.{host_at}
-use Rattle.mig_wrap.specs.Canon.{wrapper_opening, wrapper_closing}
+use Rattle.mig_libxl.specs.Canon.{wrapper_opening, wrapper_closing}
 use Rattle.mig_libxl_form.specs.Spelled.{AcceptedStream}
 use Rattle.mig_rounds.specs.Entries.{pfns_sent}
 use Rattle.mig_around.specs.SaveTexts.{IsOtherRecord}

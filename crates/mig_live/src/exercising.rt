@@ -6,7 +6,7 @@ ghost use Rattle.mig_exercise.specs.ExerciseScripts.{script_of_exercise};
 ghost use Rattle.mig_guest.specs.Guests.{GuestOf};
 ghost use Rattle.mig_hosted.specs.Sound.{unsoundness};
 ghost use Rattle.mig_hosted.specs.View.{view};
-ghost use Rattle.mig_wrap.specs.Canon.{canon_any};
+ghost use Rattle.mig_libxl.specs.Canon.{canon_any};
 ghost use Rattle.mig_libxl_form.specs.Spelled.{AcceptedStream};
 ghost use Rattle.mig_pvtables.specs.Blank.{blank as blank_form};
 ghost use Rattle.mig_pvtables.specs.Whole.{IsWhole};
@@ -23,11 +23,10 @@ use mig_exercise::{exercise_host, exercise_script};
 use mig_exercise_laws::exercise_is_saved;
 use mig_guest::Guest;
 use mig_image::{Host, HostAnswer, SoundAnswer, guest_of, host_of, hosted_is_seen, hosted_is_sound};
+use mig_libxl::{read_any, write_any};
 use mig_machine::ScriptMachine;
 use mig_report::{ExerciseSummary, Outcome, SaveSummary, Status, finish, put_exercised};
 use mig_restore::StreamAnswer;
-use mig_unwrap::read_any;
-use mig_wrap::write_any;
 use std::alloc::Global;
 
 /// The machine frame of the first frame of a guest that is restored.

@@ -31,7 +31,7 @@ use Rattle.mig_hosted.specs.Normalised.{normalised_of}
 use Rattle.mig_hosted.specs.Sound.{IsSound}
 use Rattle.mig_hosted.specs.View.{view, guest_in, top_of, without_machine}
 use Rattle.mig_hosted.proofs.ViewedGuests.{viewed_whole, viewed_blank}
-use Rattle.mig_wrap.proofs.Canon.{pv_plain}
+use Rattle.mig_libxl.proofs.Canon.{pv_plain}
 use Rattle.mig_guest.specs.Footprints.{footprint_of}
 use Rattle.mig_rounds.specs.Forms.{form_of_print}
 use Rattle.mig_rounds.specs.Live.{forms}

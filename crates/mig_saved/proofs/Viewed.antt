@@ -19,8 +19,8 @@ use Rattle.mig_canon.specs.Canon.{Frame}
 use Rattle.mig_restore_form.specs.Spelled.{Accepted, IsComplete}
 use Rattle.mig_canon.specs.Batched.{IsSendableBatch, TellFrames, frames_told, batched}
 use Rattle.mig_canon.proofs.Batched.{batched_is_accepted}
-use Rattle.mig_wrap.specs.Canon.{bare_guest}
-use Rattle.mig_wrap.proofs.Canon.{bare_is, bare_plain, bare_whole, batched_bare}
+use Rattle.mig_libxl.specs.Canon.{bare_guest}
+use Rattle.mig_libxl.proofs.Canon.{bare_is, bare_plain, bare_whole, batched_bare}
 use Rattle.mig_records_pages.specs.Told.{FrameTold, telling_frames, all_told}
 use Rattle.mig_records_pages.specs.Batches.{AreSized}
 use Rattle.mig_rounds.specs.Entries.{AreTold, meant}

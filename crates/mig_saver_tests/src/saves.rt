@@ -10,9 +10,9 @@ use mig_faulty::{FailingMachine, ForgetfulMachine};
 use mig_guest::Guest;
 use mig_guest::mig_machine_api::Machine;
 use mig_image::Host;
+use mig_libxl::read_any;
 use mig_machine::ScriptMachine;
 use mig_script::Script;
-use mig_unwrap::read_any;
 use std::alloc::Global;
 use std::test::Fail;
 

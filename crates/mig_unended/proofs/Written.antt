@@ -15,7 +15,7 @@ use Rattle.mig_records.proofs.HeadBytes.{type_in_head, len_in_head}
 use Rattle.mig_canon.specs.Canon.{Record, text_of, headers}
 use Rattle.mig_records_pages.specs.Written.{IsShortRecord, AreRecordsWithin, WroteAll, WroteSome}
 use Rattle.mig_records_pages.proofs.Written.{none_of_next}
-use Rattle.mig_wrap.specs.Canon.{opening_text}
+use Rattle.mig_libxl.specs.Canon.{opening_text}
 use Rattle.mig_unended.specs.Unended.{AreRecords, HaveNoEnd, AreCutOff, IsUnendedImage, IsUnclosedImage, IsUnended}
 use Rattle.mig_unended.specs.Unread.{HasNoStream, WroteNoStream, EndedImage}
 use Rattle.mig_unended.proofs.Images.{first_number}

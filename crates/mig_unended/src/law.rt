@@ -5,7 +5,7 @@ ghost use Rattle.mig_bytes.specs.Bytes.{AppendsPart};
 ghost use Rattle.mig_headers.specs.declared.kind.Kind.{Kind};
 ghost use Rattle.mig_canon.specs.Canon.{Record, headers};
 ghost use Rattle.mig_records_pages.specs.Written.{WroteAll, WroteSome};
-ghost use Rattle.mig_wrap.specs.Canon.{opening_text};
+ghost use Rattle.mig_libxl.specs.Canon.{opening_text};
 ghost use Rattle.mig_unended.specs.Unended.{IsUnended};
 ghost use Rattle.mig_unended.specs.Unread.{HasNoStream, WroteNoStream, EndedImage};
 

@@ -3,7 +3,7 @@ use Rattle.mig_hosted.specs.Sound.{unsoundness}
 use Rattle.mig_rounds.specs.Parts.{total}
 use Rattle.mig_guest.specs.Hosts.{HostOf}
 use Rattle.std.specs.Io.KnownBytes.{Appends}
-use Rattle.mig_wrap.proofs.Alike.{closing_alike}
+use Rattle.mig_libxl.proofs.Alike.{closing_alike}
 use Rattle.mig_around.specs.KeptParts.{is_early}
 use Rattle.mig_standing.specs.Standing.{is_of_no_type}
 use Rattle.mig_standing.specs.Unsoundness.{UnsoundHas}

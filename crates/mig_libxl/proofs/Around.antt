@@ -1,0 +1,32 @@
+-- What stands around an image.
+use Rattle.mig_libxl.proofs.WritingCommon.{◌≡◌, true, false, cond, List, [], ◌++◌, ℕ, Option, Some, None, refl, sym, ap, append-nil, GuestOf, PartMap, has_emulators, is_of_converter, text_of_emulators}
+use Rattle.std.specs.Io.KnownBytes.{Appends}
+use Rattle.mig_records.specs.Records.{spelled}
+use Rattle.mig_canon.specs.Canon.{canon}
+use Rattle.mig_libxl.specs.Canon.{canon_any, emulators_in_order, opening_text, wrapper_opening, wrapper_closing}
+
+module _ (parts : PartMap) where
+  pub opening_some : has_emulators parts ≡ true → wrapper_opening parts ≡ opening_text (is_of_converter parts)
+  unfolding wrapper_opening
+  opening_some some = ap (λ b. cond b (opening_text (is_of_converter parts)) []) some
+
+  pub opening_none : has_emulators parts ≡ false → wrapper_opening parts ≡ []
+  unfolding wrapper_opening
+  opening_none none = ap (λ b. cond b (opening_text (is_of_converter parts)) []) none
+
+  pub closing_some : has_emulators parts ≡ true → wrapper_closing parts ≡ text_of_emulators (emulators_in_order parts) ++ spelled 0 []
+  unfolding wrapper_closing
+  closing_some some = ap (λ b. cond b (text_of_emulators (emulators_in_order parts) ++ spelled 0 []) []) some
+
+  pub closing_none : has_emulators parts ≡ false → wrapper_closing parts ≡ []
+  unfolding wrapper_closing
+  closing_none none = ap (λ b. cond b (text_of_emulators (emulators_in_order parts) ++ spelled 0 []) []) none
+
+-- no bytes were appended
+pub nothing_more : (old : Option (List ℕ)) → Appends old old []
+nothing_more None = tt
+nothing_more (Some text) = sym (append-nil text)
+
+pub canon_any_is : (g : GuestOf) → canon_any g ≡ wrapper_opening g.parts ++ (canon g ++ wrapper_closing g.parts)
+unfolding canon_any
+canon_any_is g = refl

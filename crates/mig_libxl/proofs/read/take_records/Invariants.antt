@@ -1,0 +1,15 @@
+use Rattle.std.proofs.Common.{◌≡◌, ◌≤◌, ◌-◌, ◌^◌}
+use Rattle.mig_libxl.specs.Seen.{IsLibxlBegun}
+use Rattle.mig_libxl.proofs.Arrivals.{Arrived}
+use Rattle.mig_libxl.proofs.read.take_records.Given as goal
+
+abbrev pub invariant-loop-seen : goal.invariant-loop-seen
+invariant-loop-seen g l = record {
+  arrived : Arrived (g.S.Source.left l.fn.src) (g.S.Source.left l.src) l.seen;
+  begun : IsLibxlBegun l.seen;
+  few : l.seen.records ≤ 2 ^ 28;
+  quiet : g.S.Source.faults l.src ≡ g.S.Source.faults l.fn.src;
+}
+
+abbrev pub decreases-loop-seen : goal.decreases-loop-seen
+decreases-loop-seen g l = 2 ^ 28 - l.seen.records

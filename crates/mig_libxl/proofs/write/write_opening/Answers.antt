@@ -1,0 +1,8 @@
+use Rattle.std.proofs.Common.{sym, subst, ◌∙◌}
+use Rattle.std.specs.Io.KnownBytes.{Appends}
+use Rattle.mig_libxl.proofs.Around.{opening_none, nothing_more}
+use Rattle.mig_libxl.proofs.write.write_opening.Goals as goal
+
+pub returns-else-has_emulators-clause-bytes : goal.returns-else-has_emulators-clause-bytes
+returns-else-has_emulators-clause-bytes g c =
+    subst (Appends (g.K.Sink.written c.args.sink.now) (g.K.Sink.written c.args.sink.now)) (sym (opening_none c.args.guest.now.parts (sym c.has_emulators.ensures ∙ c.if-has_emulators.false))) (nothing_more _)

@@ -1,5 +1,0 @@
-use Rattle.mig_wrap.proofs.AnyCanons.{twice_is_once}
-use Rattle.mig_wrap.proofs.canon_law.twice_is_once.Goals as goal
-
-pub returns : goal.returns
-returns c = twice_is_once
