@@ -5,8 +5,8 @@ use Rattle.mig_guest.specs.Frames.{IsFew}
 use Rattle.mig_records.proofs.BodyBytes.{bytes_front, bytes_back}
 use Rattle.mig_bytes.specs.Sequences.{Spells}
 use Rattle.mig_bytes.specs.Sequences.Spells.{no_part, one_more}
-use Rattle.mig_chunks.specs.Chunks.{IsWithinLimits}
-use Rattle.mig_chunks.proofs.ChunkNumbers.{sound_kind}
+use Rattle.mig_legacy.specs.Chunks.{IsWithinLimits}
+use Rattle.mig_legacy.proofs.ChunkNumbers.{sound_kind}
 use Rattle.mig_libxl_form.proofs.Formed.{none_yet}
 use Rattle.mig_pvtables.specs.Whole.{IsWhole}
 use Rattle.mig_restore_form.proofs.Growth.{empty_begun, grows_not}

@@ -5,7 +5,7 @@ use Rattle.mig_legacy.proofs.Common.{◌≡◌, ℕ, ◌+◌, ◌*◌, ◌/◌, 
 use Rattle.mig_legacy.specs.Spelled.HasLegacyContent.{ends, batch, vcpus, clock, last_checkpoint, toolstack as a_toolstack, value}
 use Rattle.mig_legacy.proofs.Batches.{batch_passes, batch_goes}
 use Rattle.mig_legacy.proofs.Parts.{not_less, not_most, said_spelled, spelled_said, spelled_counted, counted_spelled, toolstack_named, too_many}
-use Rattle.mig_chunks.proofs.Spelling.{toolstack_spelled}
+use Rattle.mig_legacy.proofs.Spelling.{toolstack_spelled}
 
 -- ---- what a body that passes says
 

@@ -8,8 +8,8 @@ use Rattle.mig_pagetypes.specs.Limits.{most_frames}
 use Rattle.mig_legacy.proofs.Bodies.{body_says, body_goes}
 use Rattle.mig_legacy.proofs.Chunked.{chunk_of}
 use Rattle.mig_legacy.proofs.Parts.{not_less, not_most, said_spelled, spelled_said}
-use Rattle.mig_chunks.proofs.ChunkNumbers.{numbers_have_kinds}
-use Rattle.mig_chunks.proofs.KindNumbers.{kinds_have_numbers}
+use Rattle.mig_legacy.proofs.ChunkNumbers.{numbers_have_kinds}
+use Rattle.mig_legacy.proofs.KindNumbers.{kinds_have_numbers}
 
 -- ---- where a chunk may stand
 

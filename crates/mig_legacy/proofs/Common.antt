@@ -33,10 +33,10 @@ pub use Rattle.mig_headers.specs.declared.legacy_fault.LegacyCause.{LegacyCause}
 pub use Rattle.mig_headers.specs.declared.legacy_fault.LegacyCause.TheVariants.{Truncated, BodyTooLong, Modern, Tools32, BadContext, BadSignature, TooManyPairs, BadVcpuMax, BadToolstack}
 pub use Rattle.mig_headers.specs.declared.legacy_fault.LegacyPlace.{LegacyPlace}
 pub use Rattle.mig_headers.specs.declared.legacy_fault.LegacyPlace.TheVariants.{Start, Tail, Device, Chunk}
-pub use Rattle.mig_chunks.specs.Batches.{is_reserved, is_high, fault_of_batch, batch_rows, page_data_words, page_data_word, page_data_words_of}
-unfoldable pub use Rattle.mig_chunks.specs.Chunks.{kind_of}
-pub use Rattle.mig_chunks.specs.Chunks.{IsNumberOf, number_causes, kind_numbered, unless_caused}
-unfoldable pub use Rattle.mig_chunks.specs.Judged.{toolstack, toolstack_fault}
+pub use Rattle.mig_legacy.specs.Batches.{is_reserved, is_high, fault_of_batch, batch_rows, page_data_words, page_data_word, page_data_words_of}
+unfoldable pub use Rattle.mig_legacy.specs.Chunks.{kind_of}
+pub use Rattle.mig_legacy.specs.Chunks.{IsNumberOf, number_causes, kind_numbered, unless_caused}
+unfoldable pub use Rattle.mig_legacy.specs.Judged.{toolstack, toolstack_fault}
 unfoldable pub use Rattle.mig_legacy.specs.LegacyForm.{tail_form, chunk_form}
 pub use Rattle.mig_legacy.specs.LegacyForm.{most_chunks, is_unpaired, frames_sent, pairs_of_toolstack, context_fault, signature, start_causes, place_causes, max_causes, length_causes, toolstack_causes, signature_causes, plain_form, length_form, counted_form, start_form, type_form, words_form, page_of_word, entry_form, batch_form, vcpus_form, clock_of, clock_form, toolstack_form, value_form, content_form, cut_context, tail_of, device_form}
 unfoldable pub use Rattle.mig_legacy.specs.Legacy.{mean_legacy}
@@ -47,10 +47,10 @@ pub use Rattle.mig_legacy.specs.Seen.{put_in_guest, put_tail, IsLegacySeen, put_
 pub use Rattle.mig_legacy.specs.Spelled.{IsCounted, IsLegacyWord, IsLegacyBatch, FollowsLegacy, IsLegacy, AcceptedLegacy, IsStart, IsTail, IsDevice, IsLegacyComplete, HasLegacyContent, StoreFits}
 unfoldable pub use Rattle.mig_legacy.specs.Stream.{device_at, legacy_at}
 pub use Rattle.mig_legacy.specs.Stream.{chunks_at, placed_chunk, IsLegacyRefused}
-pub use Rattle.mig_chunks.specs.Texts.{pairs_of_physmap, text_of_physmaps}
-pub use Rattle.mig_chunks.specs.Toolstack.{Physmap, IsToolstack}
-pub use Rattle.mig_chunks.specs.declared.chunk.ChunkKind.{ChunkKind}
-pub use Rattle.mig_chunks.specs.declared.chunk.ChunkKind.TheVariants.{End, Batch, VcpuMap, Tsc, LastCheckpoint, Toolstack, Param}
+pub use Rattle.mig_legacy.specs.Texts.{pairs_of_physmap, text_of_physmaps}
+pub use Rattle.mig_legacy.specs.Toolstack.{Physmap, IsToolstack}
+pub use Rattle.mig_legacy.specs.declared.chunk.ChunkKind.{ChunkKind}
+pub use Rattle.mig_legacy.specs.declared.chunk.ChunkKind.TheVariants.{End, Batch, VcpuMap, Tsc, LastCheckpoint, Toolstack, Param}
 pub use Rattle.mig_legacy.specs.declared.read.ChunksSeen.{ChunksSeen}
 pub use Rattle.mig_libxl_form.proofs.Formed.{store_small, pairs_kept, context_kept}
 pub use Rattle.mig_libxl_form.proofs.EmulatorGuests.{part_there, guest_done}

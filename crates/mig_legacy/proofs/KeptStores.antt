@@ -8,11 +8,11 @@ use Rattle.std.specs.Prelude.{◌==◌}
 use Rattle.mig_headers.specs.Pairs.{IsPair, is_key_byte, text_of_pair}
 use Rattle.mig_policy.proofs.KeyLaws.{spelled_read}
 use Rattle.mig_records.proofs.BodyBytes.{bytes_front, bytes_back}
-use Rattle.mig_chunks.specs.Texts.{digit_value, hexadecimal, name_pairs, physmap_pair}
-use Rattle.mig_chunks.specs.Toolstack.{ArePhysmaps, name_bytes}
-use Rattle.mig_chunks.proofs.Digits.{digits_spell}
-use Rattle.mig_chunks.proofs.PhysmapPairs.{physmaps_spell}
-use Rattle.mig_chunks.proofs.Spelling.{toolstack_spelled}
+use Rattle.mig_legacy.specs.Texts.{digit_value, hexadecimal, name_pairs, physmap_pair}
+use Rattle.mig_legacy.specs.Toolstack.{ArePhysmaps, name_bytes}
+use Rattle.mig_legacy.proofs.Digits.{digits_spell}
+use Rattle.mig_legacy.proofs.PhysmapPairs.{physmaps_spell}
+use Rattle.mig_legacy.proofs.Spelling.{toolstack_spelled}
 
 abbrev IsByte : ℕ → Type 0
 IsByte b = b < 256

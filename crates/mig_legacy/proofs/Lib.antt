@@ -1,3 +1,16 @@
+pub mod ChunkCommon
+pub mod BatchFaults
+pub mod BatchLaws
+pub mod ChunkNumbers
+pub mod Digits
+pub mod Entries
+pub mod Fields
+pub mod KindNumbers
+pub mod NameForms
+pub mod Names
+pub mod PhysmapPairs
+pub mod Spelling
+pub mod WordLaws
 pub mod Common
 pub mod Growth
 pub mod Chunked

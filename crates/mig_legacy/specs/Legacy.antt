@@ -15,8 +15,8 @@ use Rattle.mig_restore_form.specs.Record.Content.{Frames as SentFrames, Sets}
 use Rattle.mig_libxl_form.specs.Content.{LibxlRecord}
 use Rattle.mig_libxl_form.specs.Content.LibxlContent.{Pairs as StorePairs, Context}
 use Rattle.mig_libxl_form.specs.Emulators.{EmulatorsOf, emulators_of, with_emulators}
-use Rattle.mig_chunks.specs.declared.chunk.ChunkKind.{ChunkKind}
-use Rattle.mig_chunks.specs.declared.chunk.ChunkKind.TheVariants as kinds
+use Rattle.mig_legacy.specs.declared.chunk.ChunkKind.{ChunkKind}
+use Rattle.mig_legacy.specs.declared.chunk.ChunkKind.TheVariants as kinds
 
 -- what a chunk says: nothing; the frames of a batch; the value of an HVM parameter; how time passes; or pairs of the
 -- device model's store

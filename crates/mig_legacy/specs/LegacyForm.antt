@@ -25,12 +25,12 @@ use Rattle.mig_restore_form.specs.Judging.{type_in_word}
 use Rattle.mig_restore_form.specs.Mean.{sent}
 use Rattle.mig_restore_form.specs.Record.{FrameEntry}
 use Rattle.mig_libxl_form.specs.Emulators.{EmulatorsOf, emulators_of, most_pairs, spelled_with}
-use Rattle.mig_chunks.specs.declared.chunk.ChunkKind.{ChunkKind}
-use Rattle.mig_chunks.specs.declared.chunk.ChunkKind.TheVariants.{End, Batch, VcpuMap, Tsc, LastCheckpoint, Toolstack, Param}
-use Rattle.mig_chunks.specs.Batches.{fault_of_batch, page_data_words}
-use Rattle.mig_chunks.specs.Chunks.{number_causes, kind_numbered}
-use Rattle.mig_chunks.specs.Judged.{toolstack, toolstack_fault}
-use Rattle.mig_chunks.specs.Texts.{pairs_of_physmap}
+use Rattle.mig_legacy.specs.declared.chunk.ChunkKind.{ChunkKind}
+use Rattle.mig_legacy.specs.declared.chunk.ChunkKind.TheVariants.{End, Batch, VcpuMap, Tsc, LastCheckpoint, Toolstack, Param}
+use Rattle.mig_legacy.specs.Batches.{fault_of_batch, page_data_words}
+use Rattle.mig_legacy.specs.Chunks.{number_causes, kind_numbered}
+use Rattle.mig_legacy.specs.Judged.{toolstack, toolstack_fault}
+use Rattle.mig_legacy.specs.Texts.{pairs_of_physmap}
 use Rattle.mig_legacy.specs.Legacy.{LegacyContent, LegacyChunk, LegacyTail, is_end, has_value, store_key, image_records, store_records}
 use Rattle.mig_legacy.specs.Legacy.LegacyContent.{Nothing, Frames, Value, Clock, Pairs}
 

@@ -15,15 +15,15 @@ use Rattle.mig_restore_form.specs.Mean.{sent}
 use Rattle.mig_restore_form.specs.Record.{FrameEntry}
 use Rattle.mig_restore_form.specs.Spelled.{AreEntries}
 use Rattle.mig_libxl_form.specs.Emulators.{emulators_of, most_pairs, spelled_with}
-use Rattle.mig_chunks.specs.declared.chunk.ChunkKind.{ChunkKind}
-use Rattle.mig_chunks.specs.declared.chunk.ChunkKind.TheVariants.{End, Batch, VcpuMap, Tsc, LastCheckpoint, Toolstack, Param}
-use Rattle.mig_chunks.specs.Batches.{is_reserved, is_high, page_data_words}
-use Rattle.mig_chunks.specs.Chunks.{IsNumberOf}
+use Rattle.mig_legacy.specs.declared.chunk.ChunkKind.{ChunkKind}
+use Rattle.mig_legacy.specs.declared.chunk.ChunkKind.TheVariants.{End, Batch, VcpuMap, Tsc, LastCheckpoint, Toolstack, Param}
+use Rattle.mig_legacy.specs.Batches.{is_reserved, is_high, page_data_words}
+use Rattle.mig_legacy.specs.Chunks.{IsNumberOf}
 use Rattle.mig_legacy.specs.LegacyForm.{most_chunks, signature}
 use Rattle.mig_legacy.specs.Legacy.{LegacyContent, LegacyChunk, LegacyTail, LegacyStream, is_legacy_ended, has_value, store_key, image_records, store_records, mean_legacy}
 use Rattle.mig_legacy.specs.Legacy.LegacyContent.{Nothing, Frames, Value, Clock, Pairs}
-use Rattle.mig_chunks.specs.Texts.{pairs_of_physmap}
-use Rattle.mig_chunks.specs.Toolstack.{Physmap, IsToolstack}
+use Rattle.mig_legacy.specs.Texts.{pairs_of_physmap}
+use Rattle.mig_legacy.specs.Toolstack.{Physmap, IsToolstack}
 
 -- ---- a chunk
 

@@ -7,14 +7,16 @@ ghost use Rattle.mig_bytes_form.specs.Form.{judged_as};
 ghost use Rattle.mig_headers.specs.declared.kind.Kind.TheVariants.{Hvm};
 ghost use Rattle.mig_restore_form.specs.Mean.{Grows};
 ghost use Rattle.mig_libxl_form.specs.Formed.{AreEmulators};
-ghost use Rattle.mig_chunks.specs.Batches.{fault_of_batch};
+ghost use Rattle.mig_legacy.specs.Batches.{fault_of_batch};
 ghost use Rattle.mig_legacy.specs.LegacyForm.{length_form, words_form, batch_form, clock_of as clock_in, vcpus_form, clock_form, value_form, toolstack_form};
 ghost use Rattle.mig_legacy.specs.Legacy.{LegacyContent, param_key as key_of_param};
 ghost use Rattle.mig_legacy.specs.Legacy.LegacyContent.{Nothing};
 ghost use Rattle.mig_legacy.specs.Seen.{cut_short, put_in_guest, put_in_emulators};
 
+use crate::batch::{batch_fault, page_data_words};
+use crate::text::put;
+use crate::toolstack::{physmap_pairs, toolstack_fault};
 use mig_bytes::{Memory, ReadFailed, Source, Stop, skip, take_long, take_part, u32_le};
-use mig_chunks::{batch_fault, page_data_words, physmap_pairs, put, toolstack_fault};
 use mig_guest::{EMULATOR_PAIRS, Guest, PartKey};
 use mig_headers::{Cause, LegacyCause, MOST_BODY};
 use mig_libxl_form::Emulators;

@@ -14,17 +14,17 @@ ghost use Rattle.mig_pagetypes.specs.Limits.{most_frames};
 ghost use Rattle.mig_pvtables.specs.Whole.{IsStreamed, IsStreamedBare};
 ghost use Rattle.mig_libxl_form.specs.Emulators.{with_emulators};
 ghost use Rattle.mig_libxl_form.specs.Formed.{AreEmulators};
-ghost use Rattle.mig_chunks.specs.declared.chunk.ChunkKind.TheVariants as kinds;
+ghost use Rattle.mig_legacy.specs.declared.chunk.ChunkKind.TheVariants as kinds;
 ghost use Rattle.mig_legacy.specs.LegacyForm.{most_chunks, start_causes, place_causes, start_form, type_form, content_form, chunk_form};
 ghost use Rattle.mig_legacy.specs.Legacy.{LegacyChunk, device_records, is_end, is_value_of, mean_legacy};
 ghost use Rattle.mig_legacy.specs.Seen.{IsLegacySeen, IsLegacyBegun, TakesLegacy, put_tail};
-ghost use Rattle.mig_chunks.specs.Chunks.{IsWithinLimits};
+ghost use Rattle.mig_legacy.specs.Chunks.{IsWithinLimits};
 ghost use Rattle.mig_legacy.specs.Stream.{chunks_at, legacy_at, ReadsLegacy};
 
 use crate::body::{take_batch, take_clock, take_toolstack, take_value, take_vcpus};
+use crate::chunk::{ChunkKind, chunk_kind};
 use crate::tail::{take_device, take_tail};
 use mig_bytes::{Answer, Memory, Source, Stop, answer_for, take_part, u32_le};
-use mig_chunks::{ChunkKind, chunk_kind};
 use mig_guest::Guest;
 use mig_headers::{ImageHeader, Kind, LegacyCause, LegacyPlace, LibxlHeader};
 use mig_libxl_form::Emulators;
@@ -121,7 +121,7 @@ impl ChunksSeen {
     }
 
     /// Takes the type of the next chunk.
-    #[tactic(auto, using(mig_chunks::proofs::ChunkNumbers::sound_kind), unfolding(mig_bytes_form::specs::Form::judged_as))]
+    #[tactic(auto, using(crate::proofs::ChunkNumbers::sound_kind), unfolding(mig_bytes_form::specs::Form::judged_as))]
     fn take_kind<S: Source>(&self, src: &mut S) -> Result<ChunkKind, Stop<LegacyCause>>
         ensures read { (chunks : List LegacyChunk) → IsLegacySeen self.now chunks → Gives (λ kind k. k ≡ kind) (S.left src.old) (S.left src.new) (judged_as (type_form chunks)) result }
         ensures sound { IfOk result (λ kind. IsWithinLimits kind) }

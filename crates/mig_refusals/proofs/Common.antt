@@ -126,23 +126,23 @@ unfoldable pub use Rattle.mig_libxl_form.specs.Stream.{stream_at, wrapped_at}
 pub use Rattle.mig_libxl_form.specs.Stream.{IsStreamRefused, bare_at, header_at, libxl_records_at}
 pub use Rattle.mig_libxl_form.specs.Stream.StreamOf.{Bare, Wrapped}
 pub use Rattle.mig_legacy.proofs.ChunkTexts.{finds as legacy_finds, goes as legacy_goes, not_ended as legacy_not_ended}
-pub use Rattle.mig_chunks.proofs.Entries.{faultless_first, faulty_first, nothing_left}
-pub use Rattle.mig_chunks.proofs.Fields.{first32}
-pub use Rattle.mig_chunks.proofs.NameForms.{name_passes, name_spelled}
-pub use Rattle.mig_chunks.proofs.Spelling.{behind_all, fault_of, fine as fine_entry, len_is}
+pub use Rattle.mig_legacy.proofs.Entries.{faultless_first, faulty_first, nothing_left}
+pub use Rattle.mig_legacy.proofs.Fields.{first32}
+pub use Rattle.mig_legacy.proofs.NameForms.{name_passes, name_spelled}
+pub use Rattle.mig_legacy.proofs.Spelling.{behind_all, fault_of, fine as fine_entry, len_is}
 pub use Rattle.mig_legacy.proofs.Streams.{behind_chunks, behind_start, behind_tail, stream_of}
 pub use Rattle.mig_legacy.proofs.TailTexts.{some_device, start_goes, start_passes, tail_goes, tail_passes}
-pub use Rattle.mig_chunks.specs.Batches.{fault_of_batch, is_high, is_reserved}
-pub use Rattle.mig_chunks.specs.Chunks.{negative, negative_causes}
-unfoldable pub use Rattle.mig_chunks.specs.Judged.{entry_fault, toolstack_fault}
-pub use Rattle.mig_chunks.specs.Judged.{entries_fault, entry_len, is_name, name_at, name_in, name_len}
+pub use Rattle.mig_legacy.specs.Batches.{fault_of_batch, is_high, is_reserved}
+pub use Rattle.mig_legacy.specs.Chunks.{negative, negative_causes}
+unfoldable pub use Rattle.mig_legacy.specs.Judged.{entry_fault, toolstack_fault}
+pub use Rattle.mig_legacy.specs.Judged.{entries_fault, entry_len, is_name, name_at, name_in, name_len}
 pub use Rattle.mig_legacy.specs.LegacyForm.{context_fault, pairs_of_toolstack, place_causes, signature}
 pub use Rattle.mig_legacy.specs.Legacy.{LegacyChunk, is_legacy_ended, store_key}
 pub use Rattle.mig_legacy.specs.Spelled.{AcceptedLegacy, FollowsLegacy, IsStart}
 unfoldable pub use Rattle.mig_legacy.specs.Stream.{device_at, legacy_at}
 pub use Rattle.mig_legacy.specs.Stream.{IsLegacyRefused, chunks_at, placed_chunk}
-pub use Rattle.mig_chunks.specs.Toolstack.{IsName, IsPhysmapHead, Physmap, name_bytes}
-pub use Rattle.mig_chunks.specs.declared.chunk.ChunkKind.{ChunkKind}
+pub use Rattle.mig_legacy.specs.Toolstack.{IsName, IsPhysmapHead, Physmap, name_bytes}
+pub use Rattle.mig_legacy.specs.declared.chunk.ChunkKind.{ChunkKind}
 pub use Rattle.mig_image.proofs.Chains.{put_all}
 pub use Rattle.mig_image.proofs.Frames.{frame_entries, frames_back as frames_said, frames_valid}
 pub use Rattle.mig_host.proofs.HostsMade.{valid_empty}

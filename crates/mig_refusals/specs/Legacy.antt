@@ -17,10 +17,10 @@ use Rattle.mig_headers.specs.declared.legacy_fault.LegacyPlace.TheVariants as pl
 use Rattle.mig_pagetypes.specs.LegacyWords.{legacy_type}
 use Rattle.mig_restore_form.specs.Mean.{sent}
 use Rattle.mig_libxl_form.specs.Emulators.{EmulatorsOf}
-use Rattle.mig_chunks.specs.declared.chunk.ChunkKind.{ChunkKind}
-use Rattle.mig_chunks.specs.Batches.{fault_of_batch}
-use Rattle.mig_chunks.specs.Chunks.{number_causes}
-use Rattle.mig_chunks.specs.Judged.{toolstack_fault}
+use Rattle.mig_legacy.specs.declared.chunk.ChunkKind.{ChunkKind}
+use Rattle.mig_legacy.specs.Batches.{fault_of_batch}
+use Rattle.mig_legacy.specs.Chunks.{number_causes}
+use Rattle.mig_legacy.specs.Judged.{toolstack_fault}
 use Rattle.mig_legacy.specs.Legacy.{LegacyChunk, LegacyTail, has_value, image_records, is_legacy_ended}
 use Rattle.mig_legacy.specs.LegacyForm.{context_fault, frames_sent, is_unpaired, signature, start_causes, place_causes, toolstack_causes, start_form, chunk_form, tail_form, device_form}
 use Rattle.mig_legacy.specs.Spelled.{IsStart, IsTail, FollowsLegacy}

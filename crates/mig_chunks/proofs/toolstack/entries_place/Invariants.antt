@@ -1,5 +1,0 @@
-use Rattle.mig_chunks.proofs.Common.{◌≡◌, ◌≤◌, length, drop, ◌-◌, entries_fault}
-use Rattle.mig_chunks.proofs.toolstack.entries_place.Given as goal
-
-abbrev pub invariant-loop : goal.invariant-loop
-invariant-loop l = (length l.rest ≤ length l.body) × (entries_fault l.count 8 (drop 8 l.body) ≡ entries_fault (l.count - l.counter) (length l.body - length l.rest) l.rest)
