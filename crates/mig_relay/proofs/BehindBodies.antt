@@ -20,9 +20,9 @@ use Rattle.mig_headers.specs.declared.record_type.RecordType.TheVariants.{X86PvI
 use Rattle.mig_libxl_form.specs.Among.{image_in}
 use Rattle.mig_libxl_form.specs.Judging.{emulator_key}
 use Rattle.mig_libxl_form.specs.declared.head.RecordsBehind.{RecordsBehind}
-use Rattle.mig_pieces.proofs.Types.{bodies_are_parts}
-use Rattle.mig_pieces.specs.Begun.{piece_len}
-use Rattle.mig_pieces.specs.Bodies.{fault_of_record_body, coded_content, typed_content, record_content}
+use Rattle.mig_relay_bodies.proofs.Types.{bodies_are_parts}
+use Rattle.mig_relay_bodies.specs.Begun.{piece_len}
+use Rattle.mig_relay_bodies.specs.Bodies.{fault_of_record_body, coded_content, typed_content, record_content}
 use Rattle.mig_policy.specs.PairMaps.{pairs_in}
 use Rattle.mig_records.specs.Faults.{type_allows}
 use Rattle.mig_records.specs.declared.head.RecordHead.{RecordHead}

@@ -24,9 +24,9 @@ use Rattle.mig_libxl_form.specs.Behind.{AreBehind, kind_of_image}
 use Rattle.mig_libxl_form.specs.Stream.StreamOf.{Bare}
 use Rattle.mig_libxl_form.specs.declared.head.RecordsBehind.{RecordsBehind}
 use Rattle.mig_libxl_form.proofs.Among.{emulator_more, among_first}
-use Rattle.mig_pieces.specs.Begun.{IsBegunBody, piece_len}
-use Rattle.mig_pieces.specs.Bodies.{fault_of_record_body, record_content, typed_content, coded_content}
-use Rattle.mig_pieces.proofs.Types.{bodies_are_parts}
+use Rattle.mig_relay_bodies.specs.Begun.{IsBegunBody, piece_len}
+use Rattle.mig_relay_bodies.specs.Bodies.{fault_of_record_body, record_content, typed_content, coded_content}
+use Rattle.mig_relay_bodies.proofs.Types.{bodies_are_parts}
 use Rattle.mig_records.specs.Faults.{fault_of_length}
 use Rattle.mig_records.specs.Heads.{head_in}
 use Rattle.mig_records.specs.declared.head.RecordHead.{RecordHead}

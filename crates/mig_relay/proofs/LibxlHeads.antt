@@ -11,8 +11,8 @@ use Rattle.mig_libxl_form.specs.Judging.{allows_length}
 use Rattle.mig_restore_form.specs.declared.head.RecordsSeen.{RecordsSeen}
 use Rattle.mig_libxl_form.specs.Stream.StreamOf.{Wrapped}
 use Rattle.mig_libxl_form.specs.declared.head.RecordsBehind.{RecordsBehind}
-use Rattle.mig_pieces.specs.Begun.{IsBegunBody}
-use Rattle.mig_pieces.specs.Bodies.{fault_of_libxl_body}
+use Rattle.mig_relay_bodies.specs.Begun.{IsBegunBody}
+use Rattle.mig_relay_bodies.specs.Bodies.{fault_of_libxl_body}
 use Rattle.mig_records.specs.Heads.{head_in}
 use Rattle.mig_records.specs.declared.head.RecordHead.{RecordHead}
 use Rattle.mig_restore_form.specs.Judging.{most_records}

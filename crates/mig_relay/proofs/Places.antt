@@ -5,7 +5,7 @@ use Rattle.mig_bytes.specs.Bytes.{padding_len}
 use Rattle.mig_libxl_form.specs.Content.{LibxlRecord, LibxlContent}
 use Rattle.mig_libxl_form.specs.Among.{image_in}
 use Rattle.mig_libxl_form.specs.Stream.{StreamOf}
-use Rattle.mig_pieces.specs.Bodies.{fault_of_record_body, fault_of_libxl_body}
+use Rattle.mig_relay_bodies.specs.Bodies.{fault_of_record_body, fault_of_libxl_body}
 use Rattle.mig_restore_form.specs.Judging.{Opening, before}
 use Rattle.mig_restore_form.specs.Record.{StreamRecord, FrameEntry, Content, types_of}
 use Rattle.mig_relay.specs.Keeping.{Keeps, KeepsNext, KeepsOuter, KeepsGoing, KeepsOpen, KeepsRecords, KeepsHead, KeepsBody, KeepsFirst, KeepsWords, IsBodied, IsOther, IsPages, HasRecords, top_with}

@@ -11,8 +11,8 @@ use Rattle.mig_libxl_form.specs.Behind.{AreBehind}
 use Rattle.mig_libxl_form.specs.Stream.{StreamOf, image_of_stream}
 use Rattle.mig_libxl_form.specs.declared.head.RecordsBehind.{RecordsBehind}
 use Rattle.mig_pagetypes.specs.FrameWords.{word_has_data}
-use Rattle.mig_pieces.specs.Begun.{IsBegunBody, piece_len}
-use Rattle.mig_pieces.specs.Bodies.{fault_of_record_body, fault_of_libxl_body}
+use Rattle.mig_relay_bodies.specs.Begun.{IsBegunBody, piece_len}
+use Rattle.mig_relay_bodies.specs.Bodies.{fault_of_record_body, fault_of_libxl_body}
 use Rattle.mig_records.specs.declared.head.RecordHead.{RecordHead}
 use Rattle.mig_restore_form.specs.Judging.{Opening, before, fault_of_fields, most_records, with_places}
 use Rattle.mig_restore_form.specs.Record.{StreamRecord, FrameEntry, types_of, is_ended}

@@ -2,8 +2,8 @@ ghost use Rattle.std.specs.Prelude.{min, ◌≡◌, ◌≢◌, ◌<◌, ◌≤�
 ghost use Rattle.mig_libxl_form.specs.Content.{LibxlRecord};
 ghost use Rattle.mig_headers.specs.RecordTypes.{most_body};
 ghost use Rattle.mig_libxl_form.specs.Judging.{allows_length as length_allowed};
-ghost use Rattle.mig_pieces.specs.Begun.{IsBegunBody, piece_len};
-ghost use Rattle.mig_pieces.specs.Bodies.{fault_of_record_body, fault_of_libxl_body};
+ghost use Rattle.mig_relay_bodies.specs.Begun.{IsBegunBody, piece_len};
+ghost use Rattle.mig_relay_bodies.specs.Bodies.{fault_of_record_body, fault_of_libxl_body};
 ghost use Rattle.mig_records.specs.Faults.{fault_of_length};
 ghost use Rattle.mig_relay.specs.Keeping.{KeepsOuter, KeepsGoing, KeepsRecords, fault_of_empty, with_one};
 ghost use Rattle.mig_relay.specs.Parts.{AtHead};
@@ -18,8 +18,8 @@ use crate::state::{Coming, Relay, answer};
 use mig_bytes::{Sink, Source, take_part};
 use mig_headers::{Cause, Place};
 use mig_libxl_form::{EMULATOR_CONTEXT, EMULATOR_XENSTORE_DATA, RecordsBehind, libxl_head_fault};
-use mig_pieces::BodySeen;
 use mig_records::RecordHead;
+use mig_relay_bodies::BodySeen;
 
 /// The type of the record that ends an image, and of the one that ends a libxl stream.
 const END: u32 = 0;

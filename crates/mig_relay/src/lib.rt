@@ -4,7 +4,7 @@
 //! count, a few facts, the words of one PAGE_DATA and the small state of one body. Which parts wait to be written with
 //! those behind them. In either form of stream (libxc migration stream; libxl migration stream).
 //! Left to others: what is wrong with a part (mig_headers, mig_records, mig_order, mig_libxl_form, mig_restore, mig_pvtables),
-//! bodies in pieces (mig_pieces), which streams may pass (mig_passable).
+//! bodies in pieces (mig_relay_bodies), which streams may pass (mig_passable).
 //!
 //! What the layers above rely on: `relay` answers Ok exactly on a passable front, which it has taken and written then, and
 //! refuses with the open refusal; whatever it answers, what was written is a front of what was taken, and no more than 8

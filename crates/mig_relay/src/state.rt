@@ -15,8 +15,8 @@ use crate::answer::{RelayAnswer, Relayed, Step};
 use mig_bytes::{Sink, Source, Stop, WriteFailed, put_all};
 use mig_headers::{Cause, Kind, Place};
 use mig_libxl_form::RecordsBehind;
-use mig_pieces::BodySeen;
 use mig_records::RecordHead;
+use mig_relay_bodies::BodySeen;
 use mig_restore_form::RecordsSeen;
 use std::alloc::Global;
 

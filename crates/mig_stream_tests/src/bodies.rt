@@ -1,10 +1,10 @@
 ghost use Rattle.std.specs.Prelude.{◌≡◌, ℕ, List, [], length};
 ghost use Rattle.std.specs.declared.option.Option.{Option};
 ghost use Rattle.mig_headers.specs.declared.fault.Cause.{Cause};
-ghost use Rattle.mig_pieces.specs.Begun.{IsBegunBody};
+ghost use Rattle.mig_relay_bodies.specs.Begun.{IsBegunBody};
 
 use mig_headers::{Cause, ContextFault};
-use mig_pieces::BodySeen;
+use mig_relay_bodies::BodySeen;
 
 // The fault of a body that comes in pieces is that of the whole body.
 fn judged(seen: BodySeen, body: &[u8]) -> Option<Cause>

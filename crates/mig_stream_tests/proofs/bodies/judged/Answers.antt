@@ -1,7 +1,7 @@
 use Rattle.std.proofs.Common.{◌≡◌, ℕ, ◌+◌, ◌≤◌, List, ◌++◌, length, take, drop, ap, subst, sym, ◌∙◌, arith, length-drop, length-take-le, rules}
 use Rattle.std.proofs.Math.Seq.{take-add}
 use Rattle.std.proofs.lemmas.List.{take_all}
-use Rattle.mig_pieces.specs.Begun.{IsBegunBody}
+use Rattle.mig_relay_bodies.specs.Begun.{IsBegunBody}
 use Rattle.mig_stream_tests.proofs.bodies.judged.Goals as goal
 
 -- the next piece behind the first bytes

@@ -1,8 +1,8 @@
 use Rattle.std.proofs.Common.{◌≡◌, ◌<◌, ◌+◌, ◌++◌, refl, sym, [], ap, subst, ◌∙◌, arith, length, length-append, append_assoc}
 use Rattle.std.proofs.lemmas.Grind.{common_steps}
 use Rattle.mig_headers.specs.declared.fault.Place.TheVariants.{Record}
-use Rattle.mig_pieces.specs.Begun.{IsBegunBody}
-use Rattle.mig_pieces.specs.Bodies.{fault_of_record_body, record_content}
+use Rattle.mig_relay_bodies.specs.Begun.{IsBegunBody}
+use Rattle.mig_relay_bodies.specs.Bodies.{fault_of_record_body, record_content}
 use Rattle.mig_restore_form.specs.Judging.{before}
 use Rattle.mig_relay.specs.Keeping.{top_with}
 use Rattle.mig_relay.specs.Following.{more}

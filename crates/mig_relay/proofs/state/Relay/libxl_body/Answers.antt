@@ -1,8 +1,8 @@
 use Rattle.std.proofs.Common.{◌≡◌, ◌+◌, ◌++◌, refl, sym, [], ap, subst, ◌∙◌, arith, length, length-append, append_assoc}
 use Rattle.std.proofs.lemmas.Grind.{common_steps}
 use Rattle.mig_headers.specs.declared.fault.Place.TheVariants.{LibxlRecord as AtRecord}
-use Rattle.mig_pieces.specs.Begun.{IsBegunBody}
-use Rattle.mig_pieces.specs.Bodies.{fault_of_libxl_body}
+use Rattle.mig_relay_bodies.specs.Begun.{IsBegunBody}
+use Rattle.mig_relay_bodies.specs.Bodies.{fault_of_libxl_body}
 use Rattle.mig_relay.specs.Following.{more}
 use Rattle.mig_relay.specs.Spots.{AtLibxlBody, spot}
 use Rattle.mig_relay.specs.Steps.{answer_of, counted}

@@ -1,8 +1,0 @@
-use Rattle.std.proofs.Common.{arith, length-append}
-use Rattle.mig_pieces.proofs.body.BodySeen.pass.Goals as goal
-
-pub returns-clause-begun : goal.returns-clause-begun
-returns-clause-begun c = λ fault begun is. record {
-  taken = omega (arith, is.taken, length-append begun c.args.piece.now);
-  known = c.behind-self.ensures fault begun is;
-}

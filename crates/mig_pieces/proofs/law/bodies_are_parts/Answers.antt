@@ -1,5 +1,0 @@
-use Rattle.mig_pieces.proofs.Types.{bodies_are_parts}
-use Rattle.mig_pieces.proofs.law.bodies_are_parts.Goals as goal
-
-pub returns : goal.returns
-returns c = bodies_are_parts

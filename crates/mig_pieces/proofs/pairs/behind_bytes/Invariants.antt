@@ -1,9 +1,0 @@
-use Rattle.std.proofs.Common.{◌≡◌, ◌+◌, ◌<◌, ◌^◌, length, take, fold}
-use Rattle.mig_pieces.specs.PairPieces.{then_byte}
-use Rattle.mig_pieces.proofs.pairs.behind_bytes.Given as goal
-
-abbrev pub invariant-loop-byte : goal.invariant-loop-byte
-invariant-loop-byte l = record {
-  known : l.fn.pairs.at + length l.fn.piece < 2 ^ 64 → l.known ≡ fold then_byte l.fn.pairs (take l.byte-index l.fn.piece);
-  at : l.fn.pairs.at + length l.fn.piece < 2 ^ 64 → l.known.at ≡ l.fn.pairs.at + l.byte-index;
-}

@@ -1,0 +1,15 @@
+use Rattle.std.proofs.Common.{◌≡◌, ◌∙◌, arith}
+use Rattle.std.proofs.lemmas.Grind.{common_steps}
+use Rattle.byteorder.specs.Endian.{little_number}
+use Rattle.mig_relay_bodies.proofs.Fronts.{first64}
+use Rattle.mig_relay_bodies.proofs.front.param_fault.Goals as goal
+
+pub returns-then-index-ge-SMALL_NUMBERS : goal.returns-then-index-ge-SMALL_NUMBERS
+returns-then-index-ge-SMALL_NUMBERS c =
+    let is : c.u64_le-index.result ≡ little_number 8 c.args.bytes.now = c.u64_le-index.ensures ∙ first64 c.args.bytes.now in
+    grind (arith, common_steps, is)
+
+pub returns : goal.returns
+returns c =
+    let is : c.u64_le-index.result ≡ little_number 8 c.args.bytes.now = c.u64_le-index.ensures ∙ first64 c.args.bytes.now in
+    grind (arith, common_steps, is)
