@@ -8,7 +8,7 @@ use Rattle.mig_bytes.specs.Judged.Judged.{Passes}
 use Rattle.mig_headers.specs.declared.fault.Cause.{Cause}
 use Rattle.mig_headers.specs.declared.fault.Place.{Place}
 use Rattle.mig_libxl_form.specs.Stream.{StreamOf}
-use Rattle.mig_passable.specs.Streams.{open_stream_at, IsOpenRefused}
+use Rattle.mig_relay.specs.Streams.{open_stream_at, IsOpenRefused}
 use Rattle.mig_relay.specs.Relaying.{PassedWhole, PassedPart, IsRelayed}
 use Rattle.mig_relay.specs.declared.answer.RelayAnswer.{RelayAnswer}
 use Rattle.mig_relay.specs.declared.answer.RelayAnswer.TheVariants as answers

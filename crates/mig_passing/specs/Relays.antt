@@ -6,7 +6,7 @@ use Rattle.mig_bytes.specs.Judged.Judged.{Passes}
 use Rattle.mig_headers.specs.declared.fault.Cause.{Cause}
 use Rattle.mig_headers.specs.declared.fault.Place.{Place}
 use Rattle.mig_libxl_form.specs.Stream.{StreamOf}
-use Rattle.mig_passable.specs.Streams.{open_stream_at}
+use Rattle.mig_relay.specs.Streams.{open_stream_at}
 use Rattle.mig_relay.specs.Relaying.{PassedWhole, PassedPart, RefusedPart, IsCutPart, IsWrittenPart}
 use Rattle.mig_relay.specs.declared.answer.Relayed.{Relayed}
 use Rattle.mig_report.specs.Report.{Reports, relayed_line, write_fault_line}

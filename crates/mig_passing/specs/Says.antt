@@ -2,7 +2,7 @@
 use Rattle.std.specs.Prelude.{◌⊎◌, ℕ, List, Some, Option}
 use Rattle.std.specs.Io.KnownBytes.{Appends}
 use Rattle.mig_bytes.specs.Bytes.{AppendsPart}
-use Rattle.mig_passable.specs.Streams.{IsOpenRefused}
+use Rattle.mig_relay.specs.Streams.{IsOpenRefused}
 use Rattle.mig_relay.specs.Relaying.{PassedPart}
 use Rattle.mig_report.specs.Statuses.{OutcomeSays, StatusSays, Written}
 use Rattle.mig_report.specs.declared.outcome.Outcome.{Outcome}

@@ -1,3 +1,13 @@
+pub mod Fronts
+pub mod Opens
+pub mod RecordFronts
+pub mod Images
+pub mod Asked
+pub mod Records
+pub mod Streams
+pub mod Tells
+pub mod KeptCauses
+pub mod StreamsKept
 pub mod Binds
 pub mod Moves
 pub mod Unrolls

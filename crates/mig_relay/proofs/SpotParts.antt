@@ -21,9 +21,9 @@ use Rattle.mig_libxl_form.specs.Among.{is_libxl_ended}
 use Rattle.mig_libxl_form.specs.Judging.{emulator_key, fault_of_libxl_head, libxl_head_at}
 use Rattle.mig_libxl_form.specs.Stream.{StreamOf}
 use Rattle.mig_libxl_form.specs.Stream.StreamOf.{Bare, Wrapped}
-use Rattle.mig_passable.specs.Images.{open_image_at}
-use Rattle.mig_passable.specs.Streams.{open_stream_at, open_wrapped, open_bare, open_libxl_records, open_libxl_record, open_content, open_inner, open_body}
-use Rattle.mig_passable.proofs.Records.{libxl_shrinks}
+use Rattle.mig_relay.specs.Images.{open_image_at}
+use Rattle.mig_relay.specs.Streams.{open_stream_at, open_wrapped, open_bare, open_libxl_records, open_libxl_record, open_content, open_inner, open_body}
+use Rattle.mig_relay.proofs.Records.{libxl_shrinks}
 use Rattle.mig_relay_bodies.specs.Bodies.{fault_of_libxl_body}
 use Rattle.mig_policy.specs.PairMaps.{pairs_in}
 use Rattle.mig_records.specs.Heads.{head_in}

@@ -12,8 +12,8 @@ use Rattle.mig_headers.specs.declared.fault.Cause.{Cause}
 use Rattle.mig_headers.specs.declared.fault.Cause.TheVariants.{Truncated}
 use Rattle.mig_headers.specs.declared.fault.Place.{Place}
 use Rattle.mig_libxl_form.specs.Stream.{StreamOf}
-use Rattle.mig_passable.specs.Streams.{open_stream_at, IsPassable}
-use Rattle.mig_passable.proofs.Streams.{unfinished_is_not_accepted}
+use Rattle.mig_relay.specs.Streams.{open_stream_at, IsPassable}
+use Rattle.mig_relay.proofs.Streams.{unfinished_is_not_accepted}
 use Rattle.mig_relay_bodies.specs.Bodies.{fault_of_record_body, record_content}
 use Rattle.mig_relay_bodies.proofs.Types.{bodies_are_parts}
 use Rattle.mig_restore_form.proofs.Batches.{places_len}

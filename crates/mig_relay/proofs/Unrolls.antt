@@ -13,8 +13,8 @@ use Rattle.mig_headers.specs.declared.fault.Cause.{Cause}
 use Rattle.mig_headers.specs.declared.fault.Cause.TheVariants.{Truncated}
 use Rattle.mig_headers.specs.declared.fault.Place.{Place}
 use Rattle.mig_headers.specs.declared.fault.Place.TheVariants.{ImageHeader, DomainHeader, Record}
-use Rattle.mig_passable.specs.Images.{open_next, open_records, open_image_at}
-use Rattle.mig_passable.proofs.Images.{open_shrinks}
+use Rattle.mig_relay.specs.Images.{open_next, open_records, open_image_at}
+use Rattle.mig_relay.proofs.Images.{open_shrinks}
 use Rattle.mig_records.specs.Heads.{head_in}
 use Rattle.mig_records.specs.declared.head.RecordHead.{RecordHead}
 use Rattle.mig_restore_form.specs.Judging.{Opening, opening_of, before, fault_of_head, head_at, record_at, body_at}

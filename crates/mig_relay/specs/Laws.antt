@@ -1,6 +1,6 @@
 -- Laws of what a relay stands for.
 use Rattle.std.specs.Prelude.{◌≡◌, ℕ, false, List}
-use Rattle.mig_passable.specs.Streams.{open_stream_at}
+use Rattle.mig_relay.specs.Streams.{open_stream_at}
 use Rattle.mig_relay.specs.Standing.{StandsForBytes, is_at_end}
 use Rattle.mig_relay.specs.Steps.{EndsInside}
 use Rattle.mig_relay.specs.declared.state.Relay.{Relay}

@@ -1,3 +1,7 @@
+pub mod Causes
+pub mod Images
+pub mod Streams
+pub mod PassableLaws
 pub mod Parts
 pub mod Spots
 pub mod Following

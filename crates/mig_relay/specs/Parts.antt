@@ -11,7 +11,7 @@ use Rattle.mig_headers.specs.declared.fault.Place.{Place}
 use Rattle.mig_headers.specs.declared.fault.Place.TheVariants.{DomainHeader, Record}
 use Rattle.mig_headers.specs.declared.kind.Kind.{Kind}
 use Rattle.mig_pagetypes.specs.FrameWords.{word_pfn}
-use Rattle.mig_passable.specs.Images.{open_image_at, open_records}
+use Rattle.mig_relay.specs.Images.{open_image_at, open_records}
 use Rattle.mig_records.specs.Faults.{fault_of_words}
 use Rattle.mig_records.specs.Words.{words}
 use Rattle.mig_records.specs.declared.head.RecordHead.{RecordHead}

@@ -6,7 +6,7 @@ use Rattle.mig_bytes.specs.Judged.Judged.{Passes}
 use Rattle.mig_headers.specs.declared.fault.Cause.{Cause}
 use Rattle.mig_headers.specs.declared.fault.Place.{Place}
 use Rattle.mig_libxl_form.specs.Stream.{StreamOf, stream_at}
-use Rattle.mig_passable.specs.Streams.{open_stream_at}
+use Rattle.mig_relay.specs.Streams.{open_stream_at}
 use Rattle.mig_relay.specs.Following.{place_of_spot}
 use Rattle.mig_relay.specs.Keeping.{HasRecords}
 use Rattle.mig_relay.specs.Spots.{Spot, AtStart, spot, held}

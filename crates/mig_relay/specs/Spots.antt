@@ -13,7 +13,7 @@ use Rattle.mig_headers.specs.declared.fault.Place.{Place}
 use Rattle.mig_headers.specs.declared.fault.Place.TheVariants.{LibxlRecord as AtRecord}
 use Rattle.mig_libxl_form.specs.Stream.{StreamOf}
 use Rattle.mig_libxl_form.specs.Stream.StreamOf.{Bare}
-use Rattle.mig_passable.specs.Streams.{open_stream_at, open_wrapped, open_libxl_records, open_body}
+use Rattle.mig_relay.specs.Streams.{open_stream_at, open_wrapped, open_libxl_records, open_body}
 use Rattle.mig_records.specs.declared.head.RecordHead.{RecordHead}
 use Rattle.mig_restore_form.specs.Stream.{ImageOf}
 use Rattle.mig_relay.specs.Parts.{Next, AtVersion, AtKind, AtBody, AtWords, AtPages, judged_next}

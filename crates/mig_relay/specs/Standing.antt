@@ -5,7 +5,7 @@ use Rattle.mig_bytes.specs.Judged.Judged.{Faulty}
 use Rattle.mig_headers.specs.declared.fault.Cause.{Cause}
 use Rattle.mig_headers.specs.declared.fault.Place.{Place}
 use Rattle.mig_libxl_form.specs.Stream.{StreamOf}
-use Rattle.mig_passable.specs.Streams.{open_stream_at, IsPassable}
+use Rattle.mig_relay.specs.Streams.{open_stream_at, IsPassable}
 use Rattle.mig_relay.specs.Following.{ComesNext, place_of_spot}
 use Rattle.mig_relay.specs.Keeping.{Keeps, HasRecords}
 use Rattle.mig_relay.specs.Spots.{Spot, spot, held}

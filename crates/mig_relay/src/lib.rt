@@ -1,10 +1,11 @@
 //! Passes a stream on while it judges it, part by part, and keeps no pages.
 //!
-//! Responsible for: which part of a stream comes next, what is judged of it before it is written, and what is kept of it: a
-//! count, a few facts, the words of one PAGE_DATA and the small state of one body. Which parts wait to be written with
-//! those behind them. In either form of stream (libxc migration stream; libxl migration stream).
-//! Left to others: what is wrong with a part (mig_headers, mig_records, mig_order, mig_libxl_form, mig_restore, mig_pvtables),
-//! bodies in pieces (mig_relay_bodies), which streams may pass (mig_passable).
+//! Responsible for: which bytes may be passed on: a stream judged with those causes left out that need the whole guest or
+//! all pairs of an emulator, and the laws of that; which part of a stream comes next, what is judged of it before it is
+//! written, and what is kept of it: a count, a few facts, the words of one PAGE_DATA and the small state of one body; and
+//! which parts wait to be written with those behind them. In either form of stream (libxc migration stream; libxl migration
+//! stream). Left to others: what is wrong with a part (mig_headers, mig_records, mig_order, mig_restore_form,
+//! mig_libxl_form, mig_pvtables), and bodies in pieces (mig_relay_bodies).
 //!
 //! What the layers above rely on: `relay` answers Ok exactly on a passable front, which it has taken and written then, and
 //! refuses with the open refusal; whatever it answers, what was written is a front of what was taken, and no more than 8
@@ -20,9 +21,11 @@ mod law;
 mod opening;
 mod pages;
 mod pass;
+mod passable_law;
 mod state;
 
 pub use answer::{RelayAnswer, Relayed, Step};
 pub use law::lists_are_fronts;
 pub use pass::relay;
+pub use passable_law::{accepted_passes, fronts_pass, left_out_is_not_told, no_prefix_passes, nothing_else_is_left_out, refused_is_open_refused, unfinished_is_not_accepted};
 pub use state::Relay;

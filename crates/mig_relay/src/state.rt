@@ -2,7 +2,7 @@ ghost use Rattle.std.specs.Prelude.{true, false, ◌≡◌, ◌*◌, ◌+◌, �
 ghost use Rattle.mig_bytes.specs.Bytes.{Puts};
 ghost use Rattle.mig_bytes.specs.Faults.{HasCause};
 ghost use Rattle.mig_libxl_form.specs.Stream.{StreamOf};
-ghost use Rattle.mig_passable.specs.Streams.{IsPassable};
+ghost use Rattle.mig_relay.specs.Streams.{IsPassable};
 ghost use Rattle.mig_relay.specs.Following.{in_hand};
 ghost use Rattle.mig_relay.specs.Keeping.{Keeps, Stands, words_in_hand};
 ghost use Rattle.mig_relay.specs.Spots.{Spot, AtStart, begins_with_ident};

@@ -7,8 +7,8 @@ use Rattle.std.specs.Io.KnownBytes.{Consumes}
 use Rattle.mig_headers.specs.declared.fault.Cause.{Cause}
 use Rattle.mig_headers.specs.declared.fault.Place.{Place}
 use Rattle.mig_headers.specs.declared.fault.Place.TheVariants.{ImageHeader}
-use Rattle.mig_passable.specs.Streams.{open_stream_at}
-use Rattle.mig_passable.proofs.Streams.{fronts_pass}
+use Rattle.mig_relay.specs.Streams.{open_stream_at}
+use Rattle.mig_relay.proofs.Streams.{fronts_pass}
 use Rattle.mig_relay.specs.Following.{in_hand}
 use Rattle.mig_relay.specs.Keeping.{Keeps, KeepsNext, words_in_hand}
 use Rattle.mig_relay.specs.Parts.{Next, AtMarker, AtVersion, AtKind, AtHead, AtBody, AtFront, AtWords, AtPages, AtPadding}

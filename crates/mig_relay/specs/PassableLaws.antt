@@ -6,9 +6,9 @@ use Rattle.mig_headers.specs.declared.fault.Cause.{Cause}
 use Rattle.mig_headers.specs.declared.fault.Place.{Place}
 use Rattle.mig_libxl_form.specs.Stream.{StreamOf, stream_at, IsStreamRefused}
 use Rattle.mig_restore_form.specs.Stream.{image_at}
-use Rattle.mig_passable.specs.Causes.{is_unasked}
-use Rattle.mig_passable.specs.Images.{open_image_at, guest_asked}
-use Rattle.mig_passable.specs.Streams.{open_stream_at, IsPassable, IsOpenRefused}
+use Rattle.mig_relay.specs.Causes.{is_unasked}
+use Rattle.mig_relay.specs.Images.{open_image_at, guest_asked}
+use Rattle.mig_relay.specs.Streams.{open_stream_at, IsPassable, IsOpenRefused}
 
 -- An image is judged so, and then its guest is asked: nothing else is left out.
 abbrev pub NothingElseIsLeftOut : Type 0

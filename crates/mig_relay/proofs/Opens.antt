@@ -5,7 +5,7 @@ use Rattle.mig_bytes.specs.Judged.Judged.{Passes, Faulty}
 use Rattle.mig_bytes.specs.Sequences.{onward}
 use Rattle.mig_bytes.proofs.Joins.{passes_not, same_faulty}
 use Rattle.mig_bytes.proofs.Sequences.{over, goes_on}
-use Rattle.mig_passable.proofs.Fronts.{Shrinks}
+use Rattle.mig_relay.proofs.Fronts.{Shrinks}
 
 -- the second is what the first is; or the first refuses for a cause that is left out
 pub data Opens {C X : Type 0} (Left : C → Type 0) : Judged C X → Judged C X → Type 0 where

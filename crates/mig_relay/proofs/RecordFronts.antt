@@ -20,7 +20,7 @@ use Rattle.mig_restore_form.specs.Record.{is_verified, placed_content}
 use Rattle.mig_restore_form.specs.Record.Content.{Nothing, Frames, Sets}
 use Rattle.mig_restore_form.specs.Judging.{Before, fault_of_head, head_at, fault_of_page, page_at, entry_at, entries_at, words_at, with_places, fault_of_data, lists_of, code_of_type, coded_at, typed_at, body_at, record_at, type_in_word}
 use Rattle.mig_restore_form.proofs.Parts.{behind_body, behind_head}
-use Rattle.mig_passable.proofs.Fronts.{front_checked, front_plain}
+use Rattle.mig_relay.proofs.Fronts.{front_checked, front_plain}
 
 -- ---- bodies, in a stream of this kind with frame numbers up to top
 

@@ -38,9 +38,9 @@ use Rattle.mig_restore_form.specs.Record.{is_ended, is_verified, placed_content}
 use Rattle.mig_restore_form.specs.Record.Content.{Nothing, Frames, Sets}
 use Rattle.mig_restore_form.specs.Stream.{image_of, marker_at, version_at, kind_at, opening_behind, opening_at}
 use Rattle.mig_restore_form.proofs.Parts.{behind_body, behind_head}
-use Rattle.mig_passable.specs.Causes.{is_unasked}
-use Rattle.mig_passable.specs.Images.{open_next, open_records, open_image_at}
-use Rattle.mig_passable.proofs.Tells.{Names, Tells, names_rows, names_one, names_two, names_or, names_map, tells_then, tells_checked, tells_part, tells_said, tells_plain, tells_each, tells_onward, tells_placed}
+use Rattle.mig_relay.specs.Causes.{is_unasked}
+use Rattle.mig_relay.specs.Images.{open_next, open_records, open_image_at}
+use Rattle.mig_relay.proofs.Tells.{Names, Tells, names_rows, names_one, names_two, names_or, names_map, tells_then, tells_checked, tells_part, tells_said, tells_plain, tells_each, tells_onward, tells_placed}
 
 -- a cause that isn't left out, and one at any place
 abbrev pub IsKept : Cause → Type 0

@@ -20,12 +20,12 @@ use Rattle.mig_libxl_form.specs.Stream.{header_at}
 use Rattle.mig_libxl_form.specs.Stream.StreamOf.{Bare, Wrapped}
 use Rattle.mig_policy.specs.PairFaults.{torn_at, bad_key_at, first_of, pairs_fault}
 use Rattle.mig_policy.specs.PairMaps.{pairs_in}
-use Rattle.mig_passable.specs.Causes.{is_unasked}
-use Rattle.mig_passable.specs.Images.{open_image_at}
-use Rattle.mig_passable.specs.Streams.{open_fault_of_pairs, open_pairs_at, open_body, open_inner, open_content, open_libxl_record, open_libxl_records, open_wrapped, open_bare, open_stream_at, IsOpenRefused}
-use Rattle.mig_passable.proofs.Kept.{IsKept, IsKeptAt, image_kept}
-use Rattle.mig_passable.proofs.Records.{behind_content, behind_head}
-use Rattle.mig_passable.proofs.Tells.{Names, Tells, names_rows, names_two, names_or, tells_then, tells_part, tells_said, tells_plain, tells_onward, tells_placed}
+use Rattle.mig_relay.specs.Causes.{is_unasked}
+use Rattle.mig_relay.specs.Images.{open_image_at}
+use Rattle.mig_relay.specs.Streams.{open_fault_of_pairs, open_pairs_at, open_body, open_inner, open_content, open_libxl_record, open_libxl_records, open_wrapped, open_bare, open_stream_at, IsOpenRefused}
+use Rattle.mig_relay.proofs.KeptCauses.{IsKept, IsKeptAt, image_kept}
+use Rattle.mig_relay.proofs.Records.{behind_content, behind_head}
+use Rattle.mig_relay.proofs.Tells.{Names, Tells, names_rows, names_two, names_or, tells_then, tells_part, tells_said, tells_plain, tells_onward, tells_placed}
 
 -- ---- a record
 

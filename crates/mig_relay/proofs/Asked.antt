@@ -26,11 +26,11 @@ use Rattle.mig_restore_form.specs.Mean.{sent}
 use Rattle.mig_restore_form.specs.Stream.{ImageOf, image_of, image_at, records_at, opening_at, placed_next}
 use Rattle.mig_restore_form.proofs.Meaning.{ended_more}
 use Rattle.mig_restore_form.proofs.Parts.{asks, behind_record}
-use Rattle.mig_passable.specs.Causes.{is_unasked}
-use Rattle.mig_passable.specs.Images.{open_next, open_records, open_image_at, guest_asked}
-use Rattle.mig_passable.proofs.Images.{open_shrinks, next_shrinks}
-use Rattle.mig_passable.proofs.Tells.{Names, names_map, names_one, names_or}
-use Rattle.mig_passable.proofs.Opens.{Opens, opens_as, same, leaves}
+use Rattle.mig_relay.specs.Causes.{is_unasked}
+use Rattle.mig_relay.specs.Images.{open_next, open_records, open_image_at, guest_asked}
+use Rattle.mig_relay.proofs.Images.{open_shrinks, next_shrinks}
+use Rattle.mig_relay.proofs.Tells.{Names, names_map, names_one, names_or}
+use Rattle.mig_relay.proofs.Opens.{Opens, opens_as, same, leaves}
 
 module _ (o : Opening) where
   abbrev closed : List StreamRecord → List ℕ → Judged (Place × Cause) (List StreamRecord)

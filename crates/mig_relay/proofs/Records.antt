@@ -21,12 +21,12 @@ use Rattle.mig_libxl_form.specs.Judging.{emulator_key, fault_of_context, fault_o
 use Rattle.mig_policy.specs.PairFaults.{pairs_fault}
 use Rattle.mig_policy.specs.PairMaps.{pairs_in}
 use Rattle.mig_restore_form.specs.Stream.{image_at}
-use Rattle.mig_passable.specs.Images.{open_image_at}
-use Rattle.mig_passable.specs.Streams.{open_fault_of_pairs, open_pairs_at, open_body, open_inner, open_content, open_libxl_record}
-use Rattle.mig_passable.proofs.Asked.{IsLeft, IsLeftCause, image_opens}
-use Rattle.mig_passable.proofs.Fronts.{Shrinks, front_plain}
-use Rattle.mig_passable.proofs.Images.{front_image}
-use Rattle.mig_passable.proofs.Opens.{Opens, same, leaves, opens_then, opens_placed, opens_said}
+use Rattle.mig_relay.specs.Images.{open_image_at}
+use Rattle.mig_relay.specs.Streams.{open_fault_of_pairs, open_pairs_at, open_body, open_inner, open_content, open_libxl_record}
+use Rattle.mig_relay.proofs.Asked.{IsLeft, IsLeftCause, image_opens}
+use Rattle.mig_relay.proofs.Fronts.{Shrinks, front_plain}
+use Rattle.mig_relay.proofs.Images.{front_image}
+use Rattle.mig_relay.proofs.Opens.{Opens, same, leaves, opens_then, opens_placed, opens_said}
 
 -- ---- a record takes a front
 

@@ -24,14 +24,14 @@ use Rattle.mig_libxl_form.specs.Judging.{libxl_record_at}
 use Rattle.mig_libxl_form.specs.Stream.{StreamOf, header_at, bare_at, wrapped_at, stream_at, IsStreamRefused}
 use Rattle.mig_libxl_form.specs.Stream.StreamOf.{Bare, Wrapped}
 use Rattle.mig_restore_form.specs.Stream.{ImageOf, image_at, marker_at, opening_at, opening_behind}
-use Rattle.mig_passable.specs.Causes.{is_unasked}
-use Rattle.mig_passable.specs.Images.{open_records, open_image_at}
-use Rattle.mig_passable.specs.Streams.{open_libxl_record, open_libxl_records, open_wrapped, open_bare, open_stream_at, IsPassable, IsOpenRefused}
-use Rattle.mig_passable.proofs.Asked.{IsLeft, image_opens}
-use Rattle.mig_passable.proofs.Fronts.{front_onward, joined}
-use Rattle.mig_passable.proofs.Images.{front_image}
-use Rattle.mig_passable.proofs.Opens.{Opens, same, opens_as, opens_then, opens_onward, opens_passes, opens_refused}
-use Rattle.mig_passable.proofs.Records.{front_libxl_record, libxl_shrinks, record_opens}
+use Rattle.mig_relay.specs.Causes.{is_unasked}
+use Rattle.mig_relay.specs.Images.{open_records, open_image_at}
+use Rattle.mig_relay.specs.Streams.{open_libxl_record, open_libxl_records, open_wrapped, open_bare, open_stream_at, IsPassable, IsOpenRefused}
+use Rattle.mig_relay.proofs.Asked.{IsLeft, image_opens}
+use Rattle.mig_relay.proofs.Fronts.{front_onward, joined}
+use Rattle.mig_relay.proofs.Images.{front_image}
+use Rattle.mig_relay.proofs.Opens.{Opens, same, opens_as, opens_then, opens_onward, opens_passes, opens_refused}
+use Rattle.mig_relay.proofs.Records.{front_libxl_record, libxl_shrinks, record_opens}
 
 -- ---- each form takes a front
 

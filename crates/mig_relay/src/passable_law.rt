@@ -1,4 +1,4 @@
-ghost use Rattle.mig_passable.specs.Laws.{NothingElseIsLeftOut, AcceptedPasses, RefusedIsOpenRefused, LeftOutIsNotTold, FrontsPass, NoPrefixPasses, UnfinishedIsNotAccepted};
+ghost use Rattle.mig_relay.specs.PassableLaws.{NothingElseIsLeftOut, AcceptedPasses, RefusedIsOpenRefused, LeftOutIsNotTold, FrontsPass, NoPrefixPasses, UnfinishedIsNotAccepted};
 
 /// An image is judged as one of which the whole guest isn't asked, and then the guest is asked.
 pub fn nothing_else_is_left_out()

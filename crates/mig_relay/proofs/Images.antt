@@ -15,9 +15,9 @@ use Rattle.mig_restore_form.specs.Judging.{Opening, Before, opening_of, before, 
 use Rattle.mig_restore_form.specs.Mean.{sent}
 use Rattle.mig_restore_form.specs.Stream.{image_of, opening_at, opening_behind, marker_at, version_at, kind_at, placed_next}
 use Rattle.mig_restore_form.proofs.Parts.{behind_head, begins, asks, behind_record}
-use Rattle.mig_passable.specs.Images.{open_next, open_records, open_image_at}
-use Rattle.mig_passable.proofs.Fronts.{Shrinks, front_onward}
-use Rattle.mig_passable.proofs.RecordFronts.{front_behind, front_record}
+use Rattle.mig_relay.specs.Images.{open_next, open_records, open_image_at}
+use Rattle.mig_relay.proofs.Fronts.{Shrinks, front_onward}
+use Rattle.mig_relay.proofs.RecordFronts.{front_behind, front_record}
 
 -- ---- a record takes at least its head
 

@@ -19,7 +19,7 @@ use Rattle.mig_libxl_form.specs.Stream.{StreamOf, header_at}
 use Rattle.mig_libxl_form.specs.Stream.StreamOf.{Bare, Wrapped}
 use Rattle.mig_policy.specs.PairFaults.{pairs_fault}
 use Rattle.mig_policy.specs.PairMaps.{pairs_in}
-use Rattle.mig_passable.specs.Images.{open_image_at}
+use Rattle.mig_relay.specs.Images.{open_image_at}
 
 -- a record's pairs: their own faults, and then its emulator
 abbrev pub open_fault_of_pairs : List ℕ → Option Cause

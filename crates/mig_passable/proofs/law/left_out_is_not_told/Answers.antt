@@ -1,5 +1,0 @@
-use Rattle.mig_passable.proofs.StreamsKept.{left_out_is_not_told as lemma}
-use Rattle.mig_passable.proofs.law.left_out_is_not_told.Goals as goal
-
-pub returns : goal.returns
-returns c = lemma

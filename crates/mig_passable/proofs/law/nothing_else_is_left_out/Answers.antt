@@ -1,5 +1,0 @@
-use Rattle.mig_passable.proofs.Asked.{image_asked as lemma}
-use Rattle.mig_passable.proofs.law.nothing_else_is_left_out.Goals as goal
-
-pub returns : goal.returns
-returns c = lemma

@@ -1,4 +1,0 @@
-pub mod Causes
-pub mod Images
-pub mod Streams
-pub mod Laws
