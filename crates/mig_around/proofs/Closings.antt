@@ -7,7 +7,7 @@ use Rattle.mig_guest.specs.Formed.{IsFormed}
 use Rattle.mig_guest.specs.Guests.{GuestOf}
 use Rattle.mig_guest.specs.Hosts.{HostOf, IsValid}
 use Rattle.mig_canon.specs.Canon.{Record, last_records, text_of}
-use Rattle.mig_hosted.proofs.HostViews.{hvm_viewed}
+use Rattle.mig_host_view.proofs.HostViews.{hvm_viewed}
 use Rattle.mig_around.specs.KeptParts.{is_setting, kept_parts, parts_alone}
 use Rattle.mig_around.specs.SaveTexts.{IsContextFront, IsOtherRecord, closing_records, settings_seen, ClosesStream}
 use Rattle.mig_around.proofs.Codes.{IsOther, are_within, closing_within, front_short, kept_formed, last_seen, no_pv}

@@ -1,5 +1,5 @@
 -- The parts of some codes of a host: they make a well formed guest, and their records are those of the host's view.
-use Rattle.mig_hosted.proofs.Common.{◌≡◌, ℕ, ◌+◌, ◌-◌, ◌<◌, ◌≤◌, ◌^◌, ◌++◌, Bool, true, false, cond, List, [], ◌∷◌, length, replicate, Option, Some, None, option_map, refl, sym, ap, subst, ◌∙◌, arith, ◌==◌, append-nil, and_parts, eqb-true, ne_eqb, length-append, length-take-le, part_total, part_exact, Pv, Hvm, PartKey, FrameOf, GuestOf, IsFormed, IsPart, context_key, part_cmp}
+use Rattle.mig_host_view.proofs.Common.{◌≡◌, ℕ, ◌+◌, ◌-◌, ◌<◌, ◌≤◌, ◌^◌, ◌++◌, Bool, true, false, cond, List, [], ◌∷◌, length, replicate, Option, Some, None, option_map, refl, sym, ap, subst, ◌∙◌, arith, ◌==◌, append-nil, and_parts, eqb-true, ne_eqb, length-append, length-take-le, part_total, part_exact, Pv, Hvm, PartKey, FrameOf, GuestOf, IsFormed, IsPart, context_key, part_cmp}
 use Rattle.std.specs.Prelude.{map, ◌≢◌}
 use Rattle.std.specs.List.{AllByRecursion}
 use Rattle.std.specs.Ordering.{eq_by_cmp, nat_cmp}
@@ -32,12 +32,12 @@ use Rattle.mig_records_pages.specs.Written.{IsRecordWithin, AreRecordsWithin}
 use Rattle.mig_pvtables.proofs.EachValue.{get_each, to_each, stays_each}
 use Rattle.mig_pvtables.specs.Blank.{blanked_part}
 use Rattle.mig_pvtables.specs.VcpuContexts.{blanked_context, blanked_shared, is_used_somewhere}
-use Rattle.mig_hosted.specs.Localised.{renamed, renamed_part}
-use Rattle.mig_hosted.specs.Normalised.{cut_by, part_seen, normalised_of}
-use Rattle.mig_hosted.specs.RenamedContexts.{renamed_context}
-use Rattle.mig_hosted.specs.View.{view, hvm_view, guest_in, top_of}
-use Rattle.mig_hosted.proofs.ViewedParts.{hvm_part, pv_part}
-use Rattle.mig_hosted.proofs.ViewedFrames.{each_policy, top_is}
+use Rattle.mig_host_view.specs.Localised.{renamed, renamed_part}
+use Rattle.mig_host_view.specs.Normalised.{cut_by, part_seen, normalised_of}
+use Rattle.mig_host_view.specs.RenamedContexts.{renamed_context}
+use Rattle.mig_host_view.specs.View.{view, hvm_view, guest_in, top_of}
+use Rattle.mig_host_view.proofs.ViewedParts.{hvm_part, pv_part}
+use Rattle.mig_host_view.proofs.ViewedFrames.{each_policy, top_is}
 use Rattle.mig_around.specs.KeptParts.{is_early, is_setting, kept_parts, parts_alone, HoldsParts}
 use Rattle.mig_around.specs.SaveTexts.{IsContextFront, context_record, closing_records}
 use Rattle.mig_around.proofs.Walks.{kept_at}

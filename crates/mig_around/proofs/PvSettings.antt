@@ -1,5 +1,5 @@
 -- The settings of the guest that a PV host is seen as: they make a well formed guest, whose records are those of the view.
-use Rattle.mig_hosted.proofs.Common.{◌≡◌, ℕ, ◌+◌, ◌-◌, ◌<◌, ◌≤◌, ◌^◌, ◌++◌, Bool, true, false, cond, List, [], ◌∷◌, length, Option, Some, None, refl, sym, ap, subst, ◌∙◌, arith, ◌==◌, nat_cmp, eqb-true, eq-eqb, part_total, part_exact, part_cmp, Pv, Hvm, PartKey, FrameOf, GuestOf, IsFormed, IsPart, gdt_ents, each_value, blanked_part, length_longs}
+use Rattle.mig_host_view.proofs.Common.{◌≡◌, ℕ, ◌+◌, ◌-◌, ◌<◌, ◌≤◌, ◌^◌, ◌++◌, Bool, true, false, cond, List, [], ◌∷◌, length, Option, Some, None, refl, sym, ap, subst, ◌∙◌, arith, ◌==◌, nat_cmp, eqb-true, eq-eqb, part_total, part_exact, part_cmp, Pv, Hvm, PartKey, FrameOf, GuestOf, IsFormed, IsPart, gdt_ents, each_value, blanked_part, length_longs}
 use Rattle.std.specs.Prelude.{◌≢◌}
 use Rattle.std.specs.List.{AllByRecursion, flat_map, range_with_len}
 use Rattle.std.specs.FinMap as maps
@@ -19,12 +19,12 @@ use Rattle.mig_pvtables.specs.VcpuContexts.{blanked_context, blanked_shared, is_
 use Rattle.mig_pvtables.proofs.BlankSays.{blanked_ents}
 use Rattle.mig_pvtables.proofs.EachValue.{from_each}
 use Rattle.mig_pvtables.proofs.SameShape.{to_guest}
-use Rattle.mig_hosted.specs.Localised.{renamed_part}
-use Rattle.mig_hosted.specs.RenamedContexts.{renamed_context}
-use Rattle.mig_hosted.specs.View.{view, top_of}
-use Rattle.mig_hosted.proofs.ViewedFrames.{each_policy, top_is}
-use Rattle.mig_hosted.proofs.ViewedParts.{pv_part}
-use Rattle.mig_hosted.proofs.ViewedSays.{ents_there}
+use Rattle.mig_host_view.specs.Localised.{renamed_part}
+use Rattle.mig_host_view.specs.RenamedContexts.{renamed_context}
+use Rattle.mig_host_view.specs.View.{view, top_of}
+use Rattle.mig_host_view.proofs.ViewedFrames.{each_policy, top_is}
+use Rattle.mig_host_view.proofs.ViewedParts.{pv_part}
+use Rattle.mig_host_view.proofs.ViewedSays.{ents_there}
 use Rattle.mig_around.specs.KeptParts.{is_setting}
 use Rattle.mig_around.specs.SaveTexts.{settings_seen}
 use Rattle.mig_around.proofs.Codes.{IsOther, IsOtherType, both_all, code_within, from_kept, same_records, seen_as}

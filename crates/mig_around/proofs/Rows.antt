@@ -1,5 +1,5 @@
 -- What is in the way of seeing a valid HVM host is told by its parts alone: it has no tables, and nothing of a PV guest.
-use Rattle.mig_hosted.proofs.Common.{◌≡◌, ℕ, Bool, true, false, cond, List, [], ◌∷◌, Option, Some, None, refl, sym, ap, subst, ◌∙◌, ◌==◌, ◌&&◌, nat_lt, find, range_with_len, option_map, option_or, eqb-true, nat_cmp_total, nat_cmp-IsAntisymmetric, part_total, part_exact, Hvm, PartKey, Entry, EachEntry, gdt_ents, FrameOf, FrameMap, is_type_of, p2m_key, context_key, find_p2m, find_entry, is_superpage, count_in, listed, first_cause, level_of}
+use Rattle.mig_host_view.proofs.Common.{◌≡◌, ℕ, Bool, true, false, cond, List, [], ◌∷◌, Option, Some, None, refl, sym, ap, subst, ◌∙◌, ◌==◌, ◌&&◌, nat_lt, find, range_with_len, option_map, option_or, eqb-true, nat_cmp_total, nat_cmp-IsAntisymmetric, part_total, part_exact, Hvm, PartKey, Entry, EachEntry, gdt_ents, FrameOf, FrameMap, is_type_of, p2m_key, context_key, find_p2m, find_entry, is_superpage, count_in, listed, first_cause, level_of}
 use Rattle.std.specs.FinMap as maps
 use Rattle.mig_headers.specs.declared.kind.Kind.{Kind}
 use Rattle.mig_headers.specs.declared.unsound.Unsound.{Unsound}
@@ -15,8 +15,8 @@ use Rattle.mig_pvtables.specs.VcpuContexts.{is_used_somewhere}
 use Rattle.mig_pvtables.proofs.EachValue.{from_each}
 use Rattle.mig_pvtables.proofs.PvGuests.{no_entry, none_misses}
 use Rattle.mig_pvtables.proofs.Searches.{first_found}
-use Rattle.mig_hosted.specs.Sound.{absent, find_context_fault, find_gdt, machine_type, misnames, unsound_rows, unsoundness}
-use Rattle.mig_hosted.specs.View.{guest_in, without_machine}
+use Rattle.mig_host_view.specs.Sound.{absent, find_context_fault, find_gdt, machine_type, misnames, unsound_rows, unsoundness}
+use Rattle.mig_host_view.specs.View.{guest_in, without_machine}
 use Rattle.mig_pagetypes.specs.declared.page_type.PageType.{PageType}
 use Rattle.mig_pagetypes.specs.declared.page_type.PageType.TheVariants.{Notab, Broken, Xalloc}
 use Rattle.mig_around.specs.SaveTexts.{judged_with}

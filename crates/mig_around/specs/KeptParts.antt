@@ -8,7 +8,7 @@ use Rattle.mig_guest.specs.Formed.{is_emulator_code}
 use Rattle.mig_guest.specs.Guests.{GuestOf}
 use Rattle.mig_guest.specs.PartCodes.{is_fixed}
 use Rattle.mig_guest.specs.Parts.{PartMap}
-use Rattle.mig_hosted.specs.View.{top_of}
+use Rattle.mig_host_view.specs.View.{top_of}
 
 -- the codes of the parts that stand before the frames, which never change while a guest runs; an emulator's pairs don't
 -- either, and stand behind the image

@@ -16,8 +16,8 @@ use Rattle.mig_guest.specs.PartKeys.{context_key}
 use Rattle.mig_canon.specs.Canon.{Record, headers, info_records, static_bodies, p2m_records, records_in_order, last_records, text_of}
 use Rattle.mig_records_pages.specs.Written.{AreRecordsWithin, WroteAll, WroteSome}
 use Rattle.mig_pvtables.specs.Faults.{first_cause}
-use Rattle.mig_hosted.specs.Sound.{absent, find_context_fault, unsoundness}
-use Rattle.mig_hosted.specs.View.{view}
+use Rattle.mig_host_view.specs.Sound.{absent, find_context_fault, unsoundness}
+use Rattle.mig_host_view.specs.View.{view}
 use Rattle.mig_around.specs.KeptParts.{is_setting, kept_parts, parts_alone}
 
 -- the headers, and the records before the frames

@@ -7,7 +7,7 @@ use Rattle.mig_bytes.specs.Bytes.{AppendsPart}
 use Rattle.mig_bytes.specs.Judged.Judged.{Passes}
 use Rattle.mig_guest.specs.Hosts.{HostOf, most_width}
 use Rattle.mig_host.specs.HostView.{HostAndSpare}
-use Rattle.mig_hosted.specs.Sound.{IsSound}
+use Rattle.mig_host_view.specs.Sound.{IsSound}
 use Rattle.mig_image.specs.Answer.{ReadsHost}
 use Rattle.mig_libxl.specs.Reads.{ReadsStream}
 use Rattle.mig_restore.specs.declared.read.Reading.{Reading}

@@ -6,9 +6,9 @@ use Rattle.mig_headers.specs.declared.image_fault.ImageCause.{ImageCause}
 use Rattle.mig_headers.specs.declared.image_fault.ImagePlace.{ImagePlace}
 use Rattle.mig_headers.specs.declared.unsound.Unsound.{Unsound}
 use Rattle.mig_guest.specs.Hosts.{HostOf}
-use Rattle.mig_hosted.specs.Sound.{unsoundness}
-use Rattle.mig_hosted.specs.View.{view}
-use Rattle.mig_hosted.proofs.SoundRows.{sound_is_faultless}
+use Rattle.mig_host_view.specs.Sound.{unsoundness}
+use Rattle.mig_host_view.specs.View.{view}
+use Rattle.mig_host_view.proofs.SoundRows.{sound_is_faultless}
 use Rattle.mig_libxl_form.proofs.Laws.{one_front}
 use Rattle.mig_report.specs.declared.outcome.WalkEnd.{WalkEnd}
 use Rattle.mig_report.specs.declared.outcome.WalkEnd.TheVariants as ends

@@ -4,7 +4,7 @@ use Rattle.std.specs.Io.KnownBytes.{Appends}
 use Rattle.mig_bytes.specs.Bytes.{AppendsPart}
 use Rattle.mig_bytes.specs.Faults.{Rose}
 use Rattle.mig_guest.specs.Hosts.{HostOf}
-use Rattle.mig_hosted.specs.Sound.{IsSound, unsoundness}
+use Rattle.mig_host_view.specs.Sound.{IsSound, unsoundness}
 use Rattle.mig_report.specs.Outcome.{status_of, line_of}
 use Rattle.mig_report.specs.Report.{Reports, walked_line}
 use Rattle.mig_report.specs.declared.outcome.Outcome.{Outcome}

@@ -9,8 +9,8 @@ use Rattle.mig_pagetypes.specs.PageTypes.{number_of}
 use Rattle.mig_pagetypes.specs.declared.page_type.PageType.{PageType}
 use Rattle.mig_guest.specs.Guests.{GuestOf}
 use Rattle.mig_guest.specs.Hosts.{HostOf, most_width}
-use Rattle.mig_hosted.specs.Sound.{IsSound, unsoundness}
-use Rattle.mig_hosted.specs.View.{view}
+use Rattle.mig_host_view.specs.Sound.{IsSound, unsoundness}
+use Rattle.mig_host_view.specs.View.{view}
 use Rattle.mig_image.specs.ImageForm.{host_at}
 use Rattle.mig_libxl_form.specs.Spelled.{AcceptedStream}
 use Rattle.mig_report.specs.Report.{walked_line}

@@ -10,8 +10,8 @@ use Rattle.mig_host.specs.Hosted.{hosted}
 use Rattle.mig_image.specs.declared.version.ImageVersion.TheVariants.{Two}
 use Rattle.mig_image.specs.Image.{image}
 use Rattle.mig_image.specs.ImageForm.{host_at}
-use Rattle.mig_hosted.specs.Sound.{IsSound}
-use Rattle.mig_hosted.specs.View.{view}
+use Rattle.mig_host_view.specs.Sound.{IsSound}
+use Rattle.mig_host_view.specs.View.{view}
 use Rattle.mig_libxl_form.specs.Carried.{IsCarried}
 use Rattle.mig_libxl.specs.Canon.{canon_any}
 use Rattle.mig_libxl_form.specs.Spelled.{AcceptedStream}

@@ -1,5 +1,5 @@
 -- What is found in the tables of a valid HVM host while it is read: nothing, since it has none.
-use Rattle.mig_hosted.proofs.Common.{◌≡◌, ℕ, Option, Some, None, refl, sym, ap, ◌∙◌, option_map, Hvm}
+use Rattle.mig_host_view.proofs.Common.{◌≡◌, ℕ, Option, Some, None, refl, sym, ap, ◌∙◌, option_map, Hvm}
 use Rattle.std.specs.FinMap as maps
 use Rattle.mig_headers.specs.declared.unsound.Unsound.{Unsound}
 use Rattle.mig_headers.specs.declared.unsound.Unsound.TheVariants as unsounds

@@ -11,7 +11,7 @@ use Rattle.mig_pagetypes.specs.declared.page_type.PageType.{PageType}
 use Rattle.mig_guest.specs.Hosts.{HostOf, HostFrame, IsValid}
 use Rattle.mig_canon.specs.Canon.{headers, text_of}
 use Rattle.mig_records_pages.specs.Told.{telling_record}
-use Rattle.mig_hosted.specs.View.{view}
+use Rattle.mig_host_view.specs.View.{view}
 use Rattle.mig_libxl.specs.Canon.{wrapper_opening, wrapper_closing}
 use Rattle.mig_libxl_form.specs.Spelled.{AcceptedStream}
 use Rattle.mig_guest.specs.History.{History}

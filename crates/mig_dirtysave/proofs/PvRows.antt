@@ -16,8 +16,8 @@ use Rattle.mig_pvtables.specs.BadEntries.{is_unknown}
 use Rattle.mig_pvtables.specs.Faults.{slots}
 use Rattle.mig_pvtables.proofs.EachValue.{get_each}
 use Rattle.mig_pvtables.proofs.Searches.{first_found}
-use Rattle.mig_hosted.specs.Sound.{fault_in, find_gdt, unsoundness}
-use Rattle.mig_hosted.specs.View.{without_machine}
+use Rattle.mig_host_view.specs.Sound.{fault_in, find_gdt, unsoundness}
+use Rattle.mig_host_view.specs.View.{without_machine}
 use Rattle.mig_guest.specs.Footprints.{footprint, footprint_of, table_in, names_in, named_by}
 use Rattle.mig_rounds.specs.Forms.{superpage_in, superpage_slot, is_lost, lost_in, lost_slot}
 use Rattle.mig_rounds.specs.Live.{IsUnsound}

@@ -9,7 +9,7 @@ use Rattle.mig_guest.specs.Parts.{PartMap}
 use Rattle.mig_canon.specs.Canon.{Record, headers, text_of}
 use Rattle.mig_records_pages.specs.Told.{FrameTold, telling_record, all_told}
 use Rattle.mig_records_pages.specs.Written.{AreRecordsWithin}
-use Rattle.mig_hosted.specs.View.{view}
+use Rattle.mig_host_view.specs.View.{view}
 use Rattle.mig_libxl.specs.Canon.{wrapper_opening, wrapper_closing}
 use Rattle.mig_libxl_form.specs.Spelled.{AcceptedStream}
 use Rattle.mig_around.specs.SaveTexts.{IsOtherRecord}

@@ -4,7 +4,7 @@ ghost use Rattle.mig_headers.specs.declared.kind.Kind.TheVariants.{Hvm, Pv};
 ghost use Rattle.mig_headers.specs.declared.unsound.Unsound.{Unsound as UnsoundCause};
 ghost use Rattle.mig_guest.specs.Formed.{IsFormed};
 ghost use Rattle.mig_guest.specs.Hosts.{IsValid};
-ghost use Rattle.mig_hosted.specs.Sound.{unsoundness};
+ghost use Rattle.mig_host_view.specs.Sound.{unsoundness};
 ghost use Rattle.mig_rounds.specs.Live.{AnswersTables, IsUnsound, SawTypes};
 ghost use Rattle.mig_standing.specs.Standing.{is_of_no_type};
 ghost use Rattle.mig_standing.specs.Unsoundness.{UnsoundHas};

@@ -2,7 +2,7 @@ ghost use Rattle.std.specs.Prelude.{◌≡◌, ◌≤◌, length, true, false, N
 ghost use Rattle.mig_bytes.specs.Faults.{Rose};
 ghost use Rattle.mig_headers.specs.declared.kind.Kind.TheVariants.{Pv};
 ghost use Rattle.mig_guest.specs.Formed.{IsFormed};
-ghost use Rattle.mig_hosted.specs.Sound.{unsoundness};
+ghost use Rattle.mig_host_view.specs.Sound.{unsoundness};
 ghost use Rattle.mig_guest.specs.History.{no_history};
 ghost use Rattle.mig_guest.specs.Rounds.{all_read};
 ghost use Rattle.mig_standing.specs.Standing.{is_of_no_type};

@@ -24,9 +24,9 @@ use Rattle.mig_pvtables.specs.Blank.{zero_page as blank_page, each_value, blanke
 use Rattle.mig_pvtables.specs.P2mFrames.{place_of}
 use Rattle.mig_pvtables.specs.VcpuContexts.{is_used_somewhere, blanked_context, blanked_shared}
 use Rattle.mig_pvtables.proofs.EachValue.{shown, from_each, entries_each, len_each}
-use Rattle.mig_hosted.specs.Localised.{renamed_page, renamed_frame, renamed_part}
-use Rattle.mig_hosted.specs.RenamedContexts.{renamed_context}
-use Rattle.mig_hosted.specs.View.{without_machine, view}
+use Rattle.mig_host_view.specs.Localised.{renamed_page, renamed_frame, renamed_part}
+use Rattle.mig_host_view.specs.RenamedContexts.{renamed_context}
+use Rattle.mig_host_view.specs.View.{without_machine, view}
 use Rattle.mig_canon.specs.Canon.{Frame, batches}
 use Rattle.mig_libxl.specs.Canon.{canon_any}
 use Rattle.mig_host.proofs.InOrder.{no_entries}

@@ -26,9 +26,9 @@ use Rattle.mig_pvtables.specs.P2mFrames.{listed_in, listed}
 use Rattle.mig_pvtables.specs.VcpuContexts.{field_value, frame_of_field, is_used_somewhere}
 use Rattle.mig_pvtables.specs.WholePv.{AreP2mFrames}
 use Rattle.mig_pvtables.proofs.EachValue.{from_each, to_each}
-use Rattle.mig_hosted.specs.Sound.{machine_type, IsSound, unsoundness}
-use Rattle.mig_hosted.specs.View.{without_machine}
-use Rattle.mig_hosted.proofs.SoundRows.{sound_is_faultless}
+use Rattle.mig_host_view.specs.Sound.{machine_type, IsSound, unsoundness}
+use Rattle.mig_host_view.specs.View.{without_machine}
+use Rattle.mig_host_view.proofs.SoundRows.{sound_is_faultless}
 use Rattle.mig_host.proofs.Machines.{pfn_of_machine}
 use Rattle.mig_exercise.specs.ExerciseHosts.{p2m_frame_count, exercise_type, exercise_machine, exercise_page, exercise_frame, frames_up_to, exercise_context, exercise_p2m_list, exercise_parts, page_of_zeros, host_with, ArePages, IsExerciseSize}
 use Rattle.mig_exercise_laws.proofs.ExerciseEntries.{machine_small, NamesFrames, known_table, no_table, is_table}

@@ -1,6 +1,6 @@
 ghost use Rattle.std.specs.Prelude.{◌≡◌, ◌≤◌, ◌*◌, ℕ, length, None};
-ghost use Rattle.mig_hosted.specs.Sound.{unsoundness};
-ghost use Rattle.mig_hosted.specs.View.{view};
+ghost use Rattle.mig_host_view.specs.Sound.{unsoundness};
+ghost use Rattle.mig_host_view.specs.View.{view};
 ghost use Rattle.mig_libxl.specs.Canon.{canon_any};
 ghost use Rattle.mig_lines.specs.Groups.{ran};
 ghost use Rattle.mig_lines.specs.HostLines.{after};

@@ -3,7 +3,7 @@ use Rattle.mig_host.proofs.Common.{◌≡◌, ℕ, ◌+◌, ◌<◌, ◌≤◌, 
 use Rattle.std.specs.FinMap as maps
 use Rattle.mig_pvtables.proofs.EachValue.{each_each, each_same, get_each, entries_each}
 use Rattle.mig_pvtables.specs.Blank.{each_value}
-use Rattle.mig_hosted.specs.View.{without_machine}
+use Rattle.mig_host_view.specs.View.{without_machine}
 use Rattle.mig_guest.proofs.KeyedMaps.{is_some-mapped}
 use Rattle.mig_guest.proofs.NextEntries.{next_entry}
 use Rattle.mig_host.proofs.InOrder.{some_entry, no_entry}

@@ -3,9 +3,9 @@ use Rattle.mig_host.proofs.Common.{◌≡◌, ℕ, ◌+◌, sym, ap, subst, ◌�
 use Rattle.std.specs.FinMap as maps
 use Rattle.mig_guest.specs.Guests.{GuestOf}
 use Rattle.mig_pvtables.specs.Whole.{IsWhole}
-use Rattle.mig_hosted.specs.Localised.{localised_of}
-use Rattle.mig_hosted.specs.View.{hvm_view}
-use Rattle.mig_hosted.proofs.GuestsBack.{parts_stay}
+use Rattle.mig_host_view.specs.Localised.{localised_of}
+use Rattle.mig_host_view.specs.View.{hvm_view}
+use Rattle.mig_host_view.proofs.GuestsBack.{parts_stay}
 use Rattle.mig_host.specs.Hosted.{mfn_in, hosted_width}
 use Rattle.mig_host.proofs.HostMaps.{without_machines}
 

@@ -13,14 +13,14 @@ use Rattle.mig_pvtables.specs.Whole.{IsWhole}
 use Rattle.mig_pvtables.proofs.EachValue.{from_each, to_each}
 use Rattle.mig_pvtables.proofs.HvmGuests.{hvm_complete}
 use Rattle.mig_pvtables.proofs.PvGuests.{pv_complete}
-use Rattle.mig_hosted.specs.Localised.{renamed_part, localised_of, localised}
-use Rattle.mig_hosted.specs.Normalised.{normalised}
-use Rattle.mig_hosted.specs.Sound.{CanBeSeen, IsSound, unsoundness}
-use Rattle.mig_hosted.specs.View.{without_machine, top_of, guest_in, view}
-use Rattle.mig_hosted.proofs.GuestsBack.{guest_back}
-use Rattle.mig_hosted.proofs.LocalisedGuests.{from_localised, to_localised, count_localised, renamed_is_part, renamed_policy}
-use Rattle.mig_hosted.proofs.SoundGuests.{localised_seen}
-use Rattle.mig_hosted.proofs.SoundRows.{sound_is_faultless}
+use Rattle.mig_host_view.specs.Localised.{renamed_part, localised_of, localised}
+use Rattle.mig_host_view.specs.Normalised.{normalised}
+use Rattle.mig_host_view.specs.Sound.{CanBeSeen, IsSound, unsoundness}
+use Rattle.mig_host_view.specs.View.{without_machine, top_of, guest_in, view}
+use Rattle.mig_host_view.proofs.GuestsBack.{guest_back}
+use Rattle.mig_host_view.proofs.LocalisedGuests.{from_localised, to_localised, count_localised, renamed_is_part, renamed_policy}
+use Rattle.mig_host_view.proofs.SoundGuests.{localised_seen}
+use Rattle.mig_host_view.proofs.SoundRows.{sound_is_faultless}
 use Rattle.mig_host.specs.Hosted.{mfn_in, hosted_width}
 use Rattle.mig_host.proofs.HostMaps.{count_with_machines, without_machines}
 use Rattle.mig_host.proofs.Machines.{pfn_of_machine}

@@ -6,8 +6,8 @@ use Rattle.mig_pvtables.specs.P2mFrames.{listed}
 use Rattle.mig_pvtables.specs.P2mPages.{p2m_page}
 use Rattle.mig_pvtables.specs.Whole.{IsWhole}
 use Rattle.mig_pvtables.proofs.EachValue.{to_each}
-use Rattle.mig_hosted.specs.Localised.{localised}
-use Rattle.mig_hosted.proofs.ListedPages.{listed_page}
+use Rattle.mig_host_view.specs.Localised.{localised}
+use Rattle.mig_host_view.proofs.ListedPages.{listed_page}
 use Rattle.mig_host.specs.Hosted.{mfn_in}
 use Rattle.mig_host.proofs.HostedGuests.{machine_of}
 

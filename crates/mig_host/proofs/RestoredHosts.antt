@@ -4,7 +4,7 @@ use Rattle.std.specs.FinMap as maps
 use Rattle.mig_guest.specs.Guests.{GuestOf}
 use Rattle.mig_pvtables.specs.Whole.{IsWhole}
 use Rattle.mig_pvtables.proofs.EachValue.{get_each}
-use Rattle.mig_hosted.specs.Localised.{localised_frame, localised_of, localised}
+use Rattle.mig_host_view.specs.Localised.{localised_frame, localised_of, localised}
 use Rattle.mig_guest.proofs.KeyedMaps.{is_some-mapped}
 use Rattle.mig_bytes.proofs.NumberMaps.{inserted, inserted_other}
 use Rattle.mig_host.specs.Hosted.{mfn_in, hosted_width}

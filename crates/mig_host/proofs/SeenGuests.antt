@@ -13,11 +13,11 @@ use Rattle.mig_guest.specs.Hosts.{pfn_in}
 use Rattle.mig_guest.proofs.NextEntries.{from_zero}
 use Rattle.mig_pvtables.specs.Blank.{each_value}
 use Rattle.mig_pvtables.proofs.EachValue.{each_same}
-use Rattle.mig_hosted.specs.Normalised.{cut_by, part_seen, normalised}
-use Rattle.mig_hosted.specs.Sound.{IsSound}
-use Rattle.mig_hosted.specs.View.{without_machine, top_of, guest_in, view}
-use Rattle.mig_hosted.proofs.HostViews.{hvm_viewed}
-use Rattle.mig_hosted.proofs.ViewedFrames.{not_absent, pfn_small}
+use Rattle.mig_host_view.specs.Normalised.{cut_by, part_seen, normalised}
+use Rattle.mig_host_view.specs.Sound.{IsSound}
+use Rattle.mig_host_view.specs.View.{without_machine, top_of, guest_in, view}
+use Rattle.mig_host_view.proofs.HostViews.{hvm_viewed}
+use Rattle.mig_host_view.proofs.ViewedFrames.{not_absent, pfn_small}
 use Rattle.mig_host.proofs.Copies.{IsCopied, copy_start, copy_there, copy_next}
 use Rattle.mig_host.proofs.SoundHosts.{length_allowed, contexts_long as host_contexts}
 

@@ -12,9 +12,9 @@ use Rattle.mig_guest.specs.Hosts.{pfn_in}
 use Rattle.mig_pvtables.specs.Blank.{each_value}
 use Rattle.mig_pvtables.specs.Faults.{first_cause}
 use Rattle.mig_pvtables.specs.P2mFrames.{count_in}
-use Rattle.mig_hosted.specs.Sound.{IsSound, unsound_rows, unsoundness}
-use Rattle.mig_hosted.specs.View.{without_machine, guest_in}
-use Rattle.mig_hosted.proofs.SoundRows.{sound_is_faultless}
+use Rattle.mig_host_view.specs.Sound.{IsSound, unsound_rows, unsoundness}
+use Rattle.mig_host_view.specs.View.{without_machine, guest_in}
+use Rattle.mig_host_view.proofs.SoundRows.{sound_is_faultless}
 use Rattle.mig_host.proofs.HostMaps.{joined, without_machines}
 
 -- the frames of a host without their machine frames are those that it keeps

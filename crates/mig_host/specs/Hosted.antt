@@ -8,7 +8,7 @@ use Rattle.mig_guest.specs.Formed.{width_of}
 use Rattle.mig_guest.specs.Frames.{FrameMap}
 use Rattle.mig_guest.specs.Guests.{GuestOf}
 use Rattle.mig_guest.specs.Hosts.{HostOf, machine_limit}
-use Rattle.mig_hosted.specs.Localised.{localised}
+use Rattle.mig_host_view.specs.Localised.{localised}
 use Rattle.mig_host.specs.HostView.{with_machines}
 
 -- how many of the frames have a smaller PFN

@@ -7,7 +7,7 @@ ghost use Rattle.mig_guest.specs.declared.part_key.PartKey.{PartKey};
 ghost use Rattle.mig_guest.specs.Frames.{NextEntry};
 ghost use Rattle.mig_guest.specs.Hosts.{IsHostFrame, IsHostPart, IsValid, most_width, machine_limit, pfn_in};
 ghost use Rattle.mig_guest.specs.Parts.{FitsPolicy, NextBehind, NextKey};
-ghost use Rattle.mig_hosted.specs.View.{guest_in};
+ghost use Rattle.mig_host_view.specs.View.{guest_in};
 ghost use Rattle.mig_host.specs.HostView.{has_machine, put_frame, put_part_in};
 
 use crate::machine_frames::MachineFrames;

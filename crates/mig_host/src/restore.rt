@@ -11,7 +11,7 @@ use crate::machine_frames::{MACHINE_LIMIT, MachineFrames};
 use mig_bytes::Memory;
 use mig_guest::Guest;
 use mig_headers::Kind;
-use mig_hosted::localise_guest;
+use mig_host_view::localise_guest;
 use std::alloc::Global;
 use thiserror::Error;
 

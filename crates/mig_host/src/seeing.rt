@@ -10,9 +10,9 @@ ghost use Rattle.mig_guest.specs.PartKeys.{context_key};
 ghost use Rattle.mig_headers.specs.declared.unsound.Unsound.{Unsound as Cause};
 ghost use Rattle.mig_pvtables.specs.Blank.{each_value, IsOfBytes};
 ghost use Rattle.mig_pvtables.specs.Whole.{IsStreamed};
-ghost use Rattle.mig_hosted.specs.Normalised.{part_seen};
-ghost use Rattle.mig_hosted.specs.Sound.{IsSound, unsoundness};
-ghost use Rattle.mig_hosted.specs.View.{without_machine, top_of, guest_in, view};
+ghost use Rattle.mig_host_view.specs.Normalised.{part_seen};
+ghost use Rattle.mig_host_view.specs.Sound.{IsSound, unsoundness};
+ghost use Rattle.mig_host_view.specs.View.{without_machine, top_of, guest_in, view};
 ghost use Rattle.mig_host.specs.declared.sound.SoundAnswer.TheVariants as answers;
 
 use crate::host::Host;
@@ -20,7 +20,7 @@ use crate::sound::SoundAnswer;
 use mig_bytes::Memory;
 use mig_guest::{Guest, PartCode, PartKey};
 use mig_headers::Kind;
-use mig_hosted::normalise_guest;
+use mig_host_view::normalise_guest;
 use mig_hvm::read_context;
 use std::alloc::Global;
 

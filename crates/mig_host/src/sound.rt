@@ -1,12 +1,12 @@
 ghost use Rattle.std.specs.Prelude.{◌≡◌, None, Some, Err, OnOk, IfOk};
 ghost use Rattle.mig_headers.specs.declared.unsound.Unsound.{Unsound as Cause};
-ghost use Rattle.mig_hosted.specs.Sound.{IsSound, unsoundness as cause_in};
+ghost use Rattle.mig_host_view.specs.Sound.{IsSound, unsoundness as cause_in};
 ghost use Rattle.mig_host.specs.declared.sound.SoundAnswer.TheVariants as answers;
 
 use crate::host::Host;
 use mig_bytes::Memory;
 use mig_headers::Unsound;
-use mig_hosted::unsoundness;
+use mig_host_view::unsoundness;
 use std::alloc::Global;
 use thiserror::Error;
 

@@ -8,7 +8,7 @@ use Rattle.mig_bytes.specs.declared.answer.Answer.TheVariants as answers
 use Rattle.mig_headers.specs.declared.fault.Cause.{Cause}
 use Rattle.mig_headers.specs.declared.fault.Place.{Place}
 use Rattle.mig_guest.specs.Hosts.{HostOf}
-use Rattle.mig_hosted.specs.Sound.{unsoundness}
+use Rattle.mig_host_view.specs.Sound.{unsoundness}
 use Rattle.mig_libxl.specs.Reads.{ReadsStream}
 use Rattle.mig_libxl_form.proofs.Laws.{accepted_is_stream, one_front, never_both}
 use Rattle.mig_restore.specs.declared.read.Reading.{Reading}
@@ -18,7 +18,7 @@ use Rattle.mig_report.specs.declared.outcome.Outcome.TheVariants as outcomes
 use Rattle.mig_report.specs.declared.outcome.Refusal.TheVariants as refusals
 use Rattle.mig_script.specs.ScriptLines.{LineOf}
 use Rattle.std.specs.Prelude.{◌*◌, ◌≤◌}
-use Rattle.mig_hosted.specs.View.{view}
+use Rattle.mig_host_view.specs.View.{view}
 use Rattle.mig_libxl.specs.Canon.{canon_any}
 use Rattle.mig_paced.specs.Paced.{Paced}
 use Rattle.mig_exercise.specs.ExerciseHosts.{IsExerciseSize, host_of_exercise, data_count, exercise_canon_len}

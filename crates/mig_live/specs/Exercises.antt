@@ -2,7 +2,7 @@
 use Rattle.std.specs.Prelude.{◌≡◌, ⊤, ℕ, ◌+◌, ◌*◌, ◌≤◌, List, [], length, Option, Some}
 use Rattle.std.specs.Io.KnownBytes.{Appends}
 use Rattle.mig_bytes.specs.Bytes.{AppendsPart}
-use Rattle.mig_hosted.specs.View.{view}
+use Rattle.mig_host_view.specs.View.{view}
 use Rattle.mig_libxl.specs.Canon.{canon_any}
 use Rattle.mig_paced.specs.Paced.{Paced}
 use Rattle.mig_exercise.specs.ExerciseHosts.{host_of_exercise, data_count, exercise_canon_len}

@@ -20,8 +20,8 @@ use Rattle.mig_pvtables.proofs.BlankSays.{field_there}
 use Rattle.mig_pvtables.proofs.EachValue.{entries_each}
 use Rattle.mig_pvtables.proofs.LongSteps.{still}
 use Rattle.mig_pvtables.proofs.Walks.{in_fields, context_there}
-use Rattle.mig_hosted.specs.LocaliseSteps.{is_field_below}
-use Rattle.mig_hosted.proofs.LocaliseContexts.{FieldsRenamed}
+use Rattle.mig_host_view.specs.LocaliseSteps.{is_field_below}
+use Rattle.mig_host_view.proofs.LocaliseContexts.{FieldsRenamed}
 
 -- ---- one context
 

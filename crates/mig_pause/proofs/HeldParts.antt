@@ -22,10 +22,10 @@ use Rattle.mig_pvtables.specs.BlankSteps.{only, blanked_code}
 use Rattle.mig_pvtables.specs.VcpuContexts.{is_used_somewhere, blanked_context, blanked_shared}
 use Rattle.mig_pvtables.proofs.BlankGuests.{HasSolePage, HasLongPage, page_still, parts_blanked}
 use Rattle.mig_pvtables.proofs.EachValue.{get_each, some_each, stays_each}
-use Rattle.mig_hosted.specs.Localised.{renamed_part}
-use Rattle.mig_hosted.specs.Normalised.{normalised_of}
-use Rattle.mig_hosted.specs.View.{guest_in, view}
-use Rattle.mig_hosted.proofs.LocalisedGuests.{from_context}
+use Rattle.mig_host_view.specs.Localised.{renamed_part}
+use Rattle.mig_host_view.specs.Normalised.{normalised_of}
+use Rattle.mig_host_view.specs.View.{guest_in, view}
+use Rattle.mig_host_view.proofs.LocalisedGuests.{from_context}
 use Rattle.mig_pause.specs.Paused.{HoldsOf, with_names, with_view}
 
 -- ---- a host's shared page

@@ -23,8 +23,8 @@ use Rattle.mig_guest.proofs.PartRows.{one_code}
 use Rattle.mig_pvtables.specs.Faults.{first_some, first_cause, type_at, find_in_contexts}
 use Rattle.mig_pvtables.proofs.EachValue.{get_each}
 use Rattle.mig_pvtables.proofs.Walks.{in_fields, in_contexts, large_in, contexts_start}
-use Rattle.mig_hosted.specs.Sound.{find_gdt, fault_in, unsoundness}
-use Rattle.mig_hosted.specs.View.{guest_in, without_machine}
+use Rattle.mig_host_view.specs.Sound.{find_gdt, fault_in, unsoundness}
+use Rattle.mig_host_view.specs.View.{guest_in, without_machine}
 use Rattle.mig_headers.specs.Contexts.{scan}
 use Rattle.mig_standing.specs.FirstRow.{find_ill_listed, row_1, row_2, row_3, row_4, row_5, row_6, row_7}
 use Rattle.mig_standing.specs.Standing.{Standing}

@@ -19,7 +19,7 @@ use Rattle.mig_pvtables.specs.Faults.{first_some, first_cause, slots}
 use Rattle.mig_pvtables.specs.Tables.{is_superpage}
 use Rattle.mig_pvtables.proofs.EachValue.{get_each}
 use Rattle.mig_pvtables.proofs.Slots.{no_slot}
-use Rattle.mig_hosted.specs.View.{guest_in, without_machine}
+use Rattle.mig_host_view.specs.View.{guest_in, without_machine}
 use Rattle.mig_rounds.specs.Forms.{superpage_in, superpage_slot, lost_in, lost_slot, is_lost}
 use Rattle.mig_rounds.specs.Live.{table_fault, tables_unsound}
 use Rattle.mig_rounds.specs.Sends.{first_pfn, or_first, place}

@@ -12,8 +12,8 @@ use Rattle.mig_guest.specs.MachineStates.{MachineState, Ran}
 use Rattle.mig_pvtables.specs.Blank.{each_value}
 use Rattle.mig_pvtables.specs.Faults.{first_cause}
 use Rattle.mig_pvtables.specs.VcpuContexts.{is_used_somewhere}
-use Rattle.mig_hosted.specs.Localised.{renamed_part}
-use Rattle.mig_hosted.specs.View.{view}
+use Rattle.mig_host_view.specs.Localised.{renamed_part}
+use Rattle.mig_host_view.specs.View.{view}
 use Rattle.mig_standing.specs.FirstRow.{row_1, row_2, row_3, row_4, row_5, row_6}
 use Rattle.mig_standing.specs.Standing.{Standing, in_host, before_saver}
 

@@ -6,7 +6,7 @@ ghost use Rattle.mig_guest.specs.declared.part_key.PartKey.{PartKey};
 ghost use Rattle.mig_guest.specs.PartCodes.{code_number};
 ghost use Rattle.mig_guest.specs.MachineStates.{IsValidState};
 ghost use Rattle.mig_pvtables.specs.Faults.{first_cause, first_some};
-ghost use Rattle.mig_hosted.specs.Sound.{absent, needed_keys, unsoundness};
+ghost use Rattle.mig_host_view.specs.Sound.{absent, needed_keys, unsoundness};
 ghost use Rattle.mig_standing.specs.FirstRow.{row_1, row_2, row_5};
 ghost use Rattle.mig_pause.specs.Paused.{standing_seen, HasTypes, first_in_tables, first_around, with_names, OnlyLooksUp};
 
@@ -16,7 +16,7 @@ use mig_bytes::Failed;
 use mig_guest::{Guest, PartCode};
 use mig_guest::mig_machine_api::Machine;
 use mig_headers::Unsound;
-use mig_hosted::large_gdt;
+use mig_host_view::large_gdt;
 use mig_pagetypes::PageType;
 use mig_pvtables::sole_key;
 

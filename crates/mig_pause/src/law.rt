@@ -3,7 +3,7 @@ ghost use Rattle.std.specs.FinMap as maps;
 ghost use Rattle.mig_headers.specs.declared.kind.Kind.TheVariants.{Pv};
 ghost use Rattle.mig_guest.specs.Guests.{GuestOf};
 ghost use Rattle.mig_guest.specs.Hosts.{HostOf};
-ghost use Rattle.mig_hosted.specs.View.{view};
+ghost use Rattle.mig_host_view.specs.View.{view};
 ghost use Rattle.mig_rounds.specs.Live.{tables_unsound};
 ghost use Rattle.mig_pause.specs.Paused.{HoldsOf, first_in_tables, with_view};
 

@@ -1,7 +1,7 @@
 ghost use Rattle.std.specs.Prelude.{◌≡◌, ◌≤◌, length, true, None, OnErr, IfOk};
 ghost use Rattle.mig_bytes.specs.Faults.{Rose};
 ghost use Rattle.mig_headers.specs.declared.kind.Kind.TheVariants.{Pv};
-ghost use Rattle.mig_hosted.specs.Sound.{unsoundness};
+ghost use Rattle.mig_host_view.specs.Sound.{unsoundness};
 ghost use Rattle.mig_pause.specs.Paused.{standing_seen, HasTypes, first_in_tables, HoldsOf, first_around, with_view, OnlyLooksUp};
 
 use crate::judging::{host_is_valid, judge};

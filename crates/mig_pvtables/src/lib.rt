@@ -3,7 +3,7 @@
 //! Responsible for: what an entry of a table says, what is wrong with a table in a stream, the frame that a field of a
 //! vCPU's context says, what is wrong with a guest at the end of its stream, bringing a guest to its blank form, and
 //! bringing a table from frame numbers to machine frames and back. A whole guest that stands in a machine is left to
-//! mig_hosted.
+//! mig_host_view.
 //!
 //! What the layers above rely on: a guest is whole exactly where no row of its faults finds anything, and its blank form
 //! is whole then, and is its own blank form. For those that look at a guest in a machine, the searches are here that are

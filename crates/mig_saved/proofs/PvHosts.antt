@@ -26,11 +26,11 @@ use Rattle.mig_pvtables.proofs.BlankShape.{table_unlisted, entries_back, type_th
 use Rattle.mig_pvtables.proofs.EachValue.{to_each, len_each, each_each, same_each, stays_each}
 use Rattle.mig_pvtables.proofs.PvGuests.{pv_complete}
 use Rattle.mig_pvtables.proofs.SameShape.{kept_p2m}
-use Rattle.mig_hosted.specs.Localised.{renamed, renamed_frame}
-use Rattle.mig_hosted.specs.Normalised.{normalised_of}
-use Rattle.mig_hosted.specs.Sound.{IsSound}
-use Rattle.mig_hosted.specs.View.{view, guest_in, top_of, without_machine}
-use Rattle.mig_hosted.proofs.ViewedGuests.{viewed_whole, viewed_blank}
+use Rattle.mig_host_view.specs.Localised.{renamed, renamed_frame}
+use Rattle.mig_host_view.specs.Normalised.{normalised_of}
+use Rattle.mig_host_view.specs.Sound.{IsSound}
+use Rattle.mig_host_view.specs.View.{view, guest_in, top_of, without_machine}
+use Rattle.mig_host_view.proofs.ViewedGuests.{viewed_whole, viewed_blank}
 use Rattle.mig_libxl.proofs.Canon.{pv_plain}
 use Rattle.mig_guest.specs.Footprints.{footprint_of}
 use Rattle.mig_rounds.specs.Forms.{form_of_print}

@@ -13,7 +13,7 @@ use Rattle.mig_pvtables.proofs.BlankSays.{low_says}
 use Rattle.mig_pvtables.proofs.Moduli.{longs_modulo, long_of_each}
 use Rattle.mig_pvtables.proofs.Renamed.{renamed_long, by_frames}
 use Rattle.mig_pvtables.proofs.RenameSteps.{blanked_zero, blanked_stays}
-use Rattle.mig_hosted.specs.Localised.{renamed_page}
+use Rattle.mig_host_view.specs.Localised.{renamed_page}
 use Rattle.mig_guest.specs.Footprints.{names_in, named_by, table_in}
 use Rattle.mig_rounds.specs.Forms.{form_page}
 

@@ -16,8 +16,8 @@ use Rattle.mig_pagetypes.specs.PageTypes.{level_of}
 use Rattle.mig_guest.specs.Formed.{IsGuestFrame}
 use Rattle.mig_guest.specs.Frames.{FrameOf, FrameMap, framed, is_type_of}
 use Rattle.mig_guest.specs.Tables.{EachEntry, IsWithin}
-use Rattle.mig_hosted.specs.View.{top_of}
-use Rattle.mig_hosted.proofs.ViewedFrames.{not_absent, inside_is}
+use Rattle.mig_host_view.specs.View.{top_of}
+use Rattle.mig_host_view.proofs.ViewedFrames.{not_absent, inside_is}
 use Rattle.mig_canon.specs.Canon.{Frame}
 use Rattle.mig_restore_form.specs.Mean.{meant_type, put_entry, put_entries}
 use Rattle.mig_canon.specs.Batched.{IsSendable, IsSendableBatch, told, frames_told}

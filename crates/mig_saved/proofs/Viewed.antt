@@ -11,10 +11,10 @@ use Rattle.mig_guest.specs.Hosts.{HostOf, IsValid}
 use Rattle.mig_pvtables.specs.Blank.{blank}
 use Rattle.mig_pvtables.specs.Whole.{IsWhole}
 use Rattle.mig_pvtables.proofs.HvmGuests.{hvm_blank, hvm_complete}
-use Rattle.mig_hosted.specs.Sound.{IsSound}
-use Rattle.mig_hosted.specs.View.{view, hvm_view, top_of}
-use Rattle.mig_hosted.proofs.HostViews.{hvm_viewed}
-use Rattle.mig_hosted.proofs.ViewedGuests.{viewed_whole}
+use Rattle.mig_host_view.specs.Sound.{IsSound}
+use Rattle.mig_host_view.specs.View.{view, hvm_view, top_of}
+use Rattle.mig_host_view.proofs.HostViews.{hvm_viewed}
+use Rattle.mig_host_view.proofs.ViewedGuests.{viewed_whole}
 use Rattle.mig_canon.specs.Canon.{Frame}
 use Rattle.mig_restore_form.specs.Spelled.{Accepted, IsComplete}
 use Rattle.mig_canon.specs.Batched.{IsSendableBatch, TellFrames, frames_told, batched}

@@ -1,7 +1,7 @@
 ghost use Rattle.std.specs.Prelude.{◌≡◌, ◌≤◌, ◌^◌, ℕ, List, ◌++◌, length, map};
 ghost use Rattle.mig_guest.specs.Hosts.{HostOf, IsValid};
-ghost use Rattle.mig_hosted.specs.Sound.{IsSound};
-ghost use Rattle.mig_hosted.specs.View.{view};
+ghost use Rattle.mig_host_view.specs.Sound.{IsSound};
+ghost use Rattle.mig_host_view.specs.View.{view};
 ghost use Rattle.mig_restore_form.specs.Spelled.{Accepted};
 ghost use Rattle.mig_libxl.specs.Canon.{bare_guest};
 ghost use Rattle.mig_canon.specs.Batched.{batched};

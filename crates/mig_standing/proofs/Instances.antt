@@ -11,8 +11,8 @@ use Rattle.mig_pvtables.proofs.Common.{◌≡◌, ℕ, ◌+◌, ◌*◌, ◌<◌
 use Rattle.mig_pvtables.specs.BadEntries.{is_unknown}
 use Rattle.mig_pvtables.specs.Faults.{slots, find_in_contexts, missing, too_many}
 use Rattle.mig_pvtables.proofs.EachValue.{get_each}
-use Rattle.mig_hosted.specs.Sound.{absent, needed_keys, unsound_rows, unsoundness}
-use Rattle.mig_hosted.specs.View.{guest_in, without_machine}
+use Rattle.mig_host_view.specs.Sound.{absent, needed_keys, unsound_rows, unsoundness}
+use Rattle.mig_host_view.specs.View.{guest_in, without_machine}
 use Rattle.mig_standing.specs.NamedFirst.{NamesFirst}
 use Rattle.mig_standing.specs.Standing.{Standing, said_of, itself_in, in_stream, in_machine, in_host, type_named}
 use Rattle.mig_standing.specs.FirstRow.{has_some, is_ill_listed, find_ill_listed, names_ill, row_1, row_2, row_5, row_6, row_7, first_row, IsWide}

@@ -5,7 +5,7 @@ use Rattle.mig_pvtables.proofs.Common.{◌≡◌, ℕ, ◌*◌, ◌%◌, ◌^◌
 use Rattle.mig_pvtables.specs.VcpuContexts.{Usage, is_used_somewhere}
 use Rattle.mig_pvtables.proofs.BlankSays.{place_field}
 use Rattle.mig_pvtables.proofs.Moduli.{long_of_each}
-use Rattle.mig_hosted.specs.RenamedContexts.{field_named, value_renamed, renamed_value, renamed_context}
+use Rattle.mig_host_view.specs.RenamedContexts.{field_named, value_renamed, renamed_value, renamed_context}
 use Rattle.mig_standing.specs.Fields.{Field, FieldRow, UsedWhere, field_row, IsField, field_numbered, said_by}
 use Rattle.mig_standing.specs.NamedAnew.{Uses, AreNamesSmall, SaysAnew, IsSeenAs}
 use Rattle.mig_standing.proofs.Fields.{AreLongs, are_longs, agrees, at_its_place, place_inside, one_place, numbers_tell, value_small, longs_bytes, number_small, numbered}

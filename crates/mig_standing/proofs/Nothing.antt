@@ -5,8 +5,8 @@ use Rattle.mig_headers.specs.declared.unsound.Unsound.{Unsound}
 use Rattle.mig_headers_text.specs.UnsoundTexts.{number_of_unsound}
 use Rattle.mig_guest.specs.Hosts.{HostOf}
 use Rattle.mig_pvtables.proofs.Common.{◌≡◌, ℕ, ◌↔◌, GuestOf, Pv, IsFormed, IsWhole, fault_of_guest}
-use Rattle.mig_hosted.specs.Sound.{IsSound, unsoundness}
-use Rattle.mig_hosted.proofs.SoundRows.{sound_is_faultless}
+use Rattle.mig_host_view.specs.Sound.{IsSound, unsoundness}
+use Rattle.mig_host_view.proofs.SoundRows.{sound_is_faultless}
 use Rattle.mig_standing.specs.Unsoundness.{UnsoundHas, IsWrongAtEnd}
 use Rattle.mig_standing.proofs.AtEnd.{fault_named}
 use Rattle.mig_standing.proofs.Instances.{unsoundness_named}

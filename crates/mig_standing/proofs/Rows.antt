@@ -19,7 +19,7 @@ use Rattle.mig_pvtables.proofs.Common.{◌≡◌, inl, inr, ℕ, zero, suc, ◌+
 use Rattle.mig_pvtables.specs.BadEntries.{is_unknown}
 use Rattle.mig_pvtables.specs.Faults.{slots, field_numbers}
 use Rattle.mig_pvtables.specs.P2mFrames.{listed_in}
-use Rattle.mig_hosted.specs.Sound.{needed_keys, absent, fault_in}
+use Rattle.mig_host_view.specs.Sound.{needed_keys, absent, fault_in}
 use Rattle.mig_standing.specs.NamedFirst.{NamesFirst}
 use Rattle.mig_standing.specs.Standing.{Standing, said_in, said_of, says_in}
 use Rattle.mig_standing.specs.FirstRow.{has_some, is_ill_listed, find_said, names_ill, row_1, row_2, row_3, row_4, row_5, row_6, row_7, first_row, IsWide}

@@ -3,8 +3,8 @@ use Rattle.mig_headers.specs.declared.unsound.Unsound.{Unsound}
 use Rattle.mig_headers_text.specs.UnsoundTexts.{number_of_unsound}
 use Rattle.mig_guest.specs.Hosts.{HostOf}
 use Rattle.mig_pvtables.proofs.Common.{◌≡◌, ℕ, true, Option, subst, sym, ◌∙◌, ◌↔◌, PageType, type_at}
-use Rattle.mig_hosted.specs.Sound.{unsoundness}
-use Rattle.mig_hosted.specs.View.{guest_in}
+use Rattle.mig_host_view.specs.Sound.{unsoundness}
+use Rattle.mig_host_view.specs.View.{guest_in}
 use Rattle.mig_standing.specs.Standing.{Standing, in_host, before_saver, is_of_no_type}
 use Rattle.mig_standing.specs.FirstRow.{first_row, IsWide}
 use Rattle.mig_standing.specs.Unsoundness.{IsWrong, UnsoundHas, NamesFirstRow}

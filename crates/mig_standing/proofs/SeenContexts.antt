@@ -10,12 +10,12 @@ use Rattle.mig_pvtables.specs.VcpuContexts.{blanked_value, is_used_somewhere}
 use Rattle.mig_pvtables.proofs.BlankSays.{place_field}
 use Rattle.mig_pvtables.proofs.BlankWhole.{unfit}
 use Rattle.mig_pvtables.proofs.EachValue.{to_each}
-use Rattle.mig_hosted.specs.Localised.{renamed_part}
-use Rattle.mig_hosted.specs.Normalised.{normalised_of}
-use Rattle.mig_hosted.specs.RenamedContexts.{renamed_context}
-use Rattle.mig_hosted.specs.Sound.{IsSound}
-use Rattle.mig_hosted.specs.View.{guest_in, view}
-use Rattle.mig_hosted.proofs.ViewedSays.{pfn_found}
+use Rattle.mig_host_view.specs.Localised.{renamed_part}
+use Rattle.mig_host_view.specs.Normalised.{normalised_of}
+use Rattle.mig_host_view.specs.RenamedContexts.{renamed_context}
+use Rattle.mig_host_view.specs.Sound.{IsSound}
+use Rattle.mig_host_view.specs.View.{guest_in, view}
+use Rattle.mig_host_view.proofs.ViewedSays.{pfn_found}
 use Rattle.mig_standing.specs.Fields.{Field, field_row, IsField, field_numbered, said_by}
 use Rattle.mig_standing.specs.NamedAnew.{Uses, AreNamesSmall, SaysAnew, IsSeenAs}
 use Rattle.mig_standing.proofs.Fields.{agrees, number_small, numbered, place_inside, one_place, written_blanked, unused_blanked}

@@ -5,9 +5,9 @@ use Rattle.mig_pvtables.proofs.Common.{◌≡◌, ℕ, ◌%◌, ◌^◌, ◌<◌
 use Rattle.mig_pvtables.specs.VcpuContexts.{blanked_value, is_used_somewhere}
 use Rattle.mig_pvtables.proofs.EachValue.{to_each}
 use Rattle.mig_pvtables.proofs.Moduli.{long_of_each}
-use Rattle.mig_hosted.specs.Localised.{renamed_part}
-use Rattle.mig_hosted.specs.RenamedContexts.{field_named, value_renamed, renamed_value, renamed_context}
-use Rattle.mig_hosted.specs.View.{view}
+use Rattle.mig_host_view.specs.Localised.{renamed_part}
+use Rattle.mig_host_view.specs.RenamedContexts.{field_named, value_renamed, renamed_value, renamed_context}
+use Rattle.mig_host_view.specs.View.{view}
 use Rattle.mig_standing.specs.WorkedUserRoot.{user_table, user_root_context, user_root_host, user_root_seen}
 
 abbrev names : ℕ → ℕ → Option ℕ

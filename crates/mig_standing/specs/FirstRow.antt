@@ -16,7 +16,7 @@ use Rattle.mig_pvtables.specs.Faults.{first_some, first_cause, slots, is_notab, 
 use Rattle.mig_pvtables.specs.P2mFrames.{count_in, listed}
 use Rattle.mig_pvtables.specs.Tables.{is_superpage}
 use Rattle.mig_pvtables.specs.VcpuContexts.{field_value, frame_of_field}
-use Rattle.mig_hosted.specs.Sound.{needed_keys, absent, find_gdt, find_context_fault}
+use Rattle.mig_host_view.specs.Sound.{needed_keys, absent, find_gdt, find_context_fault}
 use Rattle.mig_standing.specs.Standing.{Standing, type_named}
 
 -- some PFN of P2M frame k has a frame

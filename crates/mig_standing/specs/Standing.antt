@@ -16,7 +16,7 @@ use Rattle.mig_guest.specs.Parts.{PartMap}
 use Rattle.mig_guest.specs.Tables.{entry}
 use Rattle.mig_pvtables.specs.Faults.{type_at}
 use Rattle.mig_pvtables.specs.VcpuContexts.{Usage, is_used, is_used_somewhere}
-use Rattle.mig_hosted.specs.View.{guest_in}
+use Rattle.mig_host_view.specs.View.{guest_in}
 
 -- what is asked of a guest, wherever it stands: no map of frames, so that names and types may come one at a time
 pub record Standing : Type 0 where

@@ -7,7 +7,7 @@ use Rattle.mig_pagetypes.specs.declared.page_type.PageType.TheVariants.{L4Tab}
 use Rattle.mig_guest.specs.Hosts.{HostOf, HostFrame}
 use Rattle.mig_guest.specs.Longs.{long_at, longs}
 use Rattle.mig_guest.specs.PartKeys.{vcpu_key}
-use Rattle.mig_hosted.specs.View.{view}
+use Rattle.mig_host_view.specs.View.{view}
 
 -- the table, all of whose slots are empty
 abbrev pub user_table : HostFrame

@@ -9,7 +9,7 @@ ghost use Rattle.mig_guest.specs.Guests.{GuestOf};
 ghost use Rattle.mig_guest.specs.Hosts.{HostOf, IsValid};
 ghost use Rattle.mig_pvtables.specs.Faults.{fault_of_guest};
 ghost use Rattle.mig_pvtables.specs.Whole.{IsWhole};
-ghost use Rattle.mig_hosted.specs.Sound.{IsSound, unsoundness};
+ghost use Rattle.mig_host_view.specs.Sound.{IsSound, unsoundness};
 ghost use Rattle.mig_standing.specs.FirstRow.{first_row, IsWide};
 ghost use Rattle.mig_standing.specs.NamedFirst.{NamesFirst};
 ghost use Rattle.mig_standing.specs.Standing.{Standing, in_host};

@@ -3,7 +3,7 @@ use Rattle.mig_tool.proofs.Common.{◌⊎◌, ◌≡◌, ℕ, List, Option, Some
 use mathlib.Core.Logic.{inl, inr}
 use Rattle.mig_bytes.specs.Faults.{Rose}
 use Rattle.mig_guest.specs.Hosts.{HostOf}
-use Rattle.mig_hosted.specs.View.{view}
+use Rattle.mig_host_view.specs.View.{view}
 use Rattle.mig_report.specs.declared.status.Status.{Status}
 use Rattle.mig_report.specs.declared.status.Status.TheVariants as statuses
 use Rattle.mig_script.specs.ScriptLines.{LineOf}

@@ -27,11 +27,11 @@ use Rattle.mig_pvtables.proofs.BlankShape.{table_unlisted}
 use Rattle.mig_pvtables.proofs.EachValue.{get_each}
 use Rattle.mig_pvtables.proofs.PvGuests.{pv_complete}
 use Rattle.mig_pvtables.proofs.Renamed.{fits_back, said_anew}
-use Rattle.mig_hosted.specs.Localised.{renamed_part, localised_page, localised_frame, localised_of, localised}
-use Rattle.mig_hosted.specs.RenamedContexts.{renamed_context}
-use Rattle.mig_hosted.specs.View.{guest_in}
-use Rattle.mig_hosted.proofs.GuestsBack.{table_goes, context_bytes}
-use Rattle.mig_hosted.proofs.LocalisedGuests.{localised_type, to_localised}
+use Rattle.mig_host_view.specs.Localised.{renamed_part, localised_page, localised_frame, localised_of, localised}
+use Rattle.mig_host_view.specs.RenamedContexts.{renamed_context}
+use Rattle.mig_host_view.specs.View.{guest_in}
+use Rattle.mig_host_view.proofs.GuestsBack.{table_goes, context_bytes}
+use Rattle.mig_host_view.proofs.LocalisedGuests.{localised_type, to_localised}
 use Rattle.mig_host.specs.Hosted.{hosted, rank_in, mfn_in, IsBaseOutside}
 use Rattle.mig_host.specs.HostView.{with_machine}
 use Rattle.mig_host.proofs.HostedGuests.{some_value, IsBaseInside, base_inside, whole_valid}

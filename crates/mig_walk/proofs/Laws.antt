@@ -15,8 +15,8 @@ use Rattle.mig_guest.specs.PartKeys.{vcpu_key}
 use Rattle.mig_guest.specs.Tables.{is_blank_slot}
 use Rattle.mig_pvtables.specs.Whole.{IsWhole}
 use Rattle.mig_pvtables.proofs.BlankSays.{blank_says}
-use Rattle.mig_hosted.specs.Sound.{IsSound}
-use Rattle.mig_hosted.specs.View.{guest_in}
+use Rattle.mig_host_view.specs.Sound.{IsSound}
+use Rattle.mig_host_view.specs.View.{guest_in}
 use Rattle.mig_host.proofs.HostedGuests.{some_value}
 use Rattle.mig_standing.specs.Standing.{Standing, said_in, said_of, in_stream, in_host}
 use Rattle.mig_walk.specs.declared.walk.Walked.TheVariants.{NoVcpu, Absent}

@@ -28,9 +28,9 @@ use Rattle.mig_pvtables.specs.BadEntries.{NamesKnown}
 use Rattle.mig_pvtables.specs.Faults.{type_at, is_root}
 use Rattle.mig_pvtables.specs.Whole.{IsWhole}
 use Rattle.mig_pvtables.proofs.PvGuests.{pv_complete}
-use Rattle.mig_hosted.specs.Sound.{IsSound, machine_type}
-use Rattle.mig_hosted.specs.View.{guest_in}
-use Rattle.mig_hosted.proofs.ViewedSays.{pfn_found}
+use Rattle.mig_host_view.specs.Sound.{IsSound, machine_type}
+use Rattle.mig_host_view.specs.View.{guest_in}
+use Rattle.mig_host_view.proofs.ViewedSays.{pfn_found}
 use Rattle.mig_host.proofs.InOrder.{all_there}
 use Rattle.mig_host.proofs.SoundHosts.{contexts_long}
 use Rattle.mig_standing.specs.Fields.{Root, said_by}

@@ -6,7 +6,7 @@ ghost use Rattle.mig_guest.specs.Hosts.{HostOf, IsValid};
 ghost use Rattle.mig_guest.specs.PartKeys.{vcpu_key};
 ghost use Rattle.mig_pvtables.specs.Blank.{blank};
 ghost use Rattle.mig_pvtables.specs.Whole.{IsWhole};
-ghost use Rattle.mig_hosted.specs.Sound.{IsSound};
+ghost use Rattle.mig_host_view.specs.Sound.{IsSound};
 ghost use Rattle.mig_host.specs.Hosted.{hosted, rank_in, IsBaseOutside};
 ghost use Rattle.mig_standing.specs.Standing.{Standing, in_stream, in_host};
 ghost use Rattle.mig_walk.specs.Walks.{slot_of, IsCanonical, IsWalked, IsWalkedOnce, at_machine};

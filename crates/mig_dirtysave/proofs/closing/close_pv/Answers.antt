@@ -1,7 +1,7 @@
 use Rattle.std.proofs.Common.{sym, ap, ◌∙◌}
 use Rattle.std.specs.FinMap as maps
 use Rattle.mig_guest.specs.Guests.{GuestOf}
-use Rattle.mig_hosted.specs.View.{view}
+use Rattle.mig_host_view.specs.View.{view}
 use Rattle.mig_around.proofs.Codes.{emulators_kept, emulators_seen}
 use Rattle.mig_around.proofs.Closings.{pv_closes}
 use Rattle.mig_around.proofs.Texts.{nothing_stops, on_err}

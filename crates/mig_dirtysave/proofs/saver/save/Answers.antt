@@ -1,5 +1,5 @@
 use Rattle.std.proofs.Common.{◌≡◌, ℕ, arith, true, Some, inl, refl, sym, ap, subst, ◌∙◌}
-use Rattle.mig_hosted.specs.Sound.{unsoundness}
+use Rattle.mig_host_view.specs.Sound.{unsoundness}
 use Rattle.mig_rounds.specs.Parts.{total}
 use Rattle.mig_guest.specs.Hosts.{HostOf}
 use Rattle.std.specs.Io.KnownBytes.{Appends}

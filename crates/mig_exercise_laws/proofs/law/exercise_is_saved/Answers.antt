@@ -1,7 +1,7 @@
 use Rattle.std.proofs.Common.{length, ap, ◌∙◌}
 use Rattle.mig_guest.specs.Hosts.{HostOf}
-use Rattle.mig_hosted.specs.Sound.{unsoundness}
-use Rattle.mig_hosted.specs.View.{view}
+use Rattle.mig_host_view.specs.Sound.{unsoundness}
+use Rattle.mig_host_view.specs.View.{view}
 use Rattle.mig_libxl.specs.Canon.{canon_any}
 use Rattle.mig_exercise_laws.proofs.CanonLength.{exercise_canon_length}
 use Rattle.mig_exercise_laws.proofs.DataTouched.{few_again}

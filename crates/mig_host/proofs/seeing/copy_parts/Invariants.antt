@@ -1,7 +1,7 @@
 use Rattle.mig_host.proofs.Common.{◌≡◌, length, parts_behind}
 use Rattle.std.specs.FinMap as maps
 use Rattle.mig_pvtables.specs.Blank.{IsOfBytes}
-use Rattle.mig_hosted.specs.Normalised.{part_seen}
+use Rattle.mig_host_view.specs.Normalised.{part_seen}
 use Rattle.mig_host.proofs.Copies.{IsCopied}
 use Rattle.mig_host.proofs.seeing.copy_parts.Given as goal
 

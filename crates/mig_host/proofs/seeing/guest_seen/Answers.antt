@@ -2,7 +2,7 @@ use Rattle.mig_host.proofs.Common.{sym, subst, ◌∙◌}
 use Rattle.mig_guest.specs.Guests.{GuestOf}
 use Rattle.mig_guest.specs.Hosts.{pfn_in}
 use Rattle.mig_pvtables.specs.Blank.{IsOfBytes}
-use Rattle.mig_hosted.proofs.ViewedBytes.{normalised_bytes}
+use Rattle.mig_host_view.proofs.ViewedBytes.{normalised_bytes}
 use Rattle.mig_host.proofs.SeenGuests.{contexts_long, page_long, page_sole, pfns_fit, hvm_seen, pv_seen}
 use Rattle.mig_host.proofs.seeing.guest_seen.Goals as goal
 use Rattle.mig_host.proofs.seeing.guest_seen.Goals.{in-Pv, in-Hvm}

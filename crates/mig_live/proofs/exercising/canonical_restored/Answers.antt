@@ -1,8 +1,8 @@
 use Rattle.mig_live.proofs.Common.{◌≡◌, ap, subst, ◌∙◌, GuestOf}
 use Rattle.std.specs.Prelude.{OnOk}
 use Rattle.mig_guest.specs.Hosts.{HostOf}
-use Rattle.mig_hosted.specs.Sound.{unsoundness}
-use Rattle.mig_hosted.specs.View.{view}
+use Rattle.mig_host_view.specs.Sound.{unsoundness}
+use Rattle.mig_host_view.specs.View.{view}
 use Rattle.mig_host.specs.Hosted.{IsBaseOutside}
 use Rattle.mig_libxl.specs.Canon.{canon_any}
 use Rattle.mig_live.proofs.exercising.canonical_restored.Goals as goal

@@ -4,7 +4,7 @@ use Rattle.mig_guest.specs.Hosts.{HostOf, pfn_in}
 use Rattle.mig_pvtables.specs.Faults.{fits_field}
 use Rattle.mig_pvtables.proofs.Walks.{misses_start, misses_end, field_fits, field_misses}
 use Rattle.mig_pvtables.proofs.Walks as walks
-use Rattle.mig_hosted.proofs.LocaliseContexts.{fields_start, fields_end, field_put, field_unused}
+use Rattle.mig_host_view.proofs.LocaliseContexts.{fields_start, fields_end, field_put, field_unused}
 use Rattle.mig_pause.specs.Paused.{types_seen, OnlyLooksUp}
 use Rattle.mig_pause.proofs.Looks.{looks_none, looks_on}
 use Rattle.mig_pause.proofs.ContextSteps.{same_says}

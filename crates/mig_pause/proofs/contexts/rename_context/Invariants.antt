@@ -3,7 +3,7 @@ use Rattle.std.specs.Prelude.{option_and_then}
 use Rattle.mig_guest.specs.Hosts.{pfn_in}
 use Rattle.mig_pvtables.specs.VcpuContexts.{is_used_somewhere}
 use Rattle.mig_pvtables.proofs.Walks.{NoneMisses}
-use Rattle.mig_hosted.proofs.LocaliseContexts.{FieldsRenamed}
+use Rattle.mig_host_view.proofs.LocaliseContexts.{FieldsRenamed}
 use Rattle.mig_pause.specs.Paused.{types_seen, OnlyLooksUp}
 use Rattle.mig_pause.proofs.contexts.rename_context.Given as goal
 

@@ -3,8 +3,8 @@ use Rattle.mig_guest.specs.Hosts.{pfn_in}
 use Rattle.mig_pvtables.specs.VcpuContexts.{is_used_somewhere}
 use Rattle.mig_pvtables.proofs.BlankParts.{no_part}
 use Rattle.mig_pvtables.proofs.Walks.{taken}
-use Rattle.mig_hosted.specs.RenamedContexts.{renamed_context}
-use Rattle.mig_hosted.proofs.LocaliseGuests.{part_put}
+use Rattle.mig_host_view.specs.RenamedContexts.{renamed_context}
+use Rattle.mig_host_view.proofs.LocaliseGuests.{part_put}
 use Rattle.mig_pause.proofs.contexts.rename_vcpu.Goals as goal
 
 pub returns-in_default-clause-renamed : goal.returns-in_default-clause-renamed

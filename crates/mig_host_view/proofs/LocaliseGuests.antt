@@ -1,0 +1,72 @@
+-- A guest whose tables, P2M frames and contexts hold machine frames is the guest as it stands in a machine.
+use Rattle.mig_host_view.proofs.Common.{◌≡◌, ℕ, ◌+◌, ◌-◌, ◌*◌, ◌/◌, ◌<◌, ◌≤◌, ◌^◌, List, ◌++◌, length, take, drop, Option, Some, None, IfSome, refl, sym, ap, subst, ◌∙◌, arith, append-nil, drop_all, option_map, nat_cmp_total, nat_cmp-IsAntisymmetric, eqb-true, Pv, top_limit, level_of, PartKey, IsFormed, width_of, FrameOf, GuestOf, PartMap, p2m_key, part_total, part_exact, each_value, count_in, place_of, is_used}
+use Rattle.std.specs.FinMap as maps
+use Rattle.mig_guest.specs.Formed.{IsTop}
+use Rattle.mig_guest.specs.declared.part_code.PartCode.TheVariants.{P2mFrames, VcpuBasic}
+use Rattle.mig_guest.proofs.PartRows.{of_part}
+use Rattle.mig_headers.specs.declared.kind.Kind.{Kind}
+use Rattle.mig_pvtables.specs.P2mPages.{p2m_page}
+use Rattle.mig_pvtables.specs.Renaming.{renamed_table}
+use Rattle.mig_pvtables.proofs.BlankParts.{WithParts, OnlyPart}
+use Rattle.mig_pvtables.proofs.EachValue.{each_each, same_each}
+use Rattle.mig_pvtables.proofs.Only.{insert_only}
+use Rattle.mig_pvtables.proofs.Searches.{overwritten}
+use Rattle.mig_host_view.specs.Localised.{renamed_page, renamed_frame, renamed_part, localised_page, localised_frame, localised_of, localised}
+use Rattle.mig_host_view.specs.LocaliseSteps.{filled_at, filled_where_listed}
+
+-- ---- one context
+
+-- a part of n bytes, all of which are written
+pub part_put : (g : GuestOf) (key : PartKey) (h : List ℕ → List ℕ) (n : ℕ) {new : GuestOf} {part w : List ℕ} → Some part ≡ maps.get g.parts key → IfSome (maps.get g.parts key) (λ part. length part ≡ n) → length w ≡ n → w ≡ h part
+    → IfSome (maps.get g.parts key) (λ part. new ≡ WithParts g (maps.insert g.parts key ((take 0 part ++ w) ++ drop (0 + length w) part))) → new ≡ OnlyPart h g key
+part_put g key h n {new = new} {part = part} {w = w} is long size are wrote =
+    let whole : length part ≡ n = subst (λ o. IfSome o (λ part. length part ≡ n)) (sym is) long in
+    let one : new ≡ WithParts g (maps.insert g.parts key ((take 0 part ++ w) ++ drop (0 + length w) part)) = subst (λ o. IfSome o (λ part. new ≡ WithParts g (maps.insert g.parts key ((take 0 part ++ w) ++ drop (0 + length w) part)))) (sym is) wrote in
+    one ∙ ap (λ l. WithParts g (maps.insert g.parts key (w ++ l))) (drop_all (0 + length w) part (omega (arith, size, whole)))
+    ∙ ap (λ l. WithParts g (maps.insert g.parts key l)) (append-nil w ∙ are)
+    ∙ ap (WithParts g) (insert_only part_total part_exact g.parts key h part (sym is))
+
+-- ---- frames
+
+module _ (f : ℕ → Option ℕ) where
+  filled_anyway : (k : ℕ) (level : Option ℕ) (page : Option (List ℕ)) → option_map (λ _. p2m_page f k) (renamed_page f level page) ≡ option_map (λ _. p2m_page f k) page
+  filled_anyway k None page = refl
+  filled_anyway k (Some level) page = overwritten (renamed_table f level) (p2m_page f k) page
+
+  frame_there : (place : Option ℕ) (x : FrameOf) → filled_at f place (renamed_frame f x) ≡ record { type = x.type; page = localised_page place f (level_of x.type) x.page }
+  frame_there None x = refl
+  frame_there (Some k) x = ap (λ (o : Option (List ℕ)). record { type = x.type; page = o }) (filled_anyway k (level_of x.type) x.page)
+
+  frames_there : (g : GuestOf) → each_value (filled_where_listed g.parts f) (each_value (λ _ x. renamed_frame f x) g.frames) ≡ each_value (localised_frame g.parts f) g.frames
+  frames_there g =
+      each_each nat_cmp_total nat_cmp-IsAntisymmetric (filled_where_listed g.parts f) (λ _ x. renamed_frame f x) g.frames
+      ∙ same_each nat_cmp_total nat_cmp-IsAntisymmetric (λ pfn x. filled_where_listed g.parts f pfn (renamed_frame f x)) (localised_frame g.parts f) g.frames (λ pfn x is. frame_there (place_of g.parts pfn) x)
+
+-- ---- a guest
+
+module _ (f : ℕ → Option ℕ) (g : GuestOf) (formed : IsFormed g) (pv : g.kind ≡ Pv) {a : GuestOf} (one : a ≡ record g { frames = each_value (λ _ x. renamed_frame f x) g.frames }) where
+  few_in : (o : Option (List ℕ)) → maps.get g.parts p2m_key ≡ o → count_in o ≤ 2 ^ 43
+  few_in None is = omega arith
+  few_in (Some bytes) is =
+      let top : g.top < top_limit = subst (λ (k : Kind). IsTop k g.top) pv formed.top in
+      let size : length bytes ≡ 8 * ((width_of g - 1) / 512 + 1) = eqb-true (length bytes) (8 * ((width_of g - 1) / 512 + 1)) (of_part P2mFrames g.kind (width_of g) (p2m_key, bytes) (formed.parts p2m_key bytes is) refl).len in
+      omega (arith, top, size)
+
+  pub few_listed : count_in (maps.get a.parts p2m_key) ≤ 2 ^ 43
+  few_listed = subst (λ (s : GuestOf). count_in (maps.get s.parts p2m_key) ≤ 2 ^ 43) (sym one) (few_in (maps.get g.parts p2m_key) refl)
+
+  module _ {b : GuestOf} (two : b ≡ record a { frames = each_value (filled_where_listed a.parts f) a.frames }) where
+    same_parts : b.parts ≡ g.parts
+    same_parts = ap (λ (s : GuestOf). s.parts) two ∙ ap (λ (s : GuestOf). s.parts) one
+
+    pub contexts_long : (key : PartKey) (context : List ℕ) → maps.get b.parts key ≡ Some context → key.code ≡ 4 → length context ≡ 5168
+    contexts_long key context is code =
+        let found : maps.get g.parts key ≡ Some context = ap (λ (m : PartMap). maps.get m key) (sym same_parts) ∙ is in
+        eqb-true (length context) 5168 (of_part VcpuBasic g.kind (width_of g) (key, context) (formed.parts key context found) code).len
+
+    pub all_localised : {c : GuestOf} → c ≡ record b { parts = each_value (renamed_part is_used f) b.parts } → c ≡ localised f g
+    all_localised three =
+        three ∙ ap (λ (s : GuestOf). record s { parts = each_value (renamed_part is_used f) s.parts }) two
+        ∙ ap (λ (s : GuestOf). record s { frames = each_value (filled_where_listed s.parts f) s.frames; parts = each_value (renamed_part is_used f) s.parts }) one
+        ∙ ap (λ m. record g { frames = m; parts = each_value (renamed_part is_used f) g.parts }) (frames_there f g)
+        ∙ ap (λ (k : Kind). localised_of k f g) (sym pv)

@@ -1,0 +1,10 @@
+use Rattle.mig_host_view.proofs.Common.{◌-◌, pfn_limit}
+use Rattle.mig_pvtables.proofs.BlankFrames.{FramesChangedBelow}
+use Rattle.mig_host_view.specs.Localised.{renamed_frame}
+use Rattle.mig_host_view.proofs.localising.localise_tables.Given as goal
+
+abbrev pub invariant-loop-pfn : goal.invariant-loop-pfn
+invariant-loop-pfn g l = FramesChangedBelow (renamed_frame (g.F.Frames.mfns l.frames)) l.fn.guest l.from l.guest
+
+abbrev pub decreases-loop-pfn : goal.decreases-loop-pfn
+decreases-loop-pfn g l = pfn_limit - l.from

@@ -1,0 +1,17 @@
+use Rattle.mig_host_view.proofs.Common.{None, Some, length, ap, sym, ◌∙◌, refl, length_longs, blanked_page}
+use Rattle.mig_pvtables.proofs.BlankFrames.{no_frame, no_table, no_table_page, table_written}
+use Rattle.mig_host_view.specs.Localised.{renamed_page}
+use Rattle.mig_host_view.proofs.normalising.normalise_frame.Goals as goal
+
+pub returns-in_default : goal.returns-in_default
+returns-in_default g c = no_frame (λ level page. blanked_page None level (renamed_page (g.F.Frames.pfns c.args.machines.now) level page)) (λ _. refl) (λ _. refl) _ _ c.in_default.ensures
+
+pub returns-in_default-table_level : goal.returns-in_default-table_level
+returns-in_default-table_level g c = no_table (λ level page. blanked_page None level (renamed_page (g.F.Frames.pfns c.args.machines.now) level page)) (λ _. refl) (λ _. refl) _ _ _ c.in-Some.ensures c.in_default-table_level.ensures
+
+pub returns-in_default-page_mut : goal.returns-in_default-page_mut
+returns-in_default-page_mut g c = no_table_page (λ level page. blanked_page None level (renamed_page (g.F.Frames.pfns c.args.machines.now) level page)) (λ _. refl) (λ _. refl) _ _ c.in_default-page_mut.ensures.value
+
+pub returns-in-Some-page_mut : goal.returns-in-Some-page_mut
+returns-in-Some-page_mut g c =
+    table_written (λ level page. blanked_page None level (renamed_page (g.F.Frames.pfns c.args.machines.now) level page)) (λ _. refl) (λ _. refl) _ _ _ c.in-Some.ensures _ _ _ c.in-Some-table_level.ensures c.in-Some-page_mut.ensures.value (ap length c.normalise_page.ensures ∙ length_longs 512 _) (ap Some (sym c.normalise_page.ensures))

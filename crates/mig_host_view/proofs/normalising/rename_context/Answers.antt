@@ -1,0 +1,17 @@
+use Rattle.mig_host_view.proofs.Common.{sym, ◌∙◌, arith}
+use Rattle.mig_host_view.proofs.LocaliseContexts.{fields_start, fields_end, field_put, field_unknown, field_unused}
+use Rattle.mig_host_view.proofs.normalising.rename_context.Goals as goal
+use Rattle.mig_host_view.proofs.normalising.rename_context.Goals.{in-Some+in-Some-pfn_of, in-Some+in_default-pfn_of, in_default}
+
+pub loop-field-init : goal.loop-field-init
+loop-field-init g c = fields_start c.fits-context c.told-context
+
+pub loop-field-preserved : goal.loop-field-preserved
+loop-field-preserved g c = elim c.match-host_frame.branch [
+  | in-Some+in-Some-pfn_of w ↦ field_put c.loop-field.invariant c.loop-field-test.true w.in-Some.ensures (sym w.pfn_of.ensures.value ∙ w.in-Some-pfn_of.is) (w.context-is ∙ w.put_vcpu_frame.ensures)
+  | in-Some+in_default-pfn_of w ↦ field_unknown c.loop-field.invariant c.loop-field-test.true w.in-Some.ensures (sym w.pfn_of.ensures.value ∙ w.in_default-pfn_of.is) w.context-is
+  | in_default w ↦ field_unused c.loop-field.invariant c.loop-field-test.true w.in_default.ensures w.context-is
+]
+
+pub returns : goal.returns
+returns g c = fields_end c.loop-field.invariant (omega (arith, c.loop-field-test.false, c.loop-field.auto.field-end))

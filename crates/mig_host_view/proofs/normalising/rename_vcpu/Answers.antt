@@ -1,0 +1,15 @@
+use Rattle.mig_host_view.proofs.Common.{ap, ◌∙◌}
+use Rattle.mig_pvtables.specs.VcpuContexts.{is_used_somewhere}
+use Rattle.mig_pvtables.proofs.BlankParts.{no_part}
+use Rattle.mig_pvtables.proofs.Walks.{taken}
+use Rattle.mig_host_view.specs.RenamedContexts.{renamed_context}
+use Rattle.mig_host_view.proofs.LocaliseGuests.{part_put}
+use Rattle.mig_host_view.proofs.normalising.rename_vcpu.Goals as goal
+
+pub returns-in_default : goal.returns-in_default
+returns-in_default g c = no_part c.args.guest.now c.args.key (renamed_context is_used_somewhere (g.F.Frames.pfns c.args.machines.now) c.args.key.key1) c.in_default.ensures
+
+pub returns : goal.returns
+returns g c =
+    let h = renamed_context is_used_somewhere (g.F.Frames.pfns c.args.machines.now) c.args.key.key1 in
+    part_put c.args.guest.now c.args.key h 5168 c.in-Some.ensures c.requires.long c.rename_context.array_long (c.rename_context.ensures ∙ ap h (taken c.in-Some.bytes.now 5168 c.unwrap.ensures c.as_array.ensures.cases)) c.write_part.ensures

@@ -1,6 +1,0 @@
-use Rattle.mig_pvtables.proofs.Walks.{in_fields, contexts_start}
-use Rattle.mig_hosted.specs.Sound.{misnames}
-use Rattle.mig_hosted.proofs.soundness.bad_field.Goals as goal
-
-pub loop-key-init : goal.loop-key-init
-loop-key-init g c = record { code = tt; so = contexts_start (in_fields (misnames c.args.frames.now.frames (g.F.Frames.pfns c.args.machines.now))) c.args.parts.now }

@@ -1,5 +1,0 @@
-use Rattle.mig_hosted.proofs.SoundGuests.{localised_seen}
-use Rattle.mig_hosted.proofs.view_law.localised_guest_can_be_seen.Goals as goal
-
-pub returns : goal.returns
-returns c = localised_seen

@@ -1,5 +1,0 @@
-use Rattle.mig_hosted.proofs.ViewedGuests.{viewed_whole, viewed_blank}
-use Rattle.mig_hosted.proofs.view_law.view_is_whole.Goals as goal
-
-pub returns : goal.returns
-returns c = record { whole = viewed_whole; form = viewed_blank }
