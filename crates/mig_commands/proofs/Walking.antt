@@ -16,7 +16,7 @@ use Rattle.mig_report.specs.declared.outcome.Outcome.TheVariants as outcomes
 use Rattle.mig_report.specs.declared.outcome.Refusal.TheVariants as refusals
 use Rattle.mig_report.specs.declared.outcome.WalkSummary.{WalkSummary}
 use Rattle.mig_report.specs.declared.status.Status.{Status}
-use Rattle.mig_standing.specs.Standing.{in_stream, in_host}
+use Rattle.mig_host_laws.specs.Standing.{in_stream, in_host}
 use Rattle.mig_report.specs.Statuses.{EndsWithOwnLine, Refusing, ReportsStatus, StatusSays}
 use Rattle.mig_commands.specs.Addresses.{AddressReported, MeansFrame, any_host_at}
 use Rattle.mig_commands.specs.AddressSteps.{EndsWalk, EndsInHost, FindsFrame, FindsInImage, FindsInStream, IsUnfound, TellsFound, status_found}

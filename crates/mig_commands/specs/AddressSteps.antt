@@ -13,7 +13,7 @@ use Rattle.mig_report.specs.declared.outcome.Refusal.TheVariants as refusals
 use Rattle.mig_report.specs.declared.outcome.WalkSummary.{WalkSummary}
 use Rattle.mig_report.specs.declared.status.Status.{Status}
 use Rattle.mig_report.specs.declared.status.Status.TheVariants as statuses
-use Rattle.mig_standing.specs.Standing.{Standing, in_host}
+use Rattle.mig_host_laws.specs.Standing.{Standing, in_host}
 use Rattle.mig_commands.specs.Addresses.{FrameInHost, FrameInStream, MeansNone}
 use Rattle.mig_report.specs.Statuses.{OutcomeSays, Refusing}
 use Rattle.mig_commands.specs.Refusals.{HasWalkImageRefusal, HasWalkRefusal}

@@ -17,7 +17,7 @@ use Rattle.mig_report.specs.Report.{walked_line}
 use Rattle.mig_report.specs.declared.outcome.WalkEnd.{WalkEnd}
 use Rattle.mig_report.specs.declared.outcome.WalkEnd.TheVariants as ends
 use Rattle.mig_report.specs.declared.outcome.WalkSummary.{WalkSummary}
-use Rattle.mig_standing.specs.Standing.{Standing, in_stream, in_host}
+use Rattle.mig_host_laws.specs.Standing.{Standing, in_stream, in_host}
 use Rattle.mig_walk.specs.Walks.{IsWalked}
 use Rattle.mig_walk.specs.declared.walk.Walked.TheVariants as walks
 

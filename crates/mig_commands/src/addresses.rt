@@ -4,7 +4,7 @@ ghost use Rattle.mig_report.specs.Report.{walked_line};
 ghost use Rattle.mig_report.specs.declared.outcome.Refusal.TheVariants as refusals;
 ghost use Rattle.mig_report.specs.declared.status.Status.TheVariants as statuses;
 ghost use Rattle.mig_host_view.specs.Sound.{IsSound};
-ghost use Rattle.mig_standing.specs.Standing.{Standing, in_host};
+ghost use Rattle.mig_host_laws.specs.Standing.{Standing, in_host};
 ghost use Rattle.mig_walk.specs.Walks.{IsWalked};
 ghost use Rattle.mig_commands.specs.Addresses.{MeansFrame};
 ghost use Rattle.mig_commands.specs.AddressSteps.{EndsInHost, EndsWalk, FindsInImage, FindsInStream, IsUnfound, TellsFound, status_found};

@@ -21,13 +21,13 @@ use Rattle.mig_host_view.specs.View.{without_machine}
 use Rattle.mig_guest.specs.Footprints.{footprint, footprint_of, table_in, names_in, named_by}
 use Rattle.mig_rounds.specs.Forms.{superpage_in, superpage_slot, is_lost, lost_in, lost_slot}
 use Rattle.mig_rounds.specs.Live.{IsUnsound}
-use Rattle.mig_standing.specs.Standing.{Standing, in_host, is_of_no_type, said_in, said_of}
-use Rattle.mig_standing.specs.FirstRow.{row_1, row_2, row_5, row_6, row_7, first_row}
-use Rattle.mig_standing.specs.Unsoundness.{IsWrong, UnsoundHas, NamesFirstRow}
-use Rattle.mig_standing.specs.Unsoundness.IsWrong.{no_context, no_p2m, no_shared, no_vcpu, other_type, listed_twice, large, nameless, many_descriptors, field_ill, bad_context}
-use Rattle.mig_standing.proofs.Instances.{unsoundness_named}
-use Rattle.mig_standing.proofs.Rows.{first_row_named}
-use Rattle.mig_standing.proofs.Savers.{row_stands}
+use Rattle.mig_host_laws.specs.Standing.{Standing, in_host, is_of_no_type, said_in, said_of}
+use Rattle.mig_host_laws.specs.FirstRow.{row_1, row_2, row_5, row_6, row_7, first_row}
+use Rattle.mig_host_laws.specs.Unsoundness.{IsWrong, UnsoundHas, NamesFirstRow}
+use Rattle.mig_host_laws.specs.Unsoundness.IsWrong.{no_context, no_p2m, no_shared, no_vcpu, other_type, listed_twice, large, nameless, many_descriptors, field_ill, bad_context}
+use Rattle.mig_host_laws.proofs.Instances.{unsoundness_named}
+use Rattle.mig_host_laws.proofs.Rows.{first_row_named}
+use Rattle.mig_host_laws.proofs.Savers.{row_stands}
 use Rattle.mig_pause.specs.Paused.{standing_seen, first_around}
 
 -- ---- searches

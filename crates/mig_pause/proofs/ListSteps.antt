@@ -16,8 +16,8 @@ use Rattle.mig_pvtables.specs.Faults.{slots, is_notab, is_this}
 use Rattle.mig_pvtables.specs.P2mFrames.{count_in, listed, listed_in}
 use Rattle.mig_pvtables.proofs.Searches.{any_in_range, any_more, find_in_range}
 use Rattle.mig_pvtables.proofs.Slots.{first_in_range}
-use Rattle.mig_standing.specs.FirstRow.{has_some, is_ill_listed, find_ill_listed}
-use Rattle.mig_standing.specs.Standing.{Standing}
+use Rattle.mig_host_laws.specs.FirstRow.{has_some, is_ill_listed, find_ill_listed}
+use Rattle.mig_host_laws.specs.Standing.{Standing}
 use Rattle.mig_pause.specs.Marks.{is_once_too_often}
 use Rattle.mig_pause.specs.Paused.{types_seen}
 

@@ -26,10 +26,10 @@ use Rattle.mig_pvtables.proofs.Walks.{in_fields, in_contexts, large_in, contexts
 use Rattle.mig_host_view.specs.Sound.{find_gdt, fault_in, unsoundness}
 use Rattle.mig_host_view.specs.View.{guest_in, without_machine}
 use Rattle.mig_headers.specs.Contexts.{scan}
-use Rattle.mig_standing.specs.FirstRow.{find_ill_listed, row_1, row_2, row_3, row_4, row_5, row_6, row_7}
-use Rattle.mig_standing.specs.Standing.{Standing}
-use Rattle.mig_standing.proofs.Instances.{host_wide}
-use Rattle.mig_standing.proofs.Savers.{saver_finds}
+use Rattle.mig_host_laws.specs.FirstRow.{find_ill_listed, row_1, row_2, row_3, row_4, row_5, row_6, row_7}
+use Rattle.mig_host_laws.specs.Standing.{Standing}
+use Rattle.mig_host_laws.proofs.Instances.{host_wide}
+use Rattle.mig_host_laws.proofs.Savers.{saver_finds}
 use Rattle.mig_pause.specs.Paused.{types_seen, standing_seen, HasTypes, first_in_tables, first_around}
 
 -- ---- parts that are alike at the contexts

@@ -23,8 +23,8 @@ use Rattle.mig_host_view.specs.View.{guest_in, without_machine}
 use Rattle.mig_rounds.specs.Forms.{superpage_in, superpage_slot, lost_in, lost_slot, is_lost}
 use Rattle.mig_rounds.specs.Live.{table_fault, tables_unsound}
 use Rattle.mig_rounds.specs.Sends.{first_pfn, or_first, place}
-use Rattle.mig_standing.specs.FirstRow.{find_said}
-use Rattle.mig_standing.specs.Standing.{said_in, said_of, says_in}
+use Rattle.mig_host_laws.specs.FirstRow.{find_said}
+use Rattle.mig_host_laws.specs.Standing.{said_in, said_of, says_in}
 use Rattle.mig_pause.specs.Paused.{first_in_tables}
 
 -- ---- frame numbers one after another

@@ -14,8 +14,8 @@ use Rattle.mig_pvtables.specs.Faults.{first_cause}
 use Rattle.mig_pvtables.specs.VcpuContexts.{is_used_somewhere}
 use Rattle.mig_host_view.specs.Localised.{renamed_part}
 use Rattle.mig_host_view.specs.View.{view}
-use Rattle.mig_standing.specs.FirstRow.{row_1, row_2, row_3, row_4, row_5, row_6}
-use Rattle.mig_standing.specs.Standing.{Standing, in_host, before_saver}
+use Rattle.mig_host_laws.specs.FirstRow.{row_1, row_2, row_3, row_4, row_5, row_6}
+use Rattle.mig_host_laws.specs.Standing.{Standing, in_host, before_saver}
 
 -- the type that was seen last at each frame number
 abbrev pub types_seen : List (Option PageType) → ℕ → Option PageType

@@ -9,7 +9,7 @@ ghost use Rattle.mig_pvtables.specs.BlankSteps.{only};
 ghost use Rattle.mig_pvtables.specs.Faults.{field_numbers};
 ghost use Rattle.mig_pvtables.specs.VcpuContexts.{is_used_somewhere};
 ghost use Rattle.mig_host_view.specs.RenamedContexts.{renamed_context};
-ghost use Rattle.mig_standing.specs.FirstRow.{names_ill, row_6};
+ghost use Rattle.mig_host_laws.specs.FirstRow.{names_ill, row_6};
 ghost use Rattle.mig_pause.specs.Paused.{standing_seen, standing_with, with_names, OnlyLooksUp};
 
 use crate::lookup::pfn_for_field;

@@ -7,7 +7,7 @@ ghost use Rattle.mig_guest.specs.PartCodes.{code_number};
 ghost use Rattle.mig_guest.specs.MachineStates.{IsValidState};
 ghost use Rattle.mig_pvtables.specs.Faults.{first_cause, first_some};
 ghost use Rattle.mig_host_view.specs.Sound.{absent, needed_keys, unsoundness};
-ghost use Rattle.mig_standing.specs.FirstRow.{row_1, row_2, row_5};
+ghost use Rattle.mig_host_laws.specs.FirstRow.{row_1, row_2, row_5};
 ghost use Rattle.mig_pause.specs.Paused.{standing_seen, HasTypes, first_in_tables, first_around, with_names, OnlyLooksUp};
 
 use crate::contexts::rename_contexts;

@@ -2,8 +2,8 @@ ghost use Rattle.std.specs.Prelude.{◌≡◌, ◌≤◌, ℕ, length, get_or, S
 ghost use Rattle.std.specs.FinMap as maps;
 ghost use Rattle.mig_guest.specs.PartKeys.{p2m_key};
 ghost use Rattle.mig_pvtables.specs.Faults.{is_notab};
-ghost use Rattle.mig_standing.specs.Standing.{Standing};
-ghost use Rattle.mig_standing.specs.FirstRow.{has_some, find_ill_listed};
+ghost use Rattle.mig_host_laws.specs.Standing.{Standing};
+ghost use Rattle.mig_host_laws.specs.FirstRow.{has_some, find_ill_listed};
 ghost use Rattle.mig_pause.specs.Marks.{is_once_too_often};
 ghost use Rattle.mig_pause.specs.Paused.{types_seen};
 

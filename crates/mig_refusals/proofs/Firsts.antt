@@ -2,7 +2,7 @@
 -- first that has something.
 use Rattle.mig_refusals.proofs.Common.{◌≡◌, inl, inr, ℕ, zero, suc, ◌+◌, ◌<◌, ◌≤◌, Bool, true, Option, Some, ap, ◌∙◌, arith, or_cases, Cause, IsTriedBefore, find, list_any, range_with_len, option_map, IsTotalOrder, FinMap, IsAntisymmetric, Ordering, Less, list_any_at, length-range_with_len, get_or-range_with_len, number_of_cause, slots, field_numbers, first_some}
 use Rattle.std.specs.FinMap as maps
-use Rattle.mig_standing.proofs.NamedFirst as named
+use Rattle.mig_host_laws.proofs.NamedFirst as named
 use Rattle.mig_refusals.proofs.Least.{Least}
 
 -- ---- in a range

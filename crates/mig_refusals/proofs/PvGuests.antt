@@ -4,8 +4,8 @@ use Rattle.std.specs.FinMap as maps
 use Rattle.mig_refusals.specs.LibxcPv.PvGuestHas.{other_type, listed_twice}
 use Rattle.mig_refusals.proofs.Least.{Least, Alone, alone_least, turned}
 use Rattle.mig_refusals.proofs.Tests.{is_missing}
-use Rattle.mig_standing.proofs.KeyRanks.{rank_lt}
-use Rattle.mig_standing.proofs.NamedFirst.{told_first, told_twice}
+use Rattle.mig_host_laws.proofs.KeyRanks.{rank_lt}
+use Rattle.mig_host_laws.proofs.NamedFirst.{told_first, told_twice}
 use Rattle.mig_refusals.proofs.Firsts.{Sought, sought_least, slot_least, field_least, InEntries, Rises, entries_least, some_passes, passes_some}
 
 -- ---- causes that stand at one place

@@ -7,7 +7,7 @@ use Rattle.mig_guest.specs.declared.table.Entry.TheVariants.{Frame}
 use Rattle.mig_pagetypes.specs.PageTypes.{level_of}
 use Rattle.mig_pagetypes.specs.declared.page_type.PageType.{PageType}
 use Rattle.mig_pagetypes.specs.declared.page_type.PageType.TheVariants as types
-use Rattle.mig_standing.specs.Standing.{Standing}
+use Rattle.mig_host_laws.specs.Standing.{Standing}
 use Rattle.mig_walk.specs.declared.walk.Walked.{Walked}
 use Rattle.mig_walk.specs.Walks.{slot_of, IsCanonical, IsTableOf, NamesNothing, Reach, IsWalked}
 use Rattle.mig_walk.specs.Walks.Reach.{by_root, by_entry}

@@ -38,10 +38,10 @@ use Rattle.mig_host.proofs.HostedGuests.{some_value, IsBaseInside, base_inside, 
 use Rattle.mig_host.proofs.HostMaps.{get_with_machines, without_machines}
 use Rattle.mig_host.proofs.Machines.{pfn_of_machine}
 use Rattle.mig_host.proofs.Ranks.{rank_small}
-use Rattle.mig_standing.specs.Fields.{Root, said_by}
-use Rattle.mig_standing.specs.NamedAnew.{AreNamesSmall}
-use Rattle.mig_standing.specs.Standing.{Standing, said_in, said_of, says_in, in_stream, in_host}
-use Rattle.mig_standing.proofs.FieldLaws.{in_stream_anew}
+use Rattle.mig_host_laws.specs.Fields.{Root, said_by}
+use Rattle.mig_host_laws.specs.NamedAnew.{AreNamesSmall}
+use Rattle.mig_host_laws.specs.Standing.{Standing, said_in, said_of, says_in, in_stream, in_host}
+use Rattle.mig_host_laws.proofs.FieldLaws.{in_stream_anew}
 use Rattle.mig_walk.specs.declared.walk.Walked.{Walked}
 use Rattle.mig_walk.specs.declared.walk.Walked.TheVariants.{NoVcpu}
 use Rattle.mig_walk.specs.Walks.{slot_of, IsTableOf, NamesNothing, Reach, IsWalked, at_machine}

@@ -13,7 +13,7 @@ use Rattle.mig_pvtables.specs.Blank.{each_value}
 use Rattle.mig_pvtables.specs.Faults.{type_at}
 use Rattle.mig_pvtables.proofs.EachValue.{get_each}
 use Rattle.mig_host_view.specs.View.{without_machine}
-use Rattle.mig_standing.specs.Standing.{said_in, said_of, says_in}
+use Rattle.mig_host_laws.specs.Standing.{said_in, said_of, says_in}
 
 module _ (frames : HostFrames) where
   abbrev pub bare : FrameMap

@@ -18,7 +18,7 @@ use Rattle.mig_pvtables.proofs.BlankSays.{blank_says}
 use Rattle.mig_host_view.specs.Sound.{IsSound}
 use Rattle.mig_host_view.specs.View.{guest_in}
 use Rattle.mig_host.proofs.HostedGuests.{some_value}
-use Rattle.mig_standing.specs.Standing.{Standing, said_in, said_of, in_stream, in_host}
+use Rattle.mig_host_laws.specs.Standing.{Standing, said_in, said_of, in_stream, in_host}
 use Rattle.mig_walk.specs.declared.walk.Walked.TheVariants.{NoVcpu, Absent}
 use Rattle.mig_walk.specs.Walks.{slot_of, IsCanonical, IsTableOf, NamesNothing, IsWalked, IsWalkedOnce}
 use Rattle.mig_walk.specs.WalkSteps.{CanBeWalked}

@@ -6,7 +6,7 @@ use Rattle.mig_pagetypes.specs.PageTypes.{level_of}
 use Rattle.mig_pagetypes.specs.declared.page_type.PageType.{PageType}
 use Rattle.mig_pagetypes.specs.declared.page_type.PageType.TheVariants.{L1Tab}
 use Rattle.mig_guest.specs.PartKeys.{vcpu_key}
-use Rattle.mig_standing.specs.Standing.{Standing}
+use Rattle.mig_host_laws.specs.Standing.{Standing}
 use Rattle.mig_walk.specs.declared.walk.Walked.{Walked}
 use Rattle.mig_walk.specs.declared.walk.Walked.TheVariants.{Frame, NoVcpu, NotCanonical, Absent, NotTable}
 use Rattle.mig_walk.specs.Walks.{IsCanonical, IsTableOf, IsWalked}

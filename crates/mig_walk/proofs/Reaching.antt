@@ -6,8 +6,8 @@ use Rattle.std.proofs.lemmas.Bool.{cases_eq, cases_order}
 use Rattle.mig_guest.specs.declared.table.Entry.{Entry}
 use Rattle.mig_guest.specs.declared.table.Entry.TheVariants.{Frame}
 use Rattle.mig_guest.specs.PartKeys.{vcpu_key}
-use Rattle.mig_standing.specs.Fields.{Root, said_by}
-use Rattle.mig_standing.specs.Standing.{Standing}
+use Rattle.mig_host_laws.specs.Fields.{Root, said_by}
+use Rattle.mig_host_laws.specs.Standing.{Standing}
 use Rattle.mig_walk.specs.Walks.{slot_of, IsTableOf, NamesNothing, Reach}
 use Rattle.mig_walk.specs.Walks.Reach.{by_root, by_entry}
 

@@ -9,8 +9,8 @@ use Rattle.mig_guest.specs.declared.table.Entry.{Entry}
 use Rattle.mig_guest.specs.declared.table.Entry.TheVariants as entries
 use Rattle.mig_pagetypes.specs.PageTypes.{level_of}
 use Rattle.mig_host.proofs.HostedGuests.{some_value}
-use Rattle.mig_standing.specs.Fields.{Root, said_by}
-use Rattle.mig_standing.specs.Standing.{Standing}
+use Rattle.mig_host_laws.specs.Fields.{Root, said_by}
+use Rattle.mig_host_laws.specs.Standing.{Standing}
 use Rattle.mig_walk.specs.declared.walk.Walked.{Walked}
 use Rattle.mig_walk.specs.declared.walk.Walked.TheVariants.{Frame, NoVcpu, NotCanonical, Absent, NotTable}
 use Rattle.mig_walk.specs.Walks.{slot_of, IsCanonical, IsTableOf, IsWalked, IsWalkedOnce}

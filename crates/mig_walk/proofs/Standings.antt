@@ -33,8 +33,8 @@ use Rattle.mig_host_view.specs.View.{guest_in}
 use Rattle.mig_host_view.proofs.ViewedSays.{pfn_found}
 use Rattle.mig_host.proofs.InOrder.{all_there}
 use Rattle.mig_host.proofs.SoundHosts.{contexts_long}
-use Rattle.mig_standing.specs.Fields.{Root, said_by}
-use Rattle.mig_standing.specs.Standing.{said_in, said_of, says_in, itself_in, in_stream, in_host}
+use Rattle.mig_host_laws.specs.Fields.{Root, said_by}
+use Rattle.mig_host_laws.specs.Standing.{said_in, said_of, says_in, itself_in, in_stream, in_host}
 use Rattle.mig_walk.specs.Walks.{IsTableOf}
 use Rattle.mig_walk.specs.WalkSteps.{CanBeWalked}
 use Rattle.mig_walk.proofs.HostFrames.{bare_type}

@@ -5,7 +5,7 @@ use Rattle.mig_guest.specs.declared.table.Entry.{Entry}
 use Rattle.mig_guest.specs.declared.table.Entry.TheVariants as entries
 use Rattle.mig_pagetypes.specs.declared.page_type.PageType.{PageType}
 use Rattle.mig_host.proofs.HostedGuests.{some_value}
-use Rattle.mig_standing.specs.Standing.{Standing}
+use Rattle.mig_host_laws.specs.Standing.{Standing}
 use Rattle.mig_walk.specs.declared.walk.Walked.TheVariants.{Frame, Absent, NotTable}
 use Rattle.mig_walk.specs.Walks.{slot_of, IsCanonical, IsTableOf, NamesNothing, Reach, IsWalked}
 use Rattle.mig_walk.specs.WalkSteps.{CanBeWalked, IsReached}

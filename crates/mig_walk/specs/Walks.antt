@@ -8,8 +8,8 @@ use Rattle.mig_pagetypes.specs.declared.page_type.PageType.{PageType}
 use Rattle.mig_guest.specs.declared.table.Entry.{Entry}
 use Rattle.mig_guest.specs.declared.table.Entry.TheVariants as entries
 use Rattle.mig_guest.specs.PartKeys.{vcpu_key}
-use Rattle.mig_standing.specs.Fields.{Root, said_by}
-use Rattle.mig_standing.specs.Standing.{Standing}
+use Rattle.mig_host_laws.specs.Fields.{Root, said_by}
+use Rattle.mig_host_laws.specs.Standing.{Standing}
 use Rattle.mig_walk.specs.declared.walk.Walked.{Walked}
 use Rattle.mig_walk.specs.declared.walk.Walked.TheVariants.{Frame, NoVcpu, NotCanonical, Absent, NotTable}
 

@@ -8,7 +8,7 @@ ghost use Rattle.mig_pvtables.specs.Blank.{blank};
 ghost use Rattle.mig_pvtables.specs.Whole.{IsWhole};
 ghost use Rattle.mig_host_view.specs.Sound.{IsSound};
 ghost use Rattle.mig_host.specs.Hosted.{hosted, rank_in, IsBaseOutside};
-ghost use Rattle.mig_standing.specs.Standing.{Standing, in_stream, in_host};
+ghost use Rattle.mig_host_laws.specs.Standing.{Standing, in_stream, in_host};
 ghost use Rattle.mig_walk.specs.Walks.{slot_of, IsCanonical, IsWalked, IsWalkedOnce, at_machine};
 ghost use Rattle.mig_walk.specs.declared.walk.Walked.{Walked as Answer};
 ghost use Rattle.mig_walk.specs.declared.walk.Walked.TheVariants.{NoVcpu, Absent};

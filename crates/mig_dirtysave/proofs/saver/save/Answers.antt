@@ -5,8 +5,8 @@ use Rattle.mig_guest.specs.Hosts.{HostOf}
 use Rattle.std.specs.Io.KnownBytes.{Appends}
 use Rattle.mig_libxl.proofs.Alike.{closing_alike}
 use Rattle.mig_around.specs.KeptParts.{is_early}
-use Rattle.mig_standing.specs.Standing.{is_of_no_type}
-use Rattle.mig_standing.specs.Unsoundness.{UnsoundHas}
+use Rattle.mig_host_laws.specs.Standing.{is_of_no_type}
+use Rattle.mig_host_laws.specs.Unsoundness.{UnsoundHas}
 use Rattle.mig_around.proofs.Texts.{on_err}
 use Rattle.mig_dirtysave.specs.SaveAnswers.{IsLittleBehind, IsTrusted}
 use Rattle.mig_dirtysave.proofs.Looked.{stream_stays, tight_stay, total_stays, trust_stays, unsound_on}

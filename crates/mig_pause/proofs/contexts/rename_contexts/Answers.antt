@@ -13,7 +13,7 @@ use Rattle.mig_pvtables.proofs.BlankCodes.{code_start, code_next, code_long, cod
 use Rattle.mig_pvtables.proofs.BlankParts.{OnlyPart}
 use Rattle.mig_pvtables.proofs.Walks.{in_fields, contexts_start}
 use Rattle.mig_host_view.specs.RenamedContexts.{renamed_context}
-use Rattle.mig_standing.specs.FirstRow.{names_ill}
+use Rattle.mig_host_laws.specs.FirstRow.{names_ill}
 use Rattle.mig_pause.specs.Paused.{standing_seen}
 use Rattle.mig_pause.proofs.Looks.{looks_none, looks_on}
 use Rattle.mig_pause.proofs.ContextSteps.{behind_stays, next_found, next_fine, found_in_next}

@@ -7,7 +7,7 @@ use Rattle.mig_pvtables.specs.VcpuContexts.{is_used_somewhere}
 use Rattle.mig_pvtables.proofs.BlankCodes.{ChangedUpTo}
 use Rattle.mig_pvtables.proofs.Walks.{in_fields, in_contexts}
 use Rattle.mig_host_view.specs.RenamedContexts.{renamed_context}
-use Rattle.mig_standing.specs.FirstRow.{names_ill}
+use Rattle.mig_host_laws.specs.FirstRow.{names_ill}
 use Rattle.mig_pause.specs.Paused.{standing_seen, OnlyLooksUp}
 use Rattle.mig_pause.proofs.contexts.rename_contexts.Given as goal
 

@@ -1,0 +1,20 @@
+ghost use Rattle.std.specs.Prelude.{◌≡◌, ◌↔◌, ℕ, Option, true};
+ghost use Rattle.mig_headers.specs.declared.unsound.Unsound.{Unsound};
+ghost use Rattle.mig_pagetypes.specs.declared.page_type.PageType.{PageType};
+ghost use Rattle.mig_guest.specs.Hosts.{HostOf};
+ghost use Rattle.mig_pvtables.specs.Faults.{type_at};
+ghost use Rattle.mig_host_view.specs.Sound.{unsoundness};
+ghost use Rattle.mig_host_view.specs.View.{guest_in};
+ghost use Rattle.mig_host_laws.specs.Standing.{in_host, before_saver, is_of_no_type};
+ghost use Rattle.mig_host_laws.specs.FirstRow.{first_row, IsWide};
+ghost use Rattle.mig_host_laws.specs.Unsoundness.{IsWrong, UnsoundHas, NamesFirstRow};
+
+/// What a saver finds first with the types that it saw last is the host's unsoundness, where these are the host's types:
+/// however it is found, and so also where it is looked for row by row. Whatever the types are, a row that doesn't speak of
+/// them stands there exactly where it stands in the host.
+pub fn saver_finds_unsoundness()
+    ensures named { (h : HostOf) (seen : ℕ → Option PageType) (found : Option Unsound) → ((pfn : ℕ) → seen pfn ≡ type_at (guest_in h).frames pfn) → NamesFirstRow (before_saver h seen) found → found ≡ unsoundness h }
+    ensures row { (h : HostOf) (seen : ℕ → Option PageType) (width : ℕ) → ((pfn : ℕ) → seen pfn ≡ type_at (guest_in h).frames pfn) → IsWide width (in_host h)
+        → first_row width (before_saver h seen) ≡ unsoundness h }
+    ensures stands { (h : HostOf) (seen : ℕ → Option PageType) (place : ℕ) (cause : Unsound) → is_of_no_type cause ≡ true → IsWrong (before_saver h seen) place cause ↔ UnsoundHas h place cause }
+{}

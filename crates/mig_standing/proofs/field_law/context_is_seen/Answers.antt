@@ -1,5 +1,0 @@
-use Rattle.mig_standing.proofs.NamedAnew.{seen_once}
-use Rattle.mig_standing.proofs.field_law.context_is_seen.Goals as goal
-
-pub returns-clause-one : goal.returns-clause-one
-returns-clause-one c = seen_once

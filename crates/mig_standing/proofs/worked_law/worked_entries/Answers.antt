@@ -1,5 +1,0 @@
-use Rattle.mig_standing.proofs.WorkedEntries.{blank}
-use Rattle.mig_standing.proofs.worked_law.worked_entries.Goals as goal
-
-pub returns-clause-blank : goal.returns-clause-blank
-returns-clause-blank c = blank
