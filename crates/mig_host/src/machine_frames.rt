@@ -5,7 +5,7 @@ ghost use Rattle.mig_guest.specs.Hosts.{machine_limit};
 ghost use Rattle.mig_host.specs.HostView.{pfn_of_machine_in};
 
 use mig_bytes::Memory;
-use mig_m2p::M2p;
+use mig_host_m2p::M2p;
 use mig_pagestore_index::Index;
 use mig_pvtables::Frames;
 use std::alloc::Global;

@@ -1,4 +1,4 @@
-use mig_m2p::M2p;
+use mig_host_m2p::M2p;
 use std::test::Fail;
 
 // 5, 13 and 21 have the same lowest three bits, so one cell hangs below the other; 6 stands on the other side.
