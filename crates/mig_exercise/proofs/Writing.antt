@@ -2,10 +2,10 @@
 use Rattle.std.proofs.Common.{◌≡◌, ℕ, suc, ◌+◌, ◌*◌, ◌%◌, List, [], ◌∷◌, ◌++◌, map, ap, ◌∙◌, arith}
 use Rattle.std.proofs.lemmas.List.{map-append}
 use Rattle.byteorder.specs.Endian.{little_bytes}
-use Rattle.mig_script.specs.ScriptLines.{line_said}
-use Rattle.mig_script.specs.ScriptLines.LineOf.{Write, Dot}
-use Rattle.mig_script.specs.declared.script.Line.{Line}
-use Rattle.mig_script.specs.declared.script.Line.TheVariants as lines
+use Rattle.mig_machine_script.specs.ScriptLines.{line_said}
+use Rattle.mig_machine_script.specs.ScriptLines.LineOf.{Write, Dot}
+use Rattle.mig_machine_script.specs.declared.script.Line.{Line}
+use Rattle.mig_machine_script.specs.declared.script.Line.TheVariants as lines
 use Rattle.mig_exercise.specs.Numbers.{number, next_number}
 use Rattle.mig_exercise.specs.ExerciseHosts.{first_data, data_count}
 use Rattle.mig_exercise.specs.ExerciseScripts.{writes_up_to}

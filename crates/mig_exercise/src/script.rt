@@ -1,15 +1,15 @@
 ghost use Rattle.std.specs.Prelude.{◌≡◌, IfOk, OnOk, [], ◌∷◌, ◌++◌};
 ghost use Rattle.byteorder.specs.Endian.{little_bytes};
-ghost use Rattle.mig_script.specs.ScriptLines.{line_said};
-ghost use Rattle.mig_script.specs.ScriptLines.LineOf.{Write};
-ghost use Rattle.mig_script.specs.declared.script.Line.TheVariants.{Dot};
+ghost use Rattle.mig_machine_script.specs.ScriptLines.{line_said};
+ghost use Rattle.mig_machine_script.specs.ScriptLines.LineOf.{Write};
+ghost use Rattle.mig_machine_script.specs.declared.script.Line.TheVariants.{Dot};
 ghost use Rattle.mig_exercise.specs.ExerciseHosts.{IsExerciseSize};
 ghost use Rattle.mig_exercise.specs.ExerciseScripts.{script_of_exercise};
 
 use crate::numbers::{next_number, number_before};
 use crate::pages::first_data;
 use mig_bytes::{Memory, put_u64_le};
-use mig_script::{Line, Script};
+use mig_machine_script::{Line, Script};
 use std::alloc::Global;
 
 /// The line that writes a number at the front of a frame.

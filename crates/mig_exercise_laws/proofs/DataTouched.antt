@@ -5,11 +5,11 @@ use Rattle.std.proofs.lemmas.Bool.{or_cases, eqb-true, false≢true}
 use Rattle.mig_headers.specs.declared.kind.Kind.{Kind}
 use Rattle.mig_guest.specs.Hosts.{HostOf}
 use Rattle.mig_guest.specs.Pfns.{Pfns, no_pfns, with_pfn, joined, size}
-use Rattle.mig_script.specs.ScriptLines.{LineOf}
-use Rattle.mig_script.specs.ScriptLines.LineOf.{Write, Retype, Add, Remove, Exchange, Put, Dot}
-use Rattle.mig_lines.specs.Groups.{ran, ran_between}
-use Rattle.mig_lines.specs.HostLines.{applies, after_line, after, logs, with_logged, logged_after}
-use Rattle.mig_lines.specs.Touched.{touched}
+use Rattle.mig_machine_script.specs.ScriptLines.{LineOf}
+use Rattle.mig_machine_script.specs.ScriptLines.LineOf.{Write, Retype, Add, Remove, Exchange, Put, Dot}
+use Rattle.mig_machine_script.specs.Groups.{ran, ran_between}
+use Rattle.mig_machine_script.specs.HostLines.{applies, after_line, after, logs, with_logged, logged_after}
+use Rattle.mig_machine_script.specs.Touched.{touched}
 use Rattle.mig_paced.specs.Paced.{Pace, pace_before, ArePaces, Paced, sizes, sent_again}
 use Rattle.mig_exercise.specs.ExerciseHosts.{IsExerciseSize, first_data, data_count, host_of_exercise}
 use Rattle.mig_exercise.specs.ExerciseScripts.{IsDataWrite, script_of_exercise}

@@ -12,10 +12,10 @@ use Rattle.mig_guest.proofs.Longs.{length_longs}
 use Rattle.mig_pagestore.specs.Pages.{spliced}
 use Rattle.mig_pvtables.specs.P2mPages.{p2m_page}
 use Rattle.mig_host.specs.Changes.{put_or_stay, page_written}
-use Rattle.mig_script.specs.ScriptLines.{LineOf}
-use Rattle.mig_script.specs.ScriptLines.LineOf.{Write, Retype, Add, Remove, Exchange, Put, Dot}
-use Rattle.mig_lines.specs.Groups.{ends_group, first_group, lines_up_to, ran, ran_between}
-use Rattle.mig_lines.specs.HostLines.{applies, after_line, after}
+use Rattle.mig_machine_script.specs.ScriptLines.{LineOf}
+use Rattle.mig_machine_script.specs.ScriptLines.LineOf.{Write, Retype, Add, Remove, Exchange, Put, Dot}
+use Rattle.mig_machine_script.specs.Groups.{ends_group, first_group, lines_up_to, ran, ran_between}
+use Rattle.mig_machine_script.specs.HostLines.{applies, after_line, after}
 use Rattle.mig_exercise.specs.Numbers.{number}
 use Rattle.mig_exercise.specs.ExerciseHosts.{IsExerciseSize, ArePages, first_data, data_count, exercise_machine_of, exercise_machine, exercise_type, exercise_page, frames_up_to, table_naming, page_of_zeros, host_with, host_of_exercise, first_contents}
 use Rattle.mig_exercise.specs.ExerciseScripts.{IsDataWrite, exercise_write, writes_up_to, script_of_exercise}

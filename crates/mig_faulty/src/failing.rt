@@ -7,7 +7,7 @@ ghost use Rattle.mig_guest.specs.MachineCalls.{seen_at, page_peeked, Peeked, Loo
 ghost use Rattle.mig_guest.specs.MachineStates.{IsValidState, Stays};
 ghost use Rattle.mig_guest.specs.Pfns.{pfns_of_words};
 ghost use Rattle.mig_faulty.specs.Failing.{failing_state, IsLaterFailing};
-ghost use Rattle.mig_lines.proofs.CoursesRun.{later_itself, later_still};
+ghost use Rattle.mig_machine_script.proofs.CoursesRun.{later_itself, later_still};
 ghost use Rattle.mig_machine.specs.MachineSeen.{course_of};
 
 use mig_bytes::Failed;

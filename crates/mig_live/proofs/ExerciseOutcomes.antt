@@ -16,7 +16,7 @@ use Rattle.mig_bytes.specs.declared.answer.Answer.{Answer}
 use Rattle.mig_report.specs.declared.outcome.Outcome.{Outcome}
 use Rattle.mig_report.specs.declared.outcome.Outcome.TheVariants as outcomes
 use Rattle.mig_report.specs.declared.outcome.Refusal.TheVariants as refusals
-use Rattle.mig_script.specs.ScriptLines.{LineOf}
+use Rattle.mig_machine_script.specs.ScriptLines.{LineOf}
 use Rattle.std.specs.Prelude.{◌*◌, ◌≤◌}
 use Rattle.mig_host_view.specs.View.{view}
 use Rattle.mig_libxl.specs.Canon.{canon_any}

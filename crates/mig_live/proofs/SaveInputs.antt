@@ -7,9 +7,9 @@ use Rattle.mig_headers.specs.declared.image_fault.ImageCause.{ImageCause}
 use Rattle.mig_headers.specs.declared.image_fault.ImagePlace.{ImagePlace}
 use Rattle.mig_headers.specs.declared.unsound.Unsound.{Unsound}
 use Rattle.mig_guest.specs.Hosts.{HostOf}
-use Rattle.mig_script.specs.ScriptLines.{LineOf}
-use Rattle.mig_script.specs.Scripts.{IsBadLine}
-use Rattle.mig_script.proofs.OneScript.{never_both}
+use Rattle.mig_machine_script.specs.ScriptLines.{LineOf}
+use Rattle.mig_machine_script.specs.Scripts.{IsBadLine}
+use Rattle.mig_machine_script.proofs.OneScript.{never_both}
 use Rattle.mig_live.specs.Saves.{IsOfInput}
 use Rattle.mig_live.specs.LiveSaves.{HasHostAndScript, HasUnsoundPause, saved_host_at}
 

@@ -18,11 +18,11 @@ use Rattle.mig_host.specs.HostView.{HostAndSpare}
 use Rattle.mig_image.specs.Answer.{ReadsHost}
 use Rattle.mig_unended.specs.Unread.{WroteNoStream}
 use Rattle.mig_unended.proofs.Written.{bare_headers}
-use Rattle.mig_script.specs.ScriptAnswers.{ReadsScript}
-use Rattle.mig_script.specs.ScriptLines.{LineOf}
-use Rattle.mig_script.specs.Scripts.{most_script_bytes}
-use Rattle.mig_script.specs.declared.script.ScriptAnswer.{ScriptAnswer}
-use Rattle.mig_script.specs.declared.script.ScriptAnswer.TheVariants as scripts
+use Rattle.mig_machine_script.specs.ScriptAnswers.{ReadsScript}
+use Rattle.mig_machine_script.specs.ScriptLines.{LineOf}
+use Rattle.mig_machine_script.specs.Scripts.{most_script_bytes}
+use Rattle.mig_machine_script.specs.declared.script.ScriptAnswer.{ScriptAnswer}
+use Rattle.mig_machine_script.specs.declared.script.ScriptAnswer.TheVariants as scripts
 use Rattle.mig_report.specs.Report.{Reports, saved_line}
 use Rattle.mig_report.specs.declared.outcome.Outcome.{Outcome}
 use Rattle.mig_report.specs.declared.outcome.Outcome.TheVariants as outcomes

@@ -17,10 +17,10 @@ use Rattle.mig_libxl.specs.Canon.{wrapper_opening, wrapper_closing}
 use Rattle.mig_libxl_form.specs.Spelled.{AcceptedStream}
 use Rattle.mig_rounds.specs.Entries.{pfns_sent}
 use Rattle.mig_around.specs.SaveTexts.{IsOtherRecord}
-use Rattle.mig_script.specs.ScriptLines.{LineOf}
-use Rattle.mig_script.specs.Scripts.{IsScript, IsBadLine, most_script_bytes}
-use Rattle.mig_lines.specs.Groups.{ran}
-use Rattle.mig_lines.specs.HostLines.{after}
+use Rattle.mig_machine_script.specs.ScriptLines.{LineOf}
+use Rattle.mig_machine_script.specs.Scripts.{IsScript, IsBadLine, most_script_bytes}
+use Rattle.mig_machine_script.specs.Groups.{ran}
+use Rattle.mig_machine_script.specs.HostLines.{after}
 use Rattle.mig_machine.specs.MachineSeen.{MachineSeen, calls_of, is_paused, log_of, history_of}
 use Rattle.mig_guest.specs.History.{no_history}
 use Rattle.mig_guest.specs.Pfns.{no_pfns}

@@ -13,9 +13,9 @@ use Rattle.mig_report.specs.declared.outcome.Outcome.{Outcome}
 use Rattle.mig_report.specs.declared.outcome.Outcome.TheVariants as outcomes
 use Rattle.mig_report.specs.declared.outcome.Refusal.{Refusal}
 use Rattle.mig_report.specs.declared.outcome.Refusal.TheVariants as refusals
-use Rattle.mig_script.specs.ScriptLines.{LineOf}
-use Rattle.mig_script.specs.declared.script.ScriptAnswer.{ScriptAnswer}
-use Rattle.mig_script.specs.declared.script.ScriptAnswer.TheVariants as scripts
+use Rattle.mig_machine_script.specs.ScriptLines.{LineOf}
+use Rattle.mig_machine_script.specs.declared.script.ScriptAnswer.{ScriptAnswer}
+use Rattle.mig_machine_script.specs.declared.script.ScriptAnswer.TheVariants as scripts
 use Rattle.mig_live.specs.Saves.{HasSaveRefusal, IsOfInput}
 use Rattle.mig_live.specs.LiveSaves.{HasHostAndScript, PausesUnsound, saved_host_at}
 use Rattle.mig_live.specs.declared.saving.HostAndScript.{HostAndScript}

@@ -13,7 +13,7 @@ use Rattle.mig_report.specs.declared.status.Status.{Status}
 use Rattle.mig_report.specs.declared.status.Status.TheVariants as statuses
 use Rattle.mig_report.specs.Report.{Reports, refusal_line, write_fault_line, saved_line}
 use Rattle.mig_report.specs.Statuses.{NamesRefusal, StatusSays, Written}
-use Rattle.mig_script.specs.ScriptLines.{LineOf}
+use Rattle.mig_machine_script.specs.ScriptLines.{LineOf}
 use Rattle.mig_unended.specs.Unread.{WroteNoStream}
 use Rattle.mig_live.specs.LiveSaves.{HasHostAndScript, HasBadLine, HasLongScript, HasUnsoundPause, WroteLive, saved_host_at}
 

@@ -4,12 +4,12 @@ use Rattle.std.specs.Option.{option_map}
 use Rattle.mig_guest.specs.Hosts.{HostOf}
 use Rattle.mig_guest.specs.History.{History, LogTook, Since, one_more, and_call, after_log, no_history}
 use Rattle.mig_guest.specs.Pfns.{Pfns, pfns_of_words, no_pfns}
-use Rattle.mig_script.specs.ScriptLines.{LineOf}
-use Rattle.mig_lines.specs.Courses.{IsLaterCourse}
-use Rattle.mig_lines.specs.Groups.{ran, ran_between}
-use Rattle.mig_lines.specs.HostLines.{after, logged_after}
-use Rattle.mig_lines.specs.Touched.{touched}
-use Rattle.mig_lines.proofs.CoursesRun.{after_between, touched_on, touched_same}
+use Rattle.mig_machine_script.specs.ScriptLines.{LineOf}
+use Rattle.mig_machine_script.specs.Courses.{IsLaterCourse}
+use Rattle.mig_machine_script.specs.Groups.{ran, ran_between}
+use Rattle.mig_machine_script.specs.HostLines.{after, logged_after}
+use Rattle.mig_machine_script.specs.Touched.{touched}
+use Rattle.mig_machine_script.proofs.CoursesRun.{after_between, touched_on, touched_same}
 use Rattle.mig_machine.specs.MachineSeen.{MachineSeen, HistoryNoted, calls_of, is_paused, log_of, history_of, history_told, course_of}
 use Rattle.mig_machine.specs.Exact.{asked_before, asked_in, AllCounted, AreExact, StandRoundPause, IsExactBy, IsExactFrom, IsLaterMachine, RunsOn}
 

@@ -1,10 +1,10 @@
 -- A machine that runs lines, and what it is at.
 use Rattle.std.proofs.Common.{◌≡◌, false, refl, arith}
 use Rattle.mig_guest.specs.MachineStates.{Ran}
-use Rattle.mig_lines.specs.Groups.{ran}
-use Rattle.mig_lines.specs.HostLines.{after}
-use Rattle.mig_lines.proofs.LinesLogged.{LinesRan}
-use Rattle.mig_lines.proofs.CoursesRun.{from_start}
+use Rattle.mig_machine_script.specs.Groups.{ran}
+use Rattle.mig_machine_script.specs.HostLines.{after}
+use Rattle.mig_machine_script.proofs.LinesLogged.{LinesRan}
+use Rattle.mig_machine_script.proofs.CoursesRun.{from_start}
 use Rattle.mig_machine.specs.MachineSeen.{MachineSeen, calls_of, is_paused, log_of, machine_state, course_of}
 use Rattle.mig_machine.specs.Exact.{IsLaterMachine}
 

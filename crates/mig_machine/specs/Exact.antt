@@ -5,10 +5,10 @@ use Rattle.mig_guest.specs.Hosts.{HostOf}
 use Rattle.mig_guest.specs.History.{LogTook, History, one_more}
 use Rattle.mig_guest.specs.Pfns.{Pfns}
 use Rattle.mig_guest.specs.Rounds.{OfEachLog}
-use Rattle.mig_lines.specs.Courses.{IsLaterCourse}
-use Rattle.mig_lines.specs.Groups.{ran, ran_between}
-use Rattle.mig_lines.specs.HostLines.{after, logged_after}
-use Rattle.mig_lines.specs.Touched.{touched}
+use Rattle.mig_machine_script.specs.Courses.{IsLaterCourse}
+use Rattle.mig_machine_script.specs.Groups.{ran, ran_between}
+use Rattle.mig_machine_script.specs.HostLines.{after, logged_after}
+use Rattle.mig_machine_script.specs.Touched.{touched}
 use Rattle.mig_machine.specs.MachineSeen.{MachineSeen, calls_of, is_paused, log_of, history_of, course_of}
 
 -- how many calls were made up to and with the last of these logs, which stand the latest first

@@ -6,8 +6,8 @@ use Rattle.mig_guest.specs.Hosts.{HostOf, host_code}
 use Rattle.mig_guest.specs.History.{History, LogTook, Since}
 use Rattle.mig_guest.specs.MachineStates.{MachineState}
 use Rattle.mig_guest.specs.Pfns.{Pfns, pfns_of_words}
-use Rattle.mig_script.specs.ScriptLines.{LineOf, line_code}
-use Rattle.mig_lines.specs.Courses.{Course}
+use Rattle.mig_machine_script.specs.ScriptLines.{LineOf, line_code}
+use Rattle.mig_machine_script.specs.Courses.{Course}
 
 -- what was asked since a log was taken, or from the start on
 pub record SinceNoted : Type 0 where

@@ -3,7 +3,7 @@ ghost use Rattle.mig_guest.specs.Hosts.{most_saved_width};
 ghost use Rattle.mig_guest.specs.History.{no_history};
 ghost use Rattle.mig_guest.specs.MachineStates.{Ran, IsValidState};
 ghost use Rattle.mig_guest.specs.Pfns.{no_pfns, pfns_of_words};
-ghost use Rattle.mig_lines.specs.HostLines.{room_for};
+ghost use Rattle.mig_machine_script.specs.HostLines.{room_for};
 ghost use Rattle.mig_machine.specs.Noted.{history_in};
 ghost use Rattle.mig_machine.specs.MachineSeen.{calls_of, is_paused, log_of, history_of, machine_state};
 ghost use Rattle.mig_machine.specs.Exact.{RunsOn};
@@ -11,8 +11,7 @@ ghost use Rattle.mig_machine.specs.Exact.{RunsOn};
 use crate::notes::{Notes, no_members};
 use mig_bytes::Memory;
 use mig_host::Host;
-use mig_lines::{room_in, run_logged};
-use mig_script::Script;
+use mig_machine_script::{Script, room_in, run_logged};
 use std::alloc::Global;
 use std::marker::Model;
 

@@ -9,11 +9,11 @@ use Rattle.std.proofs.lemmas.List.FromFn.{length-range_with_len}
 use Rattle.mig_headers.specs.declared.kind.Kind.{Kind}
 use Rattle.mig_headers.specs.declared.kind.Kind.TheVariants.{Pv, Hvm}
 use Rattle.mig_guest.specs.Hosts.{HostOf, most_saved_width}
-use Rattle.mig_script.specs.ScriptLines.{LineOf}
+use Rattle.mig_machine_script.specs.ScriptLines.{LineOf}
 use Rattle.mig_guest.specs.Pfns.{Pfns, no_pfns, joined, all_below, size, members}
 use Rattle.mig_guest.specs.History.{LogTook, History}
 use Rattle.mig_guest.specs.Rounds.{OfEachLog, to_read, GoesOn, AreCalls, Rounds, Tight, rounds_read, all_read}
-use Rattle.mig_lines.specs.Touched.{touched}
+use Rattle.mig_machine_script.specs.Touched.{touched}
 use Rattle.mig_machine.specs.MachineSeen.{MachineSeen, is_paused, history_of}
 use Rattle.mig_machine.specs.Exact.{asked_before, AreExact, StandRoundPause, IsExactFrom}
 use Rattle.mig_paced.specs.Paced.{Pace, pace_before, GoesOnFrom, IsPace, ArePaces, Paced, sizes, sent_again, read_in, pfns_paced, paces_of, HasPaces}

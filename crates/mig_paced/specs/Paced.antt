@@ -2,8 +2,8 @@
 use Rattle.std.specs.Prelude.{◌≡◌, ℕ, ◌+◌, ◌-◌, ◌≤◌, ◌<◌, ◌⊎◌, List, [], ◌∷◌, ◌++◌, length, ⊤}
 use Rattle.mig_headers.specs.declared.kind.Kind.{Kind}
 use Rattle.mig_guest.specs.Hosts.{HostOf}
-use Rattle.mig_script.specs.ScriptLines.{LineOf}
-use Rattle.mig_lines.specs.Touched.{touched}
+use Rattle.mig_machine_script.specs.ScriptLines.{LineOf}
+use Rattle.mig_machine_script.specs.Touched.{touched}
 use Rattle.mig_guest.specs.History.{LogTook}
 use Rattle.mig_guest.specs.Pfns.{Pfns, all_below, joined, members, size}
 use Rattle.mig_guest.specs.Rounds.{AreCalls, Rounds}

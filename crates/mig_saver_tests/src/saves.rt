@@ -12,7 +12,7 @@ use mig_guest::mig_machine_api::Machine;
 use mig_image::Host;
 use mig_libxl::read_any;
 use mig_machine::ScriptMachine;
-use mig_script::Script;
+use mig_machine_script::Script;
 use std::alloc::Global;
 use std::test::Fail;
 

@@ -8,7 +8,7 @@ use mig_guest::mig_machine_api::Machine;
 use mig_headers::Kind;
 use mig_host::Host;
 use mig_machine::ScriptMachine;
-use mig_script::Script;
+use mig_machine_script::Script;
 use std::alloc::Global;
 use std::process::Abort;
 use std::test::Fail;

@@ -1,5 +1,5 @@
 use mig_bytes::MemSource;
-use mig_script::{Line, Script, ScriptAnswer};
+use mig_machine_script::{Line, Script, ScriptAnswer};
 use std::alloc::Global;
 use std::process::Abort;
 use std::test::Fail;

@@ -2,7 +2,7 @@ ghost use Rattle.std.specs.Prelude.{◌≡◌, ◌≢◌, ◌⊎◌, ℕ, List, 
 ghost use Rattle.mig_bytes.specs.Faults.{Rose};
 ghost use Rattle.mig_guest.specs.Guests.{GuestOf};
 ghost use Rattle.mig_guest.specs.Hosts.{HostOf};
-ghost use Rattle.mig_script.specs.ScriptLines.{LineOf};
+ghost use Rattle.mig_machine_script.specs.ScriptLines.{LineOf};
 ghost use Rattle.mig_report.specs.Statuses.{InputRises, NoneFailed};
 ghost use Rattle.mig_passing.specs.Relays.{Relays};
 ghost use Rattle.mig_passing.specs.Shown.{SaysShown};

@@ -1,7 +1,7 @@
 use Rattle.std.proofs.Common.{◌≡◌, ◌+◌, ◌-◌, ◌%◌, map, ap, ◌∙◌, arith}
 use Rattle.byteorder.specs.Endian.{little_bytes}
-use Rattle.mig_script.specs.ScriptLines.{line_said}
-use Rattle.mig_script.specs.ScriptLines.LineOf.{Write}
+use Rattle.mig_machine_script.specs.ScriptLines.{line_said}
+use Rattle.mig_machine_script.specs.ScriptLines.LineOf.{Write}
 use Rattle.mig_exercise.specs.Numbers.{number}
 use Rattle.mig_exercise.specs.ExerciseHosts.{data_count}
 use Rattle.mig_exercise.specs.ExerciseScripts.{writes_up_to}

@@ -1,5 +1,5 @@
 use Rattle.std.proofs.Common.{◌≡◌, ◌+◌, ◌*◌, map}
-use Rattle.mig_script.specs.ScriptLines.{line_said}
+use Rattle.mig_machine_script.specs.ScriptLines.{line_said}
 use Rattle.mig_exercise.specs.Numbers.{number, next_number}
 use Rattle.mig_exercise.specs.ExerciseHosts.{data_count}
 use Rattle.mig_exercise.specs.ExerciseScripts.{writes_up_to}

@@ -1,7 +1,7 @@
 use Rattle.mig_live.proofs.Common.{Err, ap, ◌≡◌, ℕ, List, refl, subst, rules}
 use Rattle.std.specs.Prelude.{◌≤◌, true}
 use Rattle.mig_guest.specs.Hosts.{most_saved_width}
-use Rattle.mig_script.specs.ScriptLines.{LineOf}
+use Rattle.mig_machine_script.specs.ScriptLines.{LineOf}
 use Rattle.mig_machine.specs.MachineSeen.{history_of, machine_state}
 use Rattle.mig_dirtysave.specs.SaveAnswers.{IsTrusted}
 use Rattle.mig_dirtysave.specs.declared.answer.SaveReport.{SaveReport}

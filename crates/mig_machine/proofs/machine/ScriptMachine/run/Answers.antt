@@ -2,10 +2,10 @@ use Rattle.std.proofs.Common.{rules, arith, ◌≡◌, ◌≤◌, ◌-◌, ◌^�
 use Rattle.mig_guest.specs.Hosts.{most_saved_width}
 use Rattle.mig_guest.specs.MachineStates.{Ran}
 use Rattle.mig_guest.specs.Pfns.{pfns_of_words}
-use Rattle.mig_lines.specs.Groups.{first_group, first_length}
-use Rattle.mig_lines.specs.HostLines.{after, logged_after}
-use Rattle.mig_lines.proofs.CoursesRun.{IsNextCount, next_place, later_now, logged_next, group_ran}
-use Rattle.mig_lines.proofs.LinesLogged.{regular}
+use Rattle.mig_machine_script.specs.Groups.{first_group, first_length}
+use Rattle.mig_machine_script.specs.HostLines.{after, logged_after}
+use Rattle.mig_machine_script.proofs.CoursesRun.{IsNextCount, next_place, later_now, logged_next, group_ran}
+use Rattle.mig_machine_script.proofs.LinesLogged.{regular}
 use Rattle.mig_machine.specs.MachineSeen.{MachineSeen, log_of, machine_state, course_of}
 use Rattle.mig_machine.specs.Exact.{RunsOn}
 use Rattle.mig_machine.specs.MachineFields.{machine_seen}

@@ -1,5 +1,0 @@
-use Rattle.mig_lines.proofs.DotsCounted.{before}
-use Rattle.mig_lines.proofs.law.ran_laws.Goals as goal
-
-pub returns-clause-before : goal.returns-clause-before
-returns-clause-before c = λ lines n. before lines n

@@ -1,7 +1,0 @@
-use Rattle.std.proofs.Common.{◌≡◌, ℕ, ◌<◌, false}
-use Rattle.mig_guest.specs.Footprints.{machine_named}
-use Rattle.mig_lines.specs.HostLines.{is_machine}
-use Rattle.mig_lines.proofs.named.table_names.Given as goal
-
-abbrev pub invariant-loop-slot : goal.invariant-loop-slot
-invariant-loop-slot l = (k : ℕ) → k < l.slot → is_machine l.mfn (machine_named l.level l.page k) ≡ false

@@ -1,4 +1,0 @@
-pub mod HostLines
-pub mod Groups
-pub mod Courses
-pub mod Touched

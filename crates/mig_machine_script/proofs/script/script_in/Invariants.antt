@@ -1,0 +1,13 @@
+use Rattle.std.proofs.Common.{◌+◌, ◌≤◌, length, map}
+use Rattle.mig_machine_script.specs.ScriptLines.{line_said}
+use Rattle.mig_machine_script.specs.Scripts.{AreScriptLines}
+use Rattle.mig_machine_script.proofs.script.script_in.Given as goal
+
+abbrev pub invariant-loop-rest : goal.invariant-loop-rest
+invariant-loop-rest l = record {
+  good : AreScriptLines l.bytes (map line_said l.lines.items) l.rest;
+  few : length l.lines.items + length l.rest ≤ length l.bytes;
+}
+
+abbrev pub decreases-loop-rest : goal.decreases-loop-rest
+decreases-loop-rest l = length l.rest

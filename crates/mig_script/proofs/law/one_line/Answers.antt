@@ -1,5 +1,0 @@
-use Rattle.mig_script.proofs.OneLine.{one_line}
-use Rattle.mig_script.proofs.law.one_line.Goals as goal
-
-pub returns : goal.returns
-returns c = one_line

@@ -1,4 +1,0 @@
-pub mod ScriptLines
-pub mod ScriptFields
-pub mod Scripts
-pub mod ScriptAnswers
