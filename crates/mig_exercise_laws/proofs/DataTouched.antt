@@ -10,7 +10,7 @@ use Rattle.mig_machine_script.specs.ScriptLines.LineOf.{Write, Retype, Add, Remo
 use Rattle.mig_machine_script.specs.Groups.{ran, ran_between}
 use Rattle.mig_machine_script.specs.HostLines.{applies, after_line, after, logs, with_logged, logged_after}
 use Rattle.mig_machine_script.specs.Touched.{touched}
-use Rattle.mig_paced.specs.Paced.{Pace, pace_before, ArePaces, Paced, sizes, sent_again}
+use Rattle.mig_machine.specs.Paced.{Pace, pace_before, ArePaces, Paced, sizes, sent_again}
 use Rattle.mig_exercise.specs.ExerciseHosts.{IsExerciseSize, first_data, data_count, host_of_exercise}
 use Rattle.mig_exercise.specs.ExerciseScripts.{IsDataWrite, script_of_exercise}
 use Rattle.mig_exercise_laws.proofs.DataWrites.{script_writes, between_writes}

@@ -4,7 +4,7 @@ ghost use Rattle.mig_host_view.specs.View.{view};
 ghost use Rattle.mig_libxl.specs.Canon.{canon_any};
 ghost use Rattle.mig_machine_script.specs.Groups.{ran};
 ghost use Rattle.mig_machine_script.specs.HostLines.{after};
-ghost use Rattle.mig_paced.specs.Paced.{Paced};
+ghost use Rattle.mig_machine.specs.Paced.{Paced};
 ghost use Rattle.mig_exercise.specs.ExerciseHosts.{IsExerciseSize, host_of_exercise, data_count, exercise_canon_len};
 ghost use Rattle.mig_exercise.specs.ExerciseScripts.{script_of_exercise};
 

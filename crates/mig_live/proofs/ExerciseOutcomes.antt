@@ -20,7 +20,7 @@ use Rattle.mig_machine_script.specs.ScriptLines.{LineOf}
 use Rattle.std.specs.Prelude.{◌*◌, ◌≤◌}
 use Rattle.mig_host_view.specs.View.{view}
 use Rattle.mig_libxl.specs.Canon.{canon_any}
-use Rattle.mig_paced.specs.Paced.{Paced}
+use Rattle.mig_machine.specs.Paced.{Paced}
 use Rattle.mig_exercise.specs.ExerciseHosts.{IsExerciseSize, host_of_exercise, data_count, exercise_canon_len}
 use Rattle.mig_exercise.specs.ExerciseScripts.{script_of_exercise}
 use Rattle.mig_report.specs.declared.outcome.SaveSummary.{SaveSummary}

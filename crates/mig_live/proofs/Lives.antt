@@ -18,7 +18,7 @@ use Rattle.mig_rounds.specs.Live.{HasRounds}
 use Rattle.mig_machine_script.specs.ScriptLines.{LineOf}
 use Rattle.mig_machine.specs.MachineSeen.{MachineSeen, history_of, machine_state}
 use Rattle.mig_machine.specs.Exact.{IsExactFrom}
-use Rattle.mig_paced.specs.Paced.{Paced, HasPaces, pfns_paced}
+use Rattle.mig_machine.specs.Paced.{Paced, HasPaces, pfns_paced}
 use Rattle.mig_dirtysave.specs.SaveAnswers.{IfUnsound, IsTrusted, OnEnd, SaveWritten}
 use Rattle.mig_dirtysave.specs.declared.answer.SaveAnswer.{SaveAnswer}
 use Rattle.mig_dirtysave.specs.declared.answer.SaveAnswer.TheVariants as answers

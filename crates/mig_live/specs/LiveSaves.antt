@@ -24,7 +24,7 @@ use Rattle.mig_machine_script.specs.HostLines.{after}
 use Rattle.mig_machine.specs.MachineSeen.{MachineSeen, calls_of, is_paused, log_of, history_of}
 use Rattle.mig_guest.specs.History.{no_history}
 use Rattle.mig_guest.specs.Pfns.{no_pfns}
-use Rattle.mig_paced.specs.Paced.{Paced, pfns_paced}
+use Rattle.mig_machine.specs.Paced.{Paced, pfns_paced}
 use Rattle.mig_report.specs.declared.outcome.SaveSummary.{SaveSummary}
 
 -- ---- what is read

@@ -3,7 +3,7 @@
 //! Responsible for: each of the two as one function that answers the status, and what a status says of it; the host and the
 //! machine that are saved, and that what an exercise wrote is read, restored and seen again. Left to others: how an image and a
 //! script are read (mig_image, mig_machine_script), how a machine runs its script (mig_machine), how it is saved (mig_dirtysave), that
-//! its rounds are those that host and script tell (mig_paced), the host and the script of an exercise (mig_exercise), which
+//! its rounds are those that host and script tell (mig_machine), the host and the script of an exercise (mig_exercise), which
 //! command the words name, and the lines (mig_report).
 //!
 //! What the layers above rely on: of an input that tells its bytes each status of `save` says what specs/Saves tells; what

@@ -19,9 +19,8 @@ use mig_bytes::{Sink, Source, Stop};
 use mig_dirtysave::{SaveAnswer, Saver};
 use mig_guest::mig_machine_api::Machine;
 use mig_image::{Host, ImageAnswer, read_host};
-use mig_machine::{ScriptMachine, script_machine_is_at};
+use mig_machine::{ScriptMachine, rounds_are_paced, script_machine_is_at};
 use mig_machine_script::{Script, ScriptAnswer};
-use mig_paced::rounds_are_paced;
 use mig_report::{Outcome, Refusal, SaveSummary, Status, finish, put_saved};
 use std::alloc::Global;
 

@@ -2,3 +2,6 @@ pub mod LogsKept
 pub mod Insides
 pub mod MachinesRun
 pub mod Exactly
+pub mod Forgetting
+pub mod LeftOut
+mod Paces

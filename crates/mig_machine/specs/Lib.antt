@@ -2,3 +2,6 @@ pub mod MachineSeen
 pub mod Noted
 pub mod MachineFields
 pub mod Exact
+pub mod Failing
+pub mod Forgetful
+pub mod Paced

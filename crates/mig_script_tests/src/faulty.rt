@@ -3,8 +3,8 @@ ghost use Rattle.mig_guest.specs.History.{no_history};
 
 use crate::made::{log, looks_up, started};
 use mig_bytes::Failed;
-use mig_faulty::{FailingMachine, ForgetfulMachine};
 use mig_guest::mig_machine_api::Machine;
+use mig_machine::{FailingMachine, ForgetfulMachine};
 use std::process::Abort;
 use std::test::Fail;
 
