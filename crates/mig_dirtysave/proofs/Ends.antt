@@ -24,11 +24,11 @@ use Rattle.mig_guest.specs.MachineStates.{MachineState}
 use Rattle.mig_rounds.specs.Parts.{total}
 use Rattle.mig_rounds.specs.Live.{FramesSaved}
 use Rattle.mig_rounds.proofs.Saves.{size_none}
-use Rattle.mig_around.specs.SaveTexts.{text_before, StopsBehind, ClosesStream}
+use Rattle.mig_dirtysave_parts.specs.SaveTexts.{text_before, StopsBehind, ClosesStream}
 use Rattle.mig_unended.specs.Unread.{WroteNoStream}
 use Rattle.mig_unended.proofs.Written.{bare_headers, bare_some, wrapped_behind, wrapped_headers, wrapped_opening, wrapped_some}
-use Rattle.mig_around.proofs.Codes.{first_records, first_within, are_within}
-use Rattle.mig_around.proofs.Texts.{some_records, appends_first, part_behind}
+use Rattle.mig_dirtysave_parts.proofs.Codes.{first_records, first_within, are_within}
+use Rattle.mig_dirtysave_parts.proofs.Texts.{some_records, appends_first, part_behind}
 use Rattle.mig_dirtysave.specs.SaveAnswers.{WroteMost, IsLittleBehind}
 use Rattle.mig_dirtysave.proofs.Wrappers.{closing_cut}
 

@@ -7,7 +7,7 @@ use Rattle.mig_guest.specs.Hosts.{HostOf, HostFrame, IsValid}
 use Rattle.mig_guest.specs.Footprints.{footprint_of, footprint, table_in}
 use Rattle.mig_rounds.specs.Forms.{superpage_in, superpage_slot, lost_in, lost_slot}
 use Rattle.mig_rounds.specs.Live.{IsUnsound}
-use Rattle.mig_around.proofs.Rows.{no_level, hvm_type}
+use Rattle.mig_dirtysave_parts.proofs.Rows.{no_level, hvm_type}
 
 module _ (h : HostOf) (valid : IsValid h) (hvm : h.kind ≡ Hvm) where
   no_superpage : (pfn : ℕ) → superpage_slot (footprint h.frames pfn) ≡ None

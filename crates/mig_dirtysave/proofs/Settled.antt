@@ -3,8 +3,8 @@ use Rattle.mig_host_view.proofs.Common.{◌≡◌, ap, ◌∙◌, Pv, GuestOf}
 use Rattle.mig_guest.specs.Hosts.{HostOf}
 use Rattle.mig_pause.specs.Paused.{with_view}
 use Rattle.mig_pause.proofs.HeldParts.{kept_are_seen}
-use Rattle.mig_around.specs.KeptParts.{is_setting, kept_parts, parts_alone}
-use Rattle.mig_around.specs.SaveTexts.{settings_seen}
+use Rattle.mig_dirtysave_parts.specs.KeptParts.{is_setting, kept_parts, parts_alone}
+use Rattle.mig_dirtysave_parts.specs.SaveTexts.{settings_seen}
 
 -- the settings are refreshed, and those of the host become those of its view
 pub settings_are : (h : HostOf) → h.kind ≡ Pv → (g k : GuestOf) → g ≡ parts_alone h.kind h.width (kept_parts is_setting h.parts) → k ≡ with_view h g → k ≡ settings_seen h

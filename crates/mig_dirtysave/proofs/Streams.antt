@@ -29,10 +29,10 @@ use Rattle.mig_records_pages.specs.Told.{FrameTold, telling_frames, telling_reco
 use Rattle.mig_restore_form.specs.Spelled.{Accepted}
 use Rattle.mig_rounds.specs.Live.{StaysSame, FramesSaved}
 use Rattle.mig_saved.proofs.Viewed.{saved_is_viewed}
-use Rattle.mig_around.specs.SaveTexts.{IsOtherRecord, text_before, ClosesStream}
-use Rattle.mig_around.specs.KeptParts.{HoldsParts, is_early}
-use Rattle.mig_around.proofs.Codes.{both_all, emulators_seen, first_records, first_seen, first_within, viewed_kind}
-use Rattle.mig_around.proofs.Closings.{others_are}
+use Rattle.mig_dirtysave_parts.specs.SaveTexts.{IsOtherRecord, text_before, ClosesStream}
+use Rattle.mig_dirtysave_parts.specs.KeptParts.{HoldsParts, is_early}
+use Rattle.mig_dirtysave_parts.proofs.Codes.{both_all, emulators_seen, first_records, first_seen, first_within, viewed_kind}
+use Rattle.mig_dirtysave_parts.proofs.Closings.{others_are}
 use Rattle.mig_dirtysave.specs.Saver.{SaverOf, IsFor}
 use Rattle.mig_dirtysave.specs.SaveAnswers.{SaveWritten}
 

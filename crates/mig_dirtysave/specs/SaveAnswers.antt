@@ -12,7 +12,7 @@ use Rattle.mig_records_pages.specs.Written.{AreRecordsWithin}
 use Rattle.mig_host_view.specs.View.{view}
 use Rattle.mig_libxl.specs.Canon.{wrapper_opening, wrapper_closing}
 use Rattle.mig_libxl_form.specs.Spelled.{AcceptedStream}
-use Rattle.mig_around.specs.SaveTexts.{IsOtherRecord}
+use Rattle.mig_dirtysave_parts.specs.SaveTexts.{IsOtherRecord}
 use Rattle.mig_guest.specs.MachineStates.{MachineState}
 use Rattle.mig_guest.specs.Rounds.{all_read}
 use Rattle.mig_rounds.specs.Entries.{pfns_sent}

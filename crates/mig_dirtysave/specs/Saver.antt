@@ -7,7 +7,7 @@ use Rattle.mig_headers.specs.contracts.kind.Kind as kind
 use Rattle.mig_guest.specs.declared.part_key.PartKey.{PartKey}
 use Rattle.mig_guest.specs.Hosts.{HostOf}
 use Rattle.mig_guest.specs.Parts.{PartMap, parts_code}
-use Rattle.mig_around.specs.KeptParts.{is_early, SameSettings}
+use Rattle.mig_dirtysave_parts.specs.KeptParts.{is_early, SameSettings}
 
 pub record SaverOf : Type 0 where
   pub kind : Kind

@@ -9,14 +9,14 @@ ghost use Rattle.mig_rounds.specs.Live.{AnswersTables, IsUnsound, SawTypes};
 ghost use Rattle.mig_host_laws.specs.Standing.{is_of_no_type};
 ghost use Rattle.mig_host_laws.specs.Unsoundness.{UnsoundHas};
 ghost use Rattle.mig_pause.specs.Paused.{HasTypes, OnlyLooksUp};
-ghost use Rattle.mig_around.specs.KeptParts.{HoldsParts, SameEmulators, SameSettings, is_setting};
-ghost use Rattle.mig_around.specs.SaveTexts.{settings_seen, StopsBehind, ClosesStream};
+ghost use Rattle.mig_dirtysave_parts.specs.KeptParts.{HoldsParts, SameEmulators, SameSettings, is_setting};
+ghost use Rattle.mig_dirtysave_parts.specs.SaveTexts.{settings_seen, StopsBehind, ClosesStream};
 ghost use Rattle.mig_dirtysave.specs.SaveAnswers.{IfUnsound, IsTrusted};
 ghost use Rattle.mig_dirtysave.specs.declared.answer.SaveAnswer.TheVariants.{MachineFault, WriteFault};
 
 use crate::answer::SaveAnswer;
-use mig_around::{judge, refresh, write_last, write_pv_last};
 use mig_bytes::Sink;
+use mig_dirtysave_parts::{judge, refresh, write_last, write_pv_last};
 use mig_guest::Guest;
 use mig_guest::mig_machine_api::Machine;
 use mig_headers::{Kind, Unsound};

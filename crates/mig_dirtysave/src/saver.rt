@@ -10,7 +10,7 @@ ghost use Rattle.mig_host_laws.specs.Unsoundness.{UnsoundHas};
 ghost use Rattle.mig_unended.specs.Unread.{WroteNoStream};
 ghost use Rattle.mig_rounds.specs.Parts.{total};
 ghost use Rattle.mig_rounds.specs.Live.{StaysSame, HasRounds, IsTight};
-ghost use Rattle.mig_around.specs.KeptParts.{HoldsParts, is_early, is_setting};
+ghost use Rattle.mig_dirtysave_parts.specs.KeptParts.{HoldsParts, is_early, is_setting};
 ghost use Rattle.mig_dirtysave.specs.Saver.{IsFor};
 ghost use Rattle.mig_dirtysave.specs.SaveAnswers.{OnEnd, IfUnsound, IsTrusted, SaveWritten, IsLittleBehind};
 ghost use Rattle.mig_dirtysave.specs.declared.answer.SaveAnswer.TheVariants.{MachineFault, WriteFault};
@@ -18,8 +18,8 @@ ghost use Rattle.mig_dirtysave.specs.declared.answer.SaveAnswer.TheVariants.{Mac
 use crate::answer::{SaveAnswer, SaveReport};
 use crate::closing::close;
 use crate::steps::{begin, end, open, send};
-use mig_around::{copy_parts, make_marks};
 use mig_bytes::{Memory, Sink};
+use mig_dirtysave_parts::{copy_parts, make_marks};
 use mig_guest::Guest;
 use mig_guest::mig_machine_api::Machine;
 use mig_rounds::Room;
@@ -40,7 +40,7 @@ impl Model for Saver {
     ghost use Rattle.std.specs.Prelude.{◌≡◌, length};
     ghost use Rattle.mig_headers.specs.declared.kind.Kind.TheVariants.{Pv};
     ghost use Rattle.mig_guest.specs.Formed.{IsFormed};
-    ghost use Rattle.mig_around.specs.KeptParts.{HoldsParts, is_early, is_setting};
+    ghost use Rattle.mig_dirtysave_parts.specs.KeptParts.{HoldsParts, is_early, is_setting};
     ghost use Rattle.mig_dirtysave.specs.Saver.{SaverOf, saver_code};
 
     ghost Value = { SaverOf };

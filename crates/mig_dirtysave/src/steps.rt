@@ -11,13 +11,13 @@ ghost use Rattle.mig_guest.specs.MachineStates.{IsValidState};
 ghost use Rattle.mig_rounds.specs.Parts.{total};
 ghost use Rattle.mig_rounds.specs.Live.{StaysSame, HasRounds, IsTight, FramesSaved, SawTypes, AnswersTables, IsUnsound};
 ghost use Rattle.mig_libxl.specs.Canon.{wrapper_opening, wrapper_closing};
-ghost use Rattle.mig_around.specs.SaveTexts.{text_before};
+ghost use Rattle.mig_dirtysave_parts.specs.SaveTexts.{text_before};
 ghost use Rattle.mig_dirtysave.specs.SaveAnswers.{IfUnsound};
 ghost use Rattle.mig_dirtysave.specs.declared.answer.SaveAnswer.TheVariants.{MachineFault, WriteFault};
 
 use crate::answer::SaveAnswer;
-use mig_around::write_before;
 use mig_bytes::Sink;
+use mig_dirtysave_parts::write_before;
 use mig_guest::Guest;
 use mig_guest::mig_machine_api::Machine;
 use mig_headers::Unsound;

@@ -5,8 +5,8 @@ use Rattle.mig_guest.specs.Guests.{GuestOf}
 use Rattle.mig_pause.specs.Paused.{standing_seen}
 use Rattle.mig_pause.proofs.HeldParts.{kept_are_held}
 use Rattle.mig_pause.proofs.TableRows.{rounds_find_rows}
-use Rattle.mig_around.specs.KeptParts.{is_setting}
-use Rattle.mig_around.proofs.PvSettings.{settings_formed}
+use Rattle.mig_dirtysave_parts.specs.KeptParts.{is_setting}
+use Rattle.mig_dirtysave_parts.proofs.PvSettings.{settings_formed}
 use Rattle.mig_dirtysave.proofs.PvRows.{few_descriptors, found_stands}
 use Rattle.mig_dirtysave.proofs.Settled.{settings_are}
 use Rattle.mig_dirtysave.proofs.closing.settle.Goals as goal
