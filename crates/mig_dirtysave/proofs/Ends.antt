@@ -21,9 +21,9 @@ use Rattle.mig_records_pages.specs.Batches.{IsBehind}
 use Rattle.mig_records_pages.proofs.Written.{all_behind, some_behind}
 use Rattle.mig_guest.specs.History.{History, no_history}
 use Rattle.mig_guest.specs.MachineStates.{MachineState}
-use Rattle.mig_rounds.specs.Parts.{total}
-use Rattle.mig_rounds.specs.Live.{FramesSaved}
-use Rattle.mig_rounds.proofs.Saves.{size_none}
+use Rattle.mig_dirtysave_rounds.specs.Parts.{total}
+use Rattle.mig_dirtysave_rounds.specs.Live.{FramesSaved}
+use Rattle.mig_dirtysave_rounds.proofs.Saves.{size_none}
 use Rattle.mig_dirtysave_parts.specs.SaveTexts.{text_before, StopsBehind, ClosesStream}
 use Rattle.mig_unended.specs.Unread.{WroteNoStream}
 use Rattle.mig_unended.proofs.Written.{bare_headers, bare_some, wrapped_behind, wrapped_headers, wrapped_opening, wrapped_some}

@@ -5,8 +5,8 @@ use Rattle.mig_headers.specs.declared.unsound.Unsound.{Unsound}
 use Rattle.mig_headers.specs.declared.unsound.Unsound.TheVariants as unsounds
 use Rattle.mig_guest.specs.Hosts.{HostOf, HostFrame, IsValid}
 use Rattle.mig_guest.specs.Footprints.{footprint_of, footprint, table_in}
-use Rattle.mig_rounds.specs.Forms.{superpage_in, superpage_slot, lost_in, lost_slot}
-use Rattle.mig_rounds.specs.Live.{IsUnsound}
+use Rattle.mig_dirtysave_rounds.specs.Forms.{superpage_in, superpage_slot, lost_in, lost_slot}
+use Rattle.mig_dirtysave_rounds.specs.Live.{IsUnsound}
 use Rattle.mig_dirtysave_parts.proofs.Rows.{no_level, hvm_type}
 
 module _ (h : HostOf) (valid : IsValid h) (hvm : h.kind ≡ Hvm) where

@@ -18,8 +18,8 @@ use Rattle.mig_guest.specs.History.{History}
 use Rattle.mig_guest.specs.MachineStates.{MachineState}
 use Rattle.mig_guest.specs.Pfns.{Pfns, members, size}
 use Rattle.mig_guest.specs.Rounds.{Rounds, Tight, all_read, rounds_read}
-use Rattle.mig_rounds.specs.Parts.{total, total_taken}
-use Rattle.mig_rounds.specs.Live.{IsTight, type_in}
+use Rattle.mig_dirtysave_rounds.specs.Parts.{total, total_taken}
+use Rattle.mig_dirtysave_rounds.specs.Live.{IsTight, type_in}
 use Rattle.mig_pause.specs.Paused.{OnlyLooksUp, HasTypes}
 use Rattle.mig_headers.specs.declared.unsound.Unsound.{Unsound}
 use Rattle.mig_dirtysave.specs.SaveAnswers.{SaveWritten, IsTrusted, IfUnsound}

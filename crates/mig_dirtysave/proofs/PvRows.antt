@@ -19,8 +19,8 @@ use Rattle.mig_pvtables.proofs.Searches.{first_found}
 use Rattle.mig_host_view.specs.Sound.{fault_in, find_gdt, unsoundness}
 use Rattle.mig_host_view.specs.View.{without_machine}
 use Rattle.mig_guest.specs.Footprints.{footprint, footprint_of, table_in, names_in, named_by}
-use Rattle.mig_rounds.specs.Forms.{superpage_in, superpage_slot, is_lost, lost_in, lost_slot}
-use Rattle.mig_rounds.specs.Live.{IsUnsound}
+use Rattle.mig_dirtysave_rounds.specs.Forms.{superpage_in, superpage_slot, is_lost, lost_in, lost_slot}
+use Rattle.mig_dirtysave_rounds.specs.Live.{IsUnsound}
 use Rattle.mig_host_laws.specs.Standing.{Standing, in_host, is_of_no_type, said_in, said_of}
 use Rattle.mig_host_laws.specs.FirstRow.{row_1, row_2, row_5, row_6, row_7, first_row}
 use Rattle.mig_host_laws.specs.Unsoundness.{IsWrong, UnsoundHas, NamesFirstRow}

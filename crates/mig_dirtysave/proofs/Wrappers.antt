@@ -27,7 +27,7 @@ use Rattle.mig_libxl.proofs.EmulatorParts.{IsEmulatorPart, in_order_holds}
 use Rattle.mig_libxl.proofs.EmulatorTexts.{short_emulator}
 use Rattle.mig_records_pages.specs.Written.{IsRecordWithin, AreRecordsWithin, WroteSome}
 use Rattle.mig_guest.specs.MachineStates.{MachineState}
-use Rattle.mig_rounds.specs.Live.{StaysSame}
+use Rattle.mig_dirtysave_rounds.specs.Live.{StaysSame}
 use Rattle.mig_dirtysave_parts.specs.KeptParts.{SameEmulators}
 use Rattle.mig_dirtysave_parts.proofs.Codes.{emulator_setting}
 use Rattle.mig_dirtysave_parts.proofs.Texts.{part_behind, some_records}

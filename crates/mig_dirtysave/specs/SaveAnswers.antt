@@ -15,7 +15,7 @@ use Rattle.mig_libxl_form.specs.Spelled.{AcceptedStream}
 use Rattle.mig_dirtysave_parts.specs.SaveTexts.{IsOtherRecord}
 use Rattle.mig_guest.specs.MachineStates.{MachineState}
 use Rattle.mig_guest.specs.Rounds.{all_read}
-use Rattle.mig_rounds.specs.Entries.{pfns_sent}
+use Rattle.mig_dirtysave_rounds.specs.Entries.{pfns_sent}
 use Rattle.mig_dirtysave.specs.declared.answer.SaveAnswer.{SaveAnswer}
 use Rattle.mig_dirtysave.specs.declared.answer.SaveAnswer.TheVariants as answers
 

@@ -5,7 +5,7 @@ ghost use Rattle.mig_headers.specs.declared.unsound.Unsound.{Unsound as UnsoundC
 ghost use Rattle.mig_guest.specs.Formed.{IsFormed};
 ghost use Rattle.mig_guest.specs.Hosts.{IsValid};
 ghost use Rattle.mig_host_view.specs.Sound.{unsoundness};
-ghost use Rattle.mig_rounds.specs.Live.{AnswersTables, IsUnsound, SawTypes};
+ghost use Rattle.mig_dirtysave_rounds.specs.Live.{AnswersTables, IsUnsound, SawTypes};
 ghost use Rattle.mig_host_laws.specs.Standing.{is_of_no_type};
 ghost use Rattle.mig_host_laws.specs.Unsoundness.{UnsoundHas};
 ghost use Rattle.mig_pause.specs.Paused.{HasTypes, OnlyLooksUp};
@@ -17,12 +17,12 @@ ghost use Rattle.mig_dirtysave.specs.declared.answer.SaveAnswer.TheVariants.{Mac
 use crate::answer::SaveAnswer;
 use mig_bytes::Sink;
 use mig_dirtysave_parts::{judge, refresh, write_last, write_pv_last};
+use mig_dirtysave_rounds::Sent;
 use mig_guest::Guest;
 use mig_guest::mig_machine_api::Machine;
 use mig_headers::{Kind, Unsound};
 use mig_pagetypes::PageType;
 use mig_pause::view_parts;
-use mig_rounds::Sent;
 
 /// Judges the host of a paused HVM machine, and writes what stands behind the frames, END the last. `tables` is what was
 /// found wrong with its tables. The settings are those of the host then.

@@ -3,7 +3,7 @@
 //! Responsible for: what a save needs, made before it begins; the order of its steps; that the host is judged once the machine
 //! is paused, and its settings are written as they are then; and which answer comes where the machine or the sink fails. Left
 //! to others: the machine (mig_guest), the parts that are kept of its host, judging an HVM host, and what is written
-//! before the frames and behind them (mig_dirtysave_parts), the frames and the rounds in which they are sent (mig_rounds), judging a
+//! before the frames and behind them (mig_dirtysave_parts), the frames and the rounds in which they are sent (mig_dirtysave_rounds), judging a
 //! PV host and bringing its contexts to their form in a stream (mig_pause), and what a stream is and what stands around its
 //! image (mig_libxl_form).
 //!

@@ -8,8 +8,8 @@ ghost use Rattle.mig_guest.specs.Hosts.{IsValid};
 ghost use Rattle.mig_records_pages.specs.Batches.{IsBehind};
 ghost use Rattle.mig_guest.specs.History.{no_history};
 ghost use Rattle.mig_guest.specs.MachineStates.{IsValidState};
-ghost use Rattle.mig_rounds.specs.Parts.{total};
-ghost use Rattle.mig_rounds.specs.Live.{StaysSame, HasRounds, IsTight, FramesSaved, SawTypes, AnswersTables, IsUnsound};
+ghost use Rattle.mig_dirtysave_rounds.specs.Parts.{total};
+ghost use Rattle.mig_dirtysave_rounds.specs.Live.{StaysSame, HasRounds, IsTight, FramesSaved, SawTypes, AnswersTables, IsUnsound};
 ghost use Rattle.mig_libxl.specs.Canon.{wrapper_opening, wrapper_closing};
 ghost use Rattle.mig_dirtysave_parts.specs.SaveTexts.{text_before};
 ghost use Rattle.mig_dirtysave.specs.SaveAnswers.{IfUnsound};
@@ -18,11 +18,11 @@ ghost use Rattle.mig_dirtysave.specs.declared.answer.SaveAnswer.TheVariants.{Mac
 use crate::answer::SaveAnswer;
 use mig_bytes::Sink;
 use mig_dirtysave_parts::write_before;
+use mig_dirtysave_rounds::{Room, SendFault, Sent, send_frames};
 use mig_guest::Guest;
 use mig_guest::mig_machine_api::Machine;
 use mig_headers::Unsound;
 use mig_libxl::{write_closing, write_opening};
-use mig_rounds::{Room, SendFault, Sent, send_frames};
 
 /// Writes what stands before the frames.
 pub(crate) fn open<K: Sink>(sink: &mut K, early: &Guest) -> Result<(), SaveAnswer>

@@ -14,7 +14,7 @@ use Rattle.mig_libxl.specs.Canon.{wrapper_opening, wrapper_closing}
 use Rattle.mig_libxl_form.specs.Spelled.{AcceptedStream}
 use Rattle.mig_guest.specs.MachineStates.{IsSameShape}
 use Rattle.mig_guest.specs.Rounds.{Rounds, Tight, all_read}
-use Rattle.mig_rounds.specs.Live.{HasRounds}
+use Rattle.mig_dirtysave_rounds.specs.Live.{HasRounds}
 use Rattle.mig_machine_script.specs.ScriptLines.{LineOf}
 use Rattle.mig_machine.specs.MachineSeen.{MachineSeen, history_of, machine_state}
 use Rattle.mig_machine.specs.Exact.{IsExactFrom}

@@ -15,7 +15,7 @@ use Rattle.mig_host_view.specs.View.{view}
 use Rattle.mig_image.specs.ImageForm.{host_at}
 use Rattle.mig_libxl.specs.Canon.{wrapper_opening, wrapper_closing}
 use Rattle.mig_libxl_form.specs.Spelled.{AcceptedStream}
-use Rattle.mig_rounds.specs.Entries.{pfns_sent}
+use Rattle.mig_dirtysave_rounds.specs.Entries.{pfns_sent}
 use Rattle.mig_dirtysave_parts.specs.SaveTexts.{IsOtherRecord}
 use Rattle.mig_machine_script.specs.ScriptLines.{LineOf}
 use Rattle.mig_machine_script.specs.Scripts.{IsScript, IsBadLine, most_script_bytes}

@@ -20,9 +20,9 @@ use Rattle.mig_pvtables.specs.Tables.{is_superpage}
 use Rattle.mig_pvtables.proofs.EachValue.{get_each}
 use Rattle.mig_pvtables.proofs.Slots.{no_slot}
 use Rattle.mig_host_view.specs.View.{guest_in, without_machine}
-use Rattle.mig_rounds.specs.Forms.{superpage_in, superpage_slot, lost_in, lost_slot, is_lost}
-use Rattle.mig_rounds.specs.Live.{table_fault, tables_unsound}
-use Rattle.mig_rounds.specs.Sends.{first_pfn, or_first, place}
+use Rattle.mig_dirtysave_rounds.specs.Forms.{superpage_in, superpage_slot, lost_in, lost_slot, is_lost}
+use Rattle.mig_dirtysave_rounds.specs.Live.{table_fault, tables_unsound}
+use Rattle.mig_dirtysave_rounds.specs.Sends.{first_pfn, or_first, place}
 use Rattle.mig_host_laws.specs.FirstRow.{find_said}
 use Rattle.mig_host_laws.specs.Standing.{said_in, said_of, says_in}
 use Rattle.mig_pause.specs.Paused.{first_in_tables}

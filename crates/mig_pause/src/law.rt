@@ -4,7 +4,7 @@ ghost use Rattle.mig_headers.specs.declared.kind.Kind.TheVariants.{Pv};
 ghost use Rattle.mig_guest.specs.Guests.{GuestOf};
 ghost use Rattle.mig_guest.specs.Hosts.{HostOf};
 ghost use Rattle.mig_host_view.specs.View.{view};
-ghost use Rattle.mig_rounds.specs.Live.{tables_unsound};
+ghost use Rattle.mig_dirtysave_rounds.specs.Live.{tables_unsound};
 ghost use Rattle.mig_pause.specs.Paused.{HoldsOf, first_in_tables, with_view};
 
 /// The parts of some codes, contexts of vCPUs among them, are held of a host; and the guest that holds them gets the parts of

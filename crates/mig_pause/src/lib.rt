@@ -2,7 +2,7 @@
 //!
 //! Responsible for: judging the host of a paused machine by the types that were seen last, row by row, and putting PFNs
 //! into the contexts of its vCPUs on the way, since the machine frame of a field is looked up but once. No memory is taken.
-//! Left to others: the tables, which the rounds have judged (mig_rounds); pausing the machine, copying its parts, and what is
+//! Left to others: the tables, which the rounds have judged (mig_dirtysave_rounds); pausing the machine, copying its parts, and what is
 //! written of them (the saver).
 //!
 //! What the layers above rely on: over a machine whose host has the types that were seen, what is answered is the host's

@@ -9,8 +9,8 @@ use Rattle.mig_guest.specs.Hosts.{HostOf, HostFrame, IsValid}
 use Rattle.mig_pvtables.proofs.EachValue.{same_each}
 use Rattle.mig_host_view.specs.View.{hvm_view, without_machine}
 use Rattle.mig_guest.specs.Footprints.{footprint_of, names_in, table_in}
-use Rattle.mig_rounds.specs.Forms.{form_page, form_of_print}
-use Rattle.mig_rounds.specs.Live.{forms}
+use Rattle.mig_dirtysave_rounds.specs.Forms.{form_page, form_of_print}
+use Rattle.mig_dirtysave_rounds.specs.Live.{forms}
 use Rattle.mig_saved.proofs.Told.{no_level}
 
 module _ (h : HostOf) (valid : IsValid h) (hvm : h.kind ≡ Hvm) where

@@ -33,8 +33,8 @@ use Rattle.mig_host_view.specs.View.{view, guest_in, top_of, without_machine}
 use Rattle.mig_host_view.proofs.ViewedGuests.{viewed_whole, viewed_blank}
 use Rattle.mig_libxl.proofs.Canon.{pv_plain}
 use Rattle.mig_guest.specs.Footprints.{footprint_of}
-use Rattle.mig_rounds.specs.Forms.{form_of_print}
-use Rattle.mig_rounds.specs.Live.{forms}
+use Rattle.mig_dirtysave_rounds.specs.Forms.{form_of_print}
+use Rattle.mig_dirtysave_rounds.specs.Live.{forms}
 use Rattle.mig_saved.proofs.Tables.{same_page}
 
 module _ (h : HostOf) where

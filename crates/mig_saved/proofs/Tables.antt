@@ -15,7 +15,7 @@ use Rattle.mig_pvtables.proofs.Renamed.{renamed_long, by_frames}
 use Rattle.mig_pvtables.proofs.RenameSteps.{blanked_zero, blanked_stays}
 use Rattle.mig_host_view.specs.Localised.{renamed_page}
 use Rattle.mig_guest.specs.Footprints.{names_in, named_by, table_in}
-use Rattle.mig_rounds.specs.Forms.{form_page}
+use Rattle.mig_dirtysave_rounds.specs.Forms.{form_page}
 
 -- ---- one number of a table, of which the low 8 bytes are written
 

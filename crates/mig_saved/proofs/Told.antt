@@ -23,9 +23,9 @@ use Rattle.mig_restore_form.specs.Mean.{meant_type, put_entry, put_entries}
 use Rattle.mig_canon.specs.Batched.{IsSendable, IsSendableBatch, told, frames_told}
 use Rattle.mig_records_pages.specs.Told.{FrameTold, frame_or_xtab, telling_frame, telling_frames, all_told}
 use Rattle.mig_records_pages.specs.Batches.{AreSized}
-use Rattle.mig_rounds.specs.Findings.{IsToldFrame}
-use Rattle.mig_rounds.specs.Entries.{IsToldEntry, AreTold, put_at, put_told, meant}
-use Rattle.mig_rounds.proofs.Steps.{got}
+use Rattle.mig_dirtysave_rounds.specs.Findings.{IsToldFrame}
+use Rattle.mig_dirtysave_rounds.specs.Entries.{IsToldEntry, AreTold, put_at, put_told, meant}
+use Rattle.mig_dirtysave_rounds.proofs.Steps.{got}
 
 -- ---- a type of a host's frame
 

@@ -23,8 +23,8 @@ use Rattle.mig_libxl.specs.Canon.{bare_guest}
 use Rattle.mig_libxl.proofs.Canon.{bare_is, bare_plain, bare_whole, batched_bare}
 use Rattle.mig_records_pages.specs.Told.{FrameTold, telling_frames, all_told}
 use Rattle.mig_records_pages.specs.Batches.{AreSized}
-use Rattle.mig_rounds.specs.Entries.{AreTold, meant}
-use Rattle.mig_rounds.specs.Live.{forms}
+use Rattle.mig_dirtysave_rounds.specs.Entries.{AreTold, meant}
+use Rattle.mig_dirtysave_rounds.specs.Live.{forms}
 use Rattle.mig_saved.proofs.Told.{batches_sendable, told_is_meant, left_is_formed}
 use Rattle.mig_saved.proofs.Reframed.{batched_alike}
 use Rattle.mig_saved.proofs.HvmHosts.{forms_are}

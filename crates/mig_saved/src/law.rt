@@ -7,8 +7,8 @@ ghost use Rattle.mig_libxl.specs.Canon.{bare_guest};
 ghost use Rattle.mig_canon.specs.Batched.{batched};
 ghost use Rattle.mig_records_pages.specs.Told.{FrameTold, telling_frames, all_told};
 ghost use Rattle.mig_records_pages.specs.Batches.{AreSized};
-ghost use Rattle.mig_rounds.specs.Entries.{meant, AreTold};
-ghost use Rattle.mig_rounds.specs.Live.{forms};
+ghost use Rattle.mig_dirtysave_rounds.specs.Entries.{meant, AreTold};
+ghost use Rattle.mig_dirtysave_rounds.specs.Live.{forms};
 
 /// Where the entries that a saver sent mean the frames of a valid and sound host, the canonical image of the host's view with
 /// the saver's records in place of the frames' own is accepted, whatever follows it, and its guest is the view without the

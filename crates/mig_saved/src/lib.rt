@@ -2,7 +2,7 @@
 //!
 //! Responsible for: that the records of frames which a saver sent, between the other records of a canonical image, make an
 //! image that is accepted, and that its guest is what the host is seen as. It has no code of its own. Left to others: the
-//! saver and what it sends (mig_rounds), what a host is seen as (mig_host_view), that frames may come in any records
+//! saver and what it sends (mig_dirtysave_rounds), what a host is seen as (mig_host_view), that frames may come in any records
 //! (mig_canon), and who writes the records around the frames.
 //!
 //! What the layers above rely on: where the host is valid and sound, and the entries sent mean its frames, the records sent,

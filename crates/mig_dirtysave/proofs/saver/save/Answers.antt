@@ -1,6 +1,6 @@
 use Rattle.std.proofs.Common.{◌≡◌, ℕ, arith, true, Some, inl, refl, sym, ap, subst, ◌∙◌}
 use Rattle.mig_host_view.specs.Sound.{unsoundness}
-use Rattle.mig_rounds.specs.Parts.{total}
+use Rattle.mig_dirtysave_rounds.specs.Parts.{total}
 use Rattle.mig_guest.specs.Hosts.{HostOf}
 use Rattle.std.specs.Io.KnownBytes.{Appends}
 use Rattle.mig_libxl.proofs.Alike.{closing_alike}

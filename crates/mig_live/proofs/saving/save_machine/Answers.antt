@@ -7,7 +7,7 @@ use Rattle.mig_dirtysave.specs.SaveAnswers.{IsTrusted}
 use Rattle.mig_dirtysave.specs.declared.answer.SaveReport.{SaveReport}
 use Rattle.mig_dirtysave.specs.declared.answer.SaveAnswer.{SaveAnswer}
 use Rattle.mig_report.specs.declared.outcome.Outcome.TheVariants as outcomes
-use Rattle.mig_rounds.specs.Live.{HasRounds, StaysSame}
+use Rattle.mig_dirtysave_rounds.specs.Live.{HasRounds, StaysSame}
 use Rattle.mig_live.specs.SaveSteps.{ComesToNone}
 use Rattle.mig_live.proofs.SaveOutcomes.{unwritten}
 use Rattle.mig_live.proofs.Lives.{wrote_live, wrote_live_to, honest, tight_of, never_fails, PausesSo, pauses_so, at_end, ends, had_memory, no_write}

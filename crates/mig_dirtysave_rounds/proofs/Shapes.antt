@@ -1,0 +1,24 @@
+-- What stays the same of a machine, from call to call.
+use Rattle.std.proofs.Common.{◌∙◌, ℕ}
+use Rattle.mig_guest.specs.Hosts.{HostOf}
+use Rattle.mig_guest.specs.Pfns.{Pfns}
+use Rattle.mig_guest.specs.MachineStates.{MachineState, IsSameShape, Ran}
+use Rattle.mig_dirtysave_rounds.specs.Sends.{ReadsFront}
+use Rattle.mig_dirtysave_rounds.specs.Live.{StaysSame}
+
+shape_on : (g h k : HostOf) → IsSameShape g h → IsSameShape h k → IsSameShape g k
+shape_on g h k a b = record {
+  kind = b.kind ∙ a.kind;
+  width = b.width ∙ a.width;
+  lengths = λ key. b.lengths key ∙ a.lengths key;
+  fixed = λ key is. b.fixed key is ∙ a.fixed key is;
+}
+
+pub stays_on : (s t u : MachineState) → StaysSame s t → StaysSame t u → StaysSame s u
+stays_on s t u a b = record { shape = shape_on s.host t.host u.host a.shape b.shape; honest = b.honest ∙ a.honest }
+
+pub ran_stays : (s t : MachineState) (log : Pfns) → Ran s t log → StaysSame s t
+ran_stays s t log ran = record { shape = ran.shape; honest = ran.honest }
+
+pub reads_stay : (i : ℕ) (set : Pfns) (s t : MachineState) → ReadsFront i set s t → StaysSame s t
+reads_stay i set s t reads = record { shape = reads.shape; honest = reads.honest }

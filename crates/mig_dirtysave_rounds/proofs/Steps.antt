@@ -1,0 +1,310 @@
+-- What one more number does to the saver's invariant, and to a round.
+use Rattle.std.proofs.Common.{arith, ◌≡◌, ℕ, suc, ◌+◌, ◌*◌, ◌^◌, ◌≤◌, ◌<◌, List, [], ◌∷◌, ◌++◌, length, map, Bool, true, false, cond, Option, Some, None, Result, Ok, Err, refl, sym, ap, subst, ◌∙◌, inl, inr, ⊎_elim, length-append, append_assoc, append-nil}
+use Rattle.std.specs.Prelude.{◌||◌, ◌==◌, ◌⊎◌, OnErr}
+use Rattle.std.specs.Cmp.{nat_cmp_total, unsigned_tied}
+use Rattle.std.specs.FinMap as fin
+use Rattle.std.proofs.lemmas.Bool.{eqb-true}
+use Rattle.std.proofs.lemmas.Bool.Decides.{nat_tests}
+use Rattle.std.proofs.lemmas.List.{map-append, length-map}
+use Rattle.std.proofs.lemmas.List.Sums.{fold-append}
+use Rattle.mig_headers.specs.declared.kind.Kind.{Kind}
+use Rattle.mig_headers.specs.declared.kind.Kind.TheVariants.{Pv, Hvm}
+use Rattle.mig_guest.specs.Frames.{FrameOf, FrameMap}
+use Rattle.mig_guest.specs.Hosts.{HostOf, HostFrames}
+use Rattle.mig_guest.specs.Pfns.{Pfns, no_pfns, members, size, with_pfn}
+use Rattle.mig_guest.specs.Footprints.{Footprint, footprint}
+use Rattle.mig_guest.specs.History.{History, Since, nothing_asked}
+use Rattle.mig_guest.specs.MachineStates.{MachineState, Ran}
+use Rattle.mig_dirtysave_rounds.specs.Forms.{table_of, superpage_in, lost_in, form_of_print, type_of_print}
+use Rattle.mig_dirtysave_rounds.specs.declared.found.Found.{Found}
+use Rattle.mig_dirtysave_rounds.specs.declared.found.Found.TheVariants as found
+use Rattle.mig_dirtysave_rounds.specs.declared.found.Worst.{Worst}
+use Rattle.mig_dirtysave_rounds.specs.Findings.{Finding, judge, judged, found_as, frame_sent, is_deferred, type_found, CanBeTold}
+use Rattle.mig_dirtysave_rounds.specs.Step.{ReadsOne, Strays, most_calls}
+use Rattle.mig_dirtysave_rounds.specs.Parts.{rest, total, total_taken}
+use Rattle.mig_dirtysave_rounds.specs.Entries.{entry_for, put_at, put_told, meant, AreTold, IsToldEntry}
+use Rattle.mig_records_pages.specs.Batches.{IsBehind, FallsBehind}
+use Rattle.mig_records_pages.specs.Told.{FrameTold}
+use Rattle.mig_dirtysave_rounds.specs.Current.{Notes, Current, noted}
+use Rattle.mig_records_pages.proofs.Joins.{behind_anyway}
+use Rattle.mig_dirtysave_rounds.specs.Sends.{ReadsFront, SendsFront, IsWorst, first_pfn, or_first, within_set, place, found_super, found_lost, super_of, lost_of}
+use Rattle.mig_dirtysave_rounds.proofs.Parts.{nothing_before, front_more, front_skip, not_itself, rest_more, rest_skip, rest_all, skip_to}
+use Rattle.mig_guest.proofs.Sizes.{size-le, size_more, size_stays, members_yes, members_no}
+use Rattle.mig_dirtysave_rounds.proofs.Sizes.{size_front, one_more_at_most}
+
+-- ---- what a list of entries means
+
+pub got : (m : FrameMap) (p : ℕ) (f : Option FrameOf) (q : ℕ) → fin.get (put_at m p f) q ≡ cond (q == p) f (fin.get m q)
+got m p None q = fin.get-remove nat_cmp_total m p q ∙ ap (λ b. cond b None (fin.get m q)) (unsigned_tied q p)
+got m p (Some f) q = fin.get-insert nat_cmp_total m p f q ∙ ap (λ b. cond b (Some f) (fin.get m q)) (unsigned_tied q p)
+
+meant_more : (es : List FrameTold) (p : ℕ) (f : Option FrameOf) (q : ℕ) → fin.get (meant (es ++ record { pfn = p; frame = f } ∷ [])) q ≡ cond (q == p) f (fin.get (meant es) q)
+meant_more es p f q = ap (λ m. fin.get m q) (fold-append put_told fin.empty es (record { pfn = p; frame = f } ∷ [])) ∙ got (meant es) p f q
+
+-- ---- the invariant
+
+-- what isn't in the new log wasn't in the old one, and is as it was
+pub record Quiet (log newer : Pfns) (frames after : HostFrames) : Type 0 where
+  pub grown : (q : ℕ) → newer q ≡ false → log q ≡ false
+  pub same : (q : ℕ) → newer q ≡ false → footprint after q ≡ footprint frames q
+
+pub quiet : (s t : MachineState) (log : Pfns) → Ran s t log → s.honest ≡ true → Quiet s.log log s.host.frames t.host.frames
+quiet s t log r h = record { grown = r.grown; same = r.quiet h }
+
+pub still : (s t : MachineState) → t.host ≡ s.host → Quiet no_pfns no_pfns s.host.frames t.host.frames
+still s t e = record { grown = λ q n. n; same = λ q n. ap (λ (h : HostOf). footprint h.frames q) e }
+
+-- a finding tells the type that the footprint has
+judged_type : (a b : Option ℕ) (f : FrameOf) → type_found (judge a b f) ≡ Some f.type
+judged_type (Some slot) b f = refl
+judged_type None (Some slot) f = refl
+judged_type None None f = refl
+
+pub type_right : (o : Option Footprint) → type_found (judged o) ≡ type_of_print o
+type_right None = refl
+type_right (Some f) = judged_type (superpage_in (table_of f)) (lost_in (table_of f) f.names) (form_of_print f)
+
+module _ (unread fewer log newer : Pfns) (notes : Notes) (frames after : HostFrames) (es : List FrameTold) (p : ℕ) (j : Finding) (read : (q : ℕ) → fewer q ≡ false → (q ≡ p) ⊎ (unread q ≡ false))
+    (quiet : Quiet log newer frames after) (right : newer p ≡ false → j ≡ judged (footprint after p)) (c : Current unread log frames es notes) where
+  seen : (q : ℕ) → fewer q ≡ false → (q == p) ≡ false → unread q ≡ false
+  seen q done e = ⊎_elim (λ (is : q ≡ p). absurd (differ is)) (λ (r : unread q ≡ false). r) (read q done)
+    where
+      differ : q ≡ p → ⊥
+      differ is = grind (arith, nat_tests)
+
+  same_at : (q : ℕ) → fewer q ≡ false → newer q ≡ false → (b : Bool) → (q == p) ≡ b → fin.get (meant (es ++ entry_for p j ∷ [])) q ≡ frame_sent (judged (footprint after q))
+  same_at q done calm true e =
+      let is : q ≡ p = eqb-true q p e in
+      meant_more es p (frame_sent j) q ∙ ap (λ b. cond b (frame_sent j) (fin.get (meant es) q)) e ∙ ap frame_sent (right (subst (λ n. newer n ≡ false) is calm))
+      ∙ ap (λ n. frame_sent (judged (footprint after n))) (sym is)
+  same_at q done calm false e =
+      meant_more es p (frame_sent j) q ∙ ap (λ b. cond b (frame_sent j) (fin.get (meant es) q)) e ∙ c.same q (seen q done e) (quiet.grown q calm)
+      ∙ ap (λ f. frame_sent (judged f)) (sym (quiet.same q calm))
+
+  kept_at : (q : ℕ) → fewer q ≡ false → newer q ≡ false → (b : Bool) → (q == p) ≡ b → (noted p j notes).deferred q ≡ is_deferred (judged (footprint after q))
+  kept_at q done calm true e =
+      let is : q ≡ p = eqb-true q p e in
+      ap (λ b. cond b (is_deferred j) (notes.deferred q)) e ∙ ap is_deferred (right (subst (λ n. newer n ≡ false) is calm)) ∙ ap (λ n. is_deferred (judged (footprint after n))) (sym is)
+  kept_at q done calm false e =
+      ap (λ b. cond b (is_deferred j) (notes.deferred q)) e ∙ c.kept q (seen q done e) (quiet.grown q calm) ∙ ap (λ f. is_deferred (judged f)) (sym (quiet.same q calm))
+
+  type_at : (q : ℕ) → fewer q ≡ false → newer q ≡ false → (b : Bool) → (q == p) ≡ b → (noted p j notes).types q ≡ type_of_print (footprint after q)
+  type_at q done calm true e =
+      let is : q ≡ p = eqb-true q p e in
+      ap (λ b. cond b (type_found j) (notes.types q)) e ∙ ap type_found (right (subst (λ n. newer n ≡ false) is calm)) ∙ type_right (footprint after p)
+      ∙ ap (λ n. type_of_print (footprint after n)) (sym is)
+  type_at q done calm false e = ap (λ b. cond b (type_found j) (notes.types q)) e ∙ c.types q (seen q done e) (quiet.grown q calm) ∙ ap type_of_print (sym (quiet.same q calm))
+
+  pub current_more : Current fewer newer after (es ++ entry_for p j ∷ []) (noted p j notes)
+  current_more = record {
+    same = λ q done calm. same_at q done calm (q == p) refl;
+    kept = λ q done calm. kept_at q done calm (q == p) refl;
+    types = λ q done calm. type_at q done calm (q == p) refl;
+  }
+
+-- nothing was sent
+pub current_on : (unread more log newer : Pfns) (notes : Notes) (frames after : HostFrames) (es : List FrameTold)
+    → ((q : ℕ) → more q ≡ false → newer q ≡ false → (unread q ≡ false) × (log q ≡ false) × (footprint after q ≡ footprint frames q))
+    → Current unread log frames es notes → Current more newer after es notes
+current_on unread more log newer notes frames after es on c = record {
+  same = λ q r l. let (a, b, e) = on q r l in c.same q a b ∙ ap (λ f. frame_sent (judged f)) (sym e);
+  kept = λ q r l. let (a, b, e) = on q r l in c.kept q a b ∙ ap (λ f. is_deferred (judged f)) (sym e);
+  types = λ q r l. let (a, b, e) = on q r l in c.types q a b ∙ ap type_of_print (sym e);
+}
+
+-- ---- the first tables that can't be sent
+
+super_found : (f : Found) (page : List ℕ) → found_super f ≡ super_of (found_as f page)
+super_found found.Gone page = refl
+super_found (found.Shows kind) page = refl
+super_found (found.Superpage kind slot) page = refl
+super_found (found.NoFrame kind slot) page = refl
+
+lost_found : (f : Found) (page : List ℕ) → found_lost f ≡ lost_of (found_as f page)
+lost_found found.Gone page = refl
+lost_found (found.Shows kind) page = refl
+lost_found (found.Superpage kind slot) page = refl
+lost_found (found.NoFrame kind slot) page = refl
+
+first_more : (f : ℕ → Option ℕ) (n : ℕ) → first_pfn f (n + 1) ≡ or_first (first_pfn f n) (place n (f n))
+unfolding first_pfn
+first_more f n = ap (first_pfn f) (let e : n + 1 ≡ suc n = omega arith in e)
+
+or_none : {A : Type 0} (x : Option A) → x ≡ or_first x None
+or_none None = refl
+or_none (Some a) = refl
+
+pub worst_none : (set : Pfns) (frames : HostFrames) → IsWorst 0 set frames (record { superpage = None; lost = None })
+unfolding first_pfn
+worst_none set frames = record { superpage = refl; lost = refl }
+
+pub worst_skips : (i : ℕ) (set : Pfns) (frames : HostFrames) (w : Worst) → set i ≡ false → IsWorst i set frames w → IsWorst (i + 1) set frames w
+worst_skips i set frames w outside h = record {
+  superpage = step (λ q. super_of (judged (footprint frames q))) w.superpage h.superpage;
+  lost = step (λ q. lost_of (judged (footprint frames q))) w.lost h.lost;
+}
+  where
+    step : (f : ℕ → Option ℕ) (x : Option (ℕ × ℕ)) → x ≡ first_pfn (within_set set f) i → x ≡ first_pfn (within_set set f) (i + 1)
+    step f x is = or_none x ∙ ap (λ y. or_first y None) is ∙ ap (λ b. or_first (first_pfn (within_set set f) i) (place i (cond b (f i) None))) (sym outside) ∙ sym (first_more (within_set set f) i)
+
+pub worst_sends : (i : ℕ) (set : Pfns) (frames : HostFrames) (w v : Worst) (f : Found) (page : List ℕ) → set i ≡ true → found_as f page ≡ judged (footprint frames i)
+    → v.superpage ≡ or_first w.superpage (place i (found_super f)) → v.lost ≡ or_first w.lost (place i (found_lost f)) → IsWorst i set frames w → IsWorst (i + 1) set frames v
+worst_sends i set frames w v f page inside right super lost h = record {
+  superpage = super ∙ step (λ q. super_of (judged (footprint frames q))) w.superpage (found_super f) h.superpage (super_found f page ∙ ap super_of right);
+  lost = lost ∙ step (λ q. lost_of (judged (footprint frames q))) w.lost (found_lost f) h.lost (lost_found f page ∙ ap lost_of right);
+}
+  where
+    step : (g : ℕ → Option ℕ) (x : Option (ℕ × ℕ)) (y : Option ℕ) → x ≡ first_pfn (within_set set g) i → y ≡ g i → or_first x (place i y) ≡ first_pfn (within_set set g) (i + 1)
+    step g x y is at =
+        ap (λ z. or_first z (place i y)) is ∙ ap (λ z. or_first (first_pfn (within_set set g) i) (place i z)) at
+        ∙ ap (λ b. or_first (first_pfn (within_set set g) i) (place i (cond b (g i) None))) (sym inside) ∙ sym (first_more (within_set set g) i)
+
+-- ---- a round: what was read
+
+pub reads_start : (set : Pfns) (s : MachineState) → s.history.since ≡ nothing_asked → ReadsFront 0 set s s
+reads_start set s fresh = record {
+  shape = record { kind = refl; width = refl; lengths = λ key. refl; fixed = λ key is. refl };
+  honest = refl;
+  paused = refl;
+  stopped = λ h. refl;
+  taken = refl;
+  count = refl;
+  read = ap (λ (a : Since). a.read) fresh ∙ nothing_before set;
+  once = ap (λ (a : Since). a.twice) fresh;
+  least = omega (arith, ap (λ (a : Since). a.calls) fresh);
+  most = omega (arith, ap (λ (a : Since). a.calls) fresh);
+}
+
+pub reads_skip : (set : Pfns) (i : ℕ) (s t : MachineState) → set i ≡ false → ReadsFront i set s t → ReadsFront (i + 1) set s t
+reads_skip set i s t outside f = record {
+  shape = f.shape;
+  honest = f.honest;
+  paused = f.paused;
+  stopped = f.stopped;
+  taken = f.taken;
+  count = f.count;
+  read = f.read ∙ front_skip set i outside;
+  once = f.once;
+  least = omega (arith, f.least, size_stays set i outside);
+  most = subst (λ n. t.history.since.calls ≤ most_calls s.host.kind * n) (sym (size_stays set i outside)) f.most;
+}
+
+few_calls : (kind : Kind) (n : ℕ) → n ≤ 2 ^ 28 → most_calls kind * n ≤ 513 * 2 ^ 28
+few_calls Pv n le = omega arith
+few_calls Hvm n le = omega arith
+
+pub reads_more : (set : Pfns) (i : ℕ) (s t u : MachineState) (j : Finding) → set i ≡ true → i < 2 ^ 28 → ReadsFront i set s t → ReadsOne i t u j → ReadsFront (i + 1) set s u
+reads_more set i s t u j inside small f one = record {
+  shape = record {
+    kind = one.ran.shape.kind ∙ f.shape.kind;
+    width = one.ran.shape.width ∙ f.shape.width;
+    lengths = λ key. one.ran.shape.lengths key ∙ f.shape.lengths key;
+    fixed = λ key is. one.ran.shape.fixed key is ∙ f.shape.fixed key is;
+  };
+  honest = one.ran.honest ∙ f.honest;
+  paused = one.paused ∙ f.paused;
+  stopped = λ h. one.ran.stopped (f.paused ∙ h) ∙ f.stopped h;
+  taken = one.asks.taken ∙ f.taken;
+  count = one.asks.live ∙ f.count;
+  read = one.asks.read ∙ ap (with_pfn i) f.read ∙ front_more set i inside;
+  once = one.asks.twice ∙ ap (λ b. b || t.history.since.read i) f.once ∙ ap (λ (r : Pfns). r i) f.read ∙ not_itself set i;
+  least = omega (arith, size_more set i inside, f.least, one.asks.least, calls_small);
+  most = subst (λ n. u.history.since.calls ≤ n) product (let up : u.history.since.calls ≤ most_calls s.host.kind * size i set + most_calls s.host.kind = omega (arith, f.most, one.asks.most, ap most_calls f.shape.kind) in up);
+}
+  where
+    calls_small : t.history.since.calls ≤ 513 * 2 ^ 28
+    calls_small = omega (arith, f.most, few_calls s.host.kind (size i set) (omega (arith, size-le set i)))
+
+    product : most_calls s.host.kind * size i set + most_calls s.host.kind ≡ most_calls s.host.kind * size (i + 1) set
+    product = sym (ap (λ n. most_calls s.host.kind * n) (size_more set i inside) ∙ spread (most_calls s.host.kind) (size i set))
+      where
+        spread : (m n : ℕ) → m * (n + 1) ≡ m * n + m
+        spread m n = omega arith
+
+-- ---- and what was sent
+
+one_told : (kind : Kind) (width : ℕ) (es : List FrameTold) (e : FrameTold) → AreTold kind width es → IsToldEntry kind width e → AreTold kind width (es ++ e ∷ [])
+one_told kind width [] e all one = (one, tt)
+one_told kind width (x ∷ es) e all one = (all.0, one_told kind width es e all.1 one)
+
+-- of the same kind and width
+pub told_alike : (es : List FrameTold) {kind other : Kind} {width same : ℕ} → kind ≡ other → width ≡ same → AreTold kind width es → AreTold other same es
+told_alike es k w h = subst (λ (p : Kind × ℕ). AreTold p.0 p.1 es) (λ i. (k i, w i)) h
+
+pub sends_start : (set : Pfns) (s : MachineState) (es : List FrameTold) (notes : Notes) → SendsFront 0 set s s es es notes notes
+sends_start set s es notes = record {
+  told = λ h. h;
+  names = sym (append-nil (map (λ (e : FrameTold). e.pfn) es));
+  live = λ h c. current_on set (rest 0 set) s.log s.log notes s.host.frames s.host.frames es (λ q r l. (sym (rest_all set q) ∙ r, l, refl)) c;
+  still = λ h c. current_on set (rest 0 set) no_pfns no_pfns notes s.host.frames s.host.frames es (λ q r l. (sym (rest_all set q) ∙ r, l, refl)) c;
+}
+
+pub sends_skip : (set : Pfns) (i : ℕ) (s t : MachineState) (before mid : List FrameTold) (notes now : Notes) → set i ≡ false → SendsFront i set s t before mid notes now → SendsFront (i + 1) set s t before mid notes now
+sends_skip set i s t before mid notes now outside f = record {
+  told = f.told;
+  names = f.names ∙ ap (λ l. map (λ (e : FrameTold). e.pfn) before ++ l) (sym (members_no set i outside));
+  live = λ h c. current_on (rest i set) (rest (i + 1) set) t.log t.log now t.host.frames t.host.frames mid (λ q r l. (rest_skip set i q outside r, l, refl)) (f.live h c);
+  still = λ h c. current_on (rest i set) (rest (i + 1) set) no_pfns no_pfns now t.host.frames t.host.frames mid (λ q r l. (rest_skip set i q outside r, l, refl)) (f.still h c);
+}
+
+pub sends_more : (set : Pfns) (i : ℕ) (s t u : MachineState) (before mid : List FrameTold) (notes now new : Notes) (j : Finding) → set i ≡ true → i < s.host.width → ReadsFront i set s t → SendsFront i set s t before mid notes now
+    → ReadsOne i t u j → new ≡ noted i j now → SendsFront (i + 1) set s u before (mid ++ entry_for i j ∷ []) notes new
+sends_more set i s t u before mid notes now new j inside below r f one is = record {
+  told = λ h. one_told s.host.kind s.host.width mid (entry_for i j) (f.told h)
+      (record { inside = below; frame = subst (λ (p : Kind × ℕ). CanBeTold p.0 p.1 (frame_sent j)) (λ i. (r.shape.kind i, r.shape.width i)) one.told });
+  names = map-append (λ (e : FrameTold). e.pfn) mid (entry_for i j ∷ []) ∙ ap (λ l. l ++ i ∷ []) f.names
+      ∙ append_assoc (map (λ (e : FrameTold). e.pfn) before) (members i set) (i ∷ []) ∙ ap (λ l. map (λ (e : FrameTold). e.pfn) before ++ l) (sym (members_yes set i inside));
+  live = λ h c. subst (Current (rest (i + 1) set) u.log u.host.frames (mid ++ entry_for i j ∷ [])) (sym is)
+      (current_more (rest i set) (rest (i + 1) set) t.log u.log now t.host.frames u.host.frames mid i j (λ q. rest_more set i q) (quiet t u u.log one.ran (r.honest ∙ h))
+      (λ calm. one.right (inl (one.ran.honest ∙ r.honest ∙ h, calm))) (f.live h c));
+  still = λ p c. subst (Current (rest (i + 1) set) no_pfns u.host.frames (mid ++ entry_for i j ∷ [])) (sym is)
+      (current_more (rest i set) (rest (i + 1) set) no_pfns no_pfns now t.host.frames u.host.frames mid i j (λ q. rest_more set i q) (still t u (one.ran.stopped (r.paused ∙ p)))
+      (λ calm. one.right (inr (one.paused ∙ r.paused ∙ p))) (f.still p c));
+}
+
+-- ---- how much isn't written
+
+sent_length : (i : ℕ) (set : Pfns) (s t : MachineState) (before mid : List FrameTold) (notes now : Notes) → SendsFront i set s t before mid notes now → length mid ≡ length before + size i set
+sent_length i set s t before mid notes now f =
+    sym (length-map mid (λ (e : FrameTold). e.pfn)) ∙ ap length f.names ∙ length-append (map (λ (e : FrameTold). e.pfn) before) (members i set) ∙ ap (λ n. n + size i set) (length-map before (λ (e : FrameTold). e.pfn))
+
+pub total_even : (i width : ℕ) (set : Pfns) (s t : MachineState) (before mid : List FrameTold) (notes now : Notes) → i ≤ width → ReadsFront i set s t → SendsFront i set s t before mid notes now
+    → length before ≡ total_taken width s.history.taken → total width t.history ≡ length mid
+total_even i width set s t before mid notes now le r f even =
+    omega (arith, ap (total_taken width) r.taken, ap (λ (x : Pfns). size width x) r.read, size_front set i width le, sent_length i set s t before mid notes now f)
+
+-- one number more was read, perhaps, than what was sent
+pub total_strays : (i width : ℕ) (set : Pfns) (s t : MachineState) (k : History) (before mid : List FrameTold) (notes now : Notes) → i ≤ width → ReadsFront i set s t → SendsFront i set s t before mid notes now
+    → length before ≡ total_taken width s.history.taken → (p : ℕ) → Strays p t.history k → total width k ≤ length mid + 1
+total_strays i width set s t k before mid notes now le r f even p strays =
+    omega (arith, total_even i width set s t before mid notes now le r f even, ap (total_taken width) strays.taken, one_more_at_most t.history.since.read k.since.read p strays.read width)
+
+pub worst_step : (i : ℕ) (set : Pfns) (s t u : MachineState) (w v : Worst) (f : Found) (page : List ℕ) → s.paused ≡ true → set i ≡ true → ReadsFront i set s t → ReadsOne i t u (found_as f page)
+    → v.superpage ≡ or_first w.superpage (place i (found_super f)) → v.lost ≡ or_first w.lost (place i (found_lost f)) → IsWorst i set t.host.frames w → IsWorst (i + 1) set u.host.frames v
+worst_step i set s t u w v f page p inside r one super lost h =
+    worst_sends i set u.host.frames w v f page inside (one.right (inr (one.paused ∙ r.paused ∙ p))) super lost
+    (subst (λ (x : HostOf). IsWorst i set x.frames w) (sym (one.ran.stopped (r.paused ∙ p))) h)
+
+-- fewer entries are no further behind
+pub behind_less : (start now : Option (List ℕ)) (n m : ℕ) → m ≤ n → IsBehind start now n → IsBehind start now m
+behind_less start now n m le b = record { batches = b.batches; cut = b.cut; few = omega (arith, b.few) }
+
+-- one entry more, which isn't sent yet
+pub behind_anyhow : (now : Option (List ℕ)) (held : List FrameTold) → length held < 1024 → FallsBehind 1 now now held
+behind_anyhow now held few = λ start flushes sent s. behind_anyway start now flushes held sent few s
+
+pub on_err : {T E P : Type 0} (r : Result T E) → P → OnErr r P
+on_err (Ok x) h = tt
+on_err (Err e) h = h
+
+-- ---- past numbers that aren't in the set
+
+pub reads_jump : (set : Pfns) (i j : ℕ) (s t : MachineState) → i ≤ j → ((q : ℕ) → i ≤ q → q < j → set q ≡ false) → ReadsFront i set s t → ReadsFront j set s t
+reads_jump set i j s t le out f = skip_to (λ k. ReadsFront k set s t) set (λ k outside h. reads_skip set k s t outside h) i j le out f
+
+pub sends_jump : (set : Pfns) (i j : ℕ) (s t : MachineState) (before mid : List FrameTold) (notes now : Notes) → i ≤ j → ((q : ℕ) → i ≤ q → q < j → set q ≡ false) → SendsFront i set s t before mid notes now
+    → SendsFront j set s t before mid notes now
+sends_jump set i j s t before mid notes now le out f = skip_to (λ k. SendsFront k set s t before mid notes now) set (λ k outside h. sends_skip set k s t before mid notes now outside h) i j le out f
+
+pub worst_jump : (set : Pfns) (i j : ℕ) (frames : HostFrames) (w : Worst) → i ≤ j → ((q : ℕ) → i ≤ q → q < j → set q ≡ false) → IsWorst i set frames w → IsWorst j set frames w
+worst_jump set i j frames w le out h = skip_to (λ k. IsWorst k set frames w) set (λ k outside x. worst_skips k set frames w outside x) i j le out h

@@ -1,0 +1,36 @@
+-- What entries that are sent say, and what a list of them means.
+use Rattle.std.specs.Prelude.{◌<◌, ℕ, List, Option, Some, None, fold, map}
+use Rattle.std.specs.List.{AllByRecursion}
+use Rattle.std.specs.FinMap as maps
+use Rattle.mig_headers.specs.declared.kind.Kind.{Kind}
+use Rattle.mig_guest.specs.Frames.{FrameOf, FrameMap}
+use Rattle.mig_records_pages.specs.Told.{FrameTold}
+use Rattle.mig_dirtysave_rounds.specs.Findings.{Finding, frame_sent, CanBeTold}
+
+-- the entry of a PFN at which this was found
+abbrev pub entry_for : ℕ → Finding → FrameTold
+entry_for p found = record { pfn = p; frame = frame_sent found }
+
+-- an entry that a stream of this kind, with so many PFNs, can have
+pub record IsToldEntry (kind : Kind) (width : ℕ) (t : FrameTold) : Type 0 where
+  pub inside : t.pfn < width
+  pub frame : CanBeTold kind width t.frame
+
+abbrev pub AreTold : Kind → ℕ → List FrameTold → Type 0
+AreTold kind width ts = AllByRecursion (IsToldEntry kind width) ts
+
+-- the frames with this one at p, or with none there
+abbrev pub put_at : FrameMap → ℕ → Option FrameOf → FrameMap
+put_at frames p None = maps.remove frames p
+put_at frames p (Some frame) = maps.insert frames p frame
+
+abbrev pub put_told : FrameMap → FrameTold → FrameMap
+put_told frames t = put_at frames t.pfn t.frame
+
+-- the frames that entries leave, taken in order: of each PFN the last entry decides
+abbrev pub meant : List FrameTold → FrameMap
+meant ts = fold put_told maps.empty ts
+
+-- the PFNs that entries name, in order
+abbrev pub pfns_sent : List FrameTold → List ℕ
+pfns_sent ts = map (λ (t : FrameTold). t.pfn) ts

@@ -1,0 +1,241 @@
+ghost use Rattle.std.specs.Prelude.{◌≡◌, ◌+◌, ◌*◌, ◌/◌, ◌^◌, ◌≤◌, [], length, true, false, OnOk, OnErr, IfOk, IsErrOf, Some, None};
+ghost use Rattle.mig_bytes.specs.Faults.{Rose};
+ghost use Rattle.mig_guest.specs.Hosts.{most_saved_width};
+ghost use Rattle.mig_headers.specs.declared.unsound.Unsound.{Unsound};
+ghost use Rattle.mig_records_pages.specs.Batches.{IsBehind};
+ghost use Rattle.mig_guest.specs.Pfns.{pfns_of_words, size};
+ghost use Rattle.mig_guest.specs.History.{no_history};
+ghost use Rattle.mig_guest.specs.MachineCalls.{Paused};
+ghost use Rattle.mig_guest.specs.MachineStates.{IsValidState, Stays};
+ghost use Rattle.mig_guest.specs.Changes.{IsBelow};
+ghost use Rattle.mig_dirtysave_rounds.specs.Parts.{total, total_taken};
+ghost use Rattle.mig_dirtysave_rounds.specs.Current.{notes_of};
+ghost use Rattle.mig_dirtysave_rounds.specs.Live.{StaysSame, Live, Ended, SendsRounds, RoundsLeaveBehind, Saved, SendsLast, worst_fault, IsUnsound, AnswersTables, HasRounds, IsTight, FramesSaved, SawTypes};
+ghost use Rattle.mig_dirtysave_rounds.specs.declared.found.SendFault.TheVariants.{MachineFault, WriteFault};
+
+use crate::found::{SendFault, Worst};
+use crate::room::Room;
+use crate::round::send_all;
+use crate::sets::{take_more, take_set};
+use mig_bytes::Sink;
+use mig_guest::mig_machine_api::Machine;
+use mig_guest::pfn_set::{count, join};
+use mig_headers::Unsound;
+use mig_pagetypes::PageType;
+use mig_records_pages::Batch;
+
+/// The most rounds before the pause.
+const MOST_ROUNDS: u32 = 5;
+
+/// No further round comes where the log has fewer frame numbers.
+const FEW: u64 = 50;
+
+/// What the rounds before the pause came to.
+#[derive(Clone, Copy, Debug, PartialEq, Eq)]
+struct RoundsSent {
+    /// The logs that were taken.
+    rounds: u32,
+    /// The entries that were sent.
+    entries: u64,
+}
+
+/// What sending the frames of a machine came to.
+#[derive(Drop)]
+pub struct Sent {
+    /// The logs that were taken before the pause.
+    pub rounds: u32,
+    /// The entries that were sent.
+    pub entries: u64,
+    /// The first thing that is wrong with the tables of the paused host.
+    pub unsound: Option<Unsound>,
+    /// The type that was seen last of each frame number.
+    pub types: Vec<Option<PageType>>,
+}
+
+/// Rounds, while the logs are long, and fewer than five: each reads and sends the set, and takes the log as the next set.
+fn run_rounds<M: Machine, K: Sink>(
+    machine: &mut M,
+    sink: &mut K,
+    batch: &mut Batch,
+    set: &mut [u64],
+    deferred: &mut [u64],
+    types: &mut [Option<PageType>],
+    page: &mut [u8; 4096],
+) -> Result<RoundsSent, SendFault>
+    requires narrow { (M.state machine.old).host.width ≤ most_saved_width }
+    requires words { length set.old ≡ ((M.state machine.old).host.width + 63) / 64 }
+    requires wide { length deferred.old ≡ length set.old }
+    requires long { length types.old ≡ (M.state machine.old).host.width }
+    requires below { IsBelow (M.state machine.old).host.width (pfns_of_words set.old) }
+    requires noted { IsBelow (M.state machine.old).host.width (pfns_of_words deferred.old) }
+    requires empty { batch.old ≡ [] }
+    requires live { Live (M.state machine.old) (pfns_of_words set.old) }
+    requires first { (M.state machine.old).history ≡ no_history }
+    ensures ended { IfOk result (λ sent. Ended sent.rounds (M.state machine.new) (pfns_of_words set.new)) }
+    ensures entries { IfOk result (λ sent. sent.entries ≡ total_taken (M.state machine.new).host.width (M.state machine.new).history.taken) }
+    ensures few { IfOk result (λ sent. sent.entries ≤ 5 * 2 ^ 28) }
+    ensures sent { IfOk result (λ sent. SendsRounds sent.rounds (M.state machine.old) (M.state machine.new) (pfns_of_words set.old) (pfns_of_words set.new) (K.written sink.old) (K.written sink.new)
+        (notes_of deferred.old types.old) (notes_of deferred.new types.new)) }
+    ensures behind { OnErr result (RoundsLeaveBehind 0 (M.state machine.old) (M.state machine.new) (pfns_of_words set.old) (K.written sink.old) (K.written sink.new) (notes_of deferred.old types.old)) }
+    ensures kept { StaysSame (M.state machine.old) (M.state machine.new) }
+    ensures below { OnOk result (IsBelow (M.state machine.new).host.width (pfns_of_words set.new)) }
+    ensures noted { OnOk result (IsBelow (M.state machine.new).host.width (pfns_of_words deferred.new)) }
+    ensures sized { length set.new ≡ length set.old }
+    ensures empty { OnOk result (batch.new ≡ []) }
+    ensures later { M.Later machine.old machine.new }
+    ensures machine_count { M.faults machine.old ≤ M.faults machine.new }
+    ensures sink_count { K.faults sink.old ≤ K.faults sink.new }
+    ensures sink_quiet { OnOk result (K.faults sink.new ≡ K.faults sink.old) }
+    ensures machine_fault { IsErrOf result MachineFault → Rose (M.faults machine.old) (M.faults machine.new) }
+    ensures write_fault { IsErrOf result WriteFault → Rose (K.faults sink.old) (K.faults sink.new) }
+{
+    let mut rounds = 0;
+    let mut entries = 0;
+    loop {
+        entries += count(set);
+        send_all(machine, sink, batch, set, deferred, types, page)?;
+        take_set(machine, set)?;
+        rounds += 1;
+        if rounds == MOST_ROUNDS || count(set) < FEW {
+            return Ok(RoundsSent { rounds, entries });
+        }
+    }
+}
+
+/// Stops the guest.
+fn stop<M: Machine>(machine: &mut M) -> Result<(), SendFault>
+    ensures ok { OnOk result (Paused (M.state machine.old) (M.state machine.new)) }
+    ensures later { M.Later machine.old machine.new }
+    ensures count { M.faults machine.old ≤ M.faults machine.new }
+    ensures fault { OnErr result (Rose (M.faults machine.old) (M.faults machine.new)) }
+    ensures stays { OnErr result (Stays (M.state machine.old) (M.state machine.new)) }
+    ensures which { ¬ IsErrOf result WriteFault }
+{
+    match machine.pause() {
+        Ok(()) => Ok(()),
+        Err(_) => Err(SendFault::MachineFault),
+    }
+}
+
+/// Pauses, and reads and sends what the last two logs name and what is deferred.
+fn finish<M: Machine, K: Sink>(
+    machine: &mut M,
+    sink: &mut K,
+    batch: &mut Batch,
+    set: &mut [u64],
+    deferred: &mut [u64],
+    types: &mut [Option<PageType>],
+    log: &mut [u64],
+    page: &mut [u8; 4096],
+    rounds: u32,
+) -> Result<Worst, SendFault>
+    requires narrow { (M.state machine.old).host.width ≤ most_saved_width }
+    requires words { length set.old ≡ ((M.state machine.old).host.width + 63) / 64 }
+    requires wide { length deferred.old ≡ length set.old }
+    requires long { length types.old ≡ (M.state machine.old).host.width }
+    requires below { IsBelow (M.state machine.old).host.width (pfns_of_words set.old) }
+    requires noted { IsBelow (M.state machine.old).host.width (pfns_of_words deferred.old) }
+    requires log { length log.old ≡ length set.old }
+    requires empty { batch.old ≡ [] }
+    requires ended { Ended rounds (M.state machine.old) (pfns_of_words set.old) }
+    ensures saved { OnOk result (Saved rounds (M.state machine.new)) }
+    ensures read { OnOk result (total (M.state machine.new).host.width (M.state machine.new).history ≡ total_taken (M.state machine.old).host.width (M.state machine.old).history.taken + size (M.state machine.new).host.width (pfns_of_words set.new)) }
+    ensures below { OnOk result (IsBelow (M.state machine.new).host.width (pfns_of_words set.new)) }
+    ensures sized { length set.new ≡ length set.old }
+    ensures sent { IfOk result (SendsLast rounds (M.state machine.old) (M.state machine.new) (pfns_of_words set.old) (K.written sink.old) (K.written sink.new)
+        (notes_of deferred.old types.old) (notes_of deferred.new types.new)) }
+    ensures named { IfOk result (λ worst. (u : Unsound) → worst_fault worst ≡ Some u → IsUnsound (M.state machine.new).host.frames u) }
+    ensures behind { OnErr result (RoundsLeaveBehind rounds (M.state machine.old) (M.state machine.new) (pfns_of_words set.old) (K.written sink.old) (K.written sink.new) (notes_of deferred.old types.old)) }
+    ensures kept { StaysSame (M.state machine.old) (M.state machine.new) }
+    ensures later { M.Later machine.old machine.new }
+    ensures machine_count { M.faults machine.old ≤ M.faults machine.new }
+    ensures sink_count { K.faults sink.old ≤ K.faults sink.new }
+    ensures sink_quiet { OnOk result (K.faults sink.new ≡ K.faults sink.old) }
+    ensures machine_fault { IsErrOf result MachineFault → Rose (M.faults machine.old) (M.faults machine.new) }
+    ensures write_fault { IsErrOf result WriteFault → Rose (K.faults sink.old) (K.faults sink.new) }
+{
+    stop(machine)?;
+    take_more(machine, log, set)?;
+    join(set, deferred);
+    send_all(machine, sink, batch, set, deferred, types, page)
+}
+
+/// The first thing that is wrong with the tables.
+fn unsound_of(worst: Worst) -> Option<Unsound>
+    ensures { result ≡ worst_fault worst }
+{
+    match worst.superpage {
+        Some((pfn, slot)) => Some(Unsound::Superpage(pfn, slot as u64)),
+        None => match worst.lost {
+            Some((pfn, slot)) => Some(Unsound::NoFrame(pfn, slot as u64)),
+            None => None,
+        },
+    }
+}
+
+/// Sends the frames of a machine while its guest runs, and pauses it. The room was made beforehand for the machine's width,
+/// so this takes no memory. A table that no stream can have ends nothing: the first one is answered in `unsound`. The error
+/// is which of the two failed.
+pub fn send_frames<M: Machine, K: Sink>(
+    machine: &mut M,
+    sink: &mut K,
+    room: Room,
+) -> Result<Sent, SendFault>
+    requires valid { IsValidState (M.state machine.old) }
+    requires width { room ≡ (M.state machine.old).host.width }
+    requires unpaused { (M.state machine.old).paused ≡ false }
+    requires unread { (M.state machine.old).history ≡ no_history }
+    ensures paused { OnOk result ((M.state machine.new).paused ≡ true) }
+    ensures rounds { OnOk result (HasRounds (M.state machine.new)) }
+    ensures tight { IfOk result (λ sent. sent.unsound ≡ None → IsTight (M.state machine.new)) }
+    ensures report { IfOk result (λ sent. sent.rounds ≡ (M.state machine.new).history.live) }
+    ensures entries { IfOk result (λ sent. sent.entries ≡ total (M.state machine.new).host.width (M.state machine.new).history) }
+    ensures frames { IfOk result (λ sent. FramesSaved (K.written sink.old) (K.written sink.new) (M.state machine.new) sent.unsound) }
+    ensures types { IfOk result (λ sent. SawTypes sent.types.items (M.state machine.new)) }
+    ensures whole { IfOk result (λ sent. length sent.types.items ≡ (M.state machine.new).host.width) }
+    ensures first { IfOk result (λ sent. AnswersTables (M.state machine.new) sent.unsound) }
+    ensures named { IfOk result (λ sent. (u : Unsound) → sent.unsound ≡ Some u → IsUnsound (M.state machine.new).host.frames u) }
+    ensures behind { OnErr result (IsBehind (K.written sink.old) (K.written sink.new) (total (M.state machine.old).host.width (M.state machine.new).history)) }
+    ensures kept { StaysSame (M.state machine.old) (M.state machine.new) }
+    ensures later { M.Later machine.old machine.new }
+    ensures machine_count { M.faults machine.old ≤ M.faults machine.new }
+    ensures sink_count { K.faults sink.old ≤ K.faults sink.new }
+    ensures sink_quiet { OnOk result (K.faults sink.new ≡ K.faults sink.old) }
+    ensures machine_fault { IsErrOf result MachineFault → Rose (M.faults machine.old) (M.faults machine.new) }
+    ensures write_fault { IsErrOf result WriteFault → Rose (K.faults sink.old) (K.faults sink.new) }
+{
+    let Room {
+        mut batch,
+        mut set,
+        mut deferred,
+        mut types,
+        mut log,
+    } = room;
+    let mut page = [0; 4096];
+    let before = run_rounds(
+        machine,
+        sink,
+        &mut batch,
+        &mut set,
+        &mut deferred,
+        &mut types,
+        &mut page,
+    )?;
+    let worst = finish(
+        machine,
+        sink,
+        &mut batch,
+        &mut set,
+        &mut deferred,
+        &mut types,
+        &mut log,
+        &mut page,
+        before.rounds,
+    )?;
+    Ok(Sent {
+        rounds: before.rounds,
+        entries: before.entries + count(&set),
+        unsound: unsound_of(worst),
+        types,
+    })
+}

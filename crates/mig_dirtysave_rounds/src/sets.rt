@@ -1,0 +1,49 @@
+ghost use Rattle.std.specs.Prelude.{◌≡◌, ◌+◌, ◌/◌, ◌<◌, ◌≤◌, length, OnOk, OnErr, IsErrOf};
+ghost use Rattle.mig_bytes.specs.Faults.{Rose};
+ghost use Rattle.mig_guest.specs.Pfns.{pfns_of_words, joined};
+ghost use Rattle.mig_guest.specs.MachineCalls.{LogTaken};
+ghost use Rattle.mig_guest.specs.MachineStates.{Stays};
+ghost use Rattle.mig_dirtysave_rounds.specs.declared.found.SendFault.TheVariants.{WriteFault};
+
+use crate::found::SendFault;
+use mig_guest::mig_machine_api::Machine;
+use mig_guest::pfn_set::join;
+
+/// Takes the log as the new set.
+pub(crate) fn take_set<M: Machine>(machine: &mut M, set: &mut [u64]) -> Result<(), SendFault>
+    requires words { length set.old ≡ ((M.state machine.old).host.width + 63) / 64 }
+    requires few { length (M.state machine.old).history.taken < 8 }
+    ensures ok { OnOk result (LogTaken (pfns_of_words set.new) (M.state machine.old) (M.state machine.new)) }
+    ensures later { M.Later machine.old machine.new }
+    ensures count { M.faults machine.old ≤ M.faults machine.new }
+    ensures fault { OnErr result (Rose (M.faults machine.old) (M.faults machine.new)) }
+    ensures stays { OnErr result (Stays (M.state machine.old) (M.state machine.new)) }
+    ensures which { ¬ IsErrOf result WriteFault }
+{
+    match machine.take_log(set) {
+        Ok(()) => Ok(()),
+        Err(_) => Err(SendFault::MachineFault),
+    }
+}
+
+/// Takes the log, and adds it to the set.
+pub(crate) fn take_more<M: Machine>(
+    machine: &mut M,
+    log: &mut [u64],
+    set: &mut [u64],
+) -> Result<(), SendFault>
+    requires words { length log.old ≡ ((M.state machine.old).host.width + 63) / 64 }
+    requires wide { length log.old ≡ length set.old }
+    requires few { length (M.state machine.old).history.taken < 8 }
+    ensures ok { OnOk result (LogTaken (pfns_of_words log.new) (M.state machine.old) (M.state machine.new)) }
+    ensures set { OnOk result (pfns_of_words set.new ≡ joined (pfns_of_words set.old) (pfns_of_words log.new)) }
+    ensures later { M.Later machine.old machine.new }
+    ensures count { M.faults machine.old ≤ M.faults machine.new }
+    ensures fault { OnErr result (Rose (M.faults machine.old) (M.faults machine.new)) }
+    ensures stays { OnErr result (Stays (M.state machine.old) (M.state machine.new)) }
+    ensures which { ¬ IsErrOf result WriteFault }
+{
+    take_set(machine, log)?;
+    join(set, log);
+    Ok(())
+}
