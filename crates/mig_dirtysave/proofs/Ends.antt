@@ -25,8 +25,8 @@ use Rattle.mig_dirtysave_rounds.specs.Parts.{total}
 use Rattle.mig_dirtysave_rounds.specs.Live.{FramesSaved}
 use Rattle.mig_dirtysave_rounds.proofs.Saves.{size_none}
 use Rattle.mig_dirtysave_parts.specs.SaveTexts.{text_before, StopsBehind, ClosesStream}
-use Rattle.mig_unended.specs.Unread.{WroteNoStream}
-use Rattle.mig_unended.proofs.Written.{bare_headers, bare_some, wrapped_behind, wrapped_headers, wrapped_opening, wrapped_some}
+use Rattle.mig_dirtysave.specs.Unread.{WroteNoStream}
+use Rattle.mig_dirtysave.proofs.Written.{bare_headers, bare_some, wrapped_behind, wrapped_headers, wrapped_opening, wrapped_some}
 use Rattle.mig_dirtysave_parts.proofs.Codes.{first_records, first_within, are_within}
 use Rattle.mig_dirtysave_parts.proofs.Texts.{some_records, appends_first, part_behind}
 use Rattle.mig_dirtysave.specs.SaveAnswers.{WroteMost, IsLittleBehind}

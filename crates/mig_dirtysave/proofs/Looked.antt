@@ -20,7 +20,7 @@ use Rattle.mig_guest.specs.Pfns.{Pfns, members, size}
 use Rattle.mig_guest.specs.Rounds.{Rounds, Tight, all_read, rounds_read}
 use Rattle.mig_dirtysave_rounds.specs.Parts.{total, total_taken}
 use Rattle.mig_dirtysave_rounds.specs.Live.{IsTight, type_in}
-use Rattle.mig_pause.specs.Paused.{OnlyLooksUp, HasTypes}
+use Rattle.mig_dirtysave.specs.Paused.{OnlyLooksUp, HasTypes}
 use Rattle.mig_headers.specs.declared.unsound.Unsound.{Unsound}
 use Rattle.mig_dirtysave.specs.SaveAnswers.{SaveWritten, IsTrusted, IfUnsound}
 use Rattle.mig_dirtysave.specs.declared.answer.SaveAnswer.{SaveAnswer}

@@ -28,7 +28,7 @@ use Rattle.mig_host_laws.specs.Unsoundness.IsWrong.{no_context, no_p2m, no_share
 use Rattle.mig_host_laws.proofs.Instances.{unsoundness_named}
 use Rattle.mig_host_laws.proofs.Rows.{first_row_named}
 use Rattle.mig_host_laws.proofs.Savers.{row_stands}
-use Rattle.mig_pause.specs.Paused.{standing_seen, first_around}
+use Rattle.mig_dirtysave.specs.Paused.{standing_seen, first_around}
 
 -- ---- searches
 

@@ -28,7 +28,7 @@ use Rattle.mig_guest.specs.MachineStates.{MachineState}
 use Rattle.mig_records_pages.specs.Told.{FrameTold, telling_frames, telling_record}
 use Rattle.mig_restore_form.specs.Spelled.{Accepted}
 use Rattle.mig_dirtysave_rounds.specs.Live.{StaysSame, FramesSaved}
-use Rattle.mig_saved.proofs.Viewed.{saved_is_viewed}
+use Rattle.mig_dirtysave.proofs.Viewed.{saved_is_viewed}
 use Rattle.mig_dirtysave_parts.specs.SaveTexts.{IsOtherRecord, text_before, ClosesStream}
 use Rattle.mig_dirtysave_parts.specs.KeptParts.{HoldsParts, is_early}
 use Rattle.mig_dirtysave_parts.proofs.Codes.{both_all, emulators_seen, first_records, first_seen, first_within, viewed_kind}

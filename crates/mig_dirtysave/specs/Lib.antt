@@ -1,2 +1,6 @@
 pub mod Saver
 pub mod SaveAnswers
+pub mod Unended
+pub mod Unread
+pub mod Paused
+pub mod Marks

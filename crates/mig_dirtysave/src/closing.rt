@@ -8,13 +8,14 @@ ghost use Rattle.mig_host_view.specs.Sound.{unsoundness};
 ghost use Rattle.mig_dirtysave_rounds.specs.Live.{AnswersTables, IsUnsound, SawTypes};
 ghost use Rattle.mig_host_laws.specs.Standing.{is_of_no_type};
 ghost use Rattle.mig_host_laws.specs.Unsoundness.{UnsoundHas};
-ghost use Rattle.mig_pause.specs.Paused.{HasTypes, OnlyLooksUp};
+ghost use Rattle.mig_dirtysave.specs.Paused.{HasTypes, OnlyLooksUp};
 ghost use Rattle.mig_dirtysave_parts.specs.KeptParts.{HoldsParts, SameEmulators, SameSettings, is_setting};
 ghost use Rattle.mig_dirtysave_parts.specs.SaveTexts.{settings_seen, StopsBehind, ClosesStream};
 ghost use Rattle.mig_dirtysave.specs.SaveAnswers.{IfUnsound, IsTrusted};
 ghost use Rattle.mig_dirtysave.specs.declared.answer.SaveAnswer.TheVariants.{MachineFault, WriteFault};
 
 use crate::answer::SaveAnswer;
+use crate::viewing::view_parts;
 use mig_bytes::Sink;
 use mig_dirtysave_parts::{judge, refresh, write_last, write_pv_last};
 use mig_dirtysave_rounds::Sent;
@@ -22,7 +23,6 @@ use mig_guest::Guest;
 use mig_guest::mig_machine_api::Machine;
 use mig_headers::{Kind, Unsound};
 use mig_pagetypes::PageType;
-use mig_pause::view_parts;
 
 /// Judges the host of a paused HVM machine, and writes what stands behind the frames, END the last. `tables` is what was
 /// found wrong with its tables. The settings are those of the host then.

@@ -7,7 +7,7 @@ ghost use Rattle.mig_guest.specs.History.{no_history};
 ghost use Rattle.mig_guest.specs.Rounds.{all_read};
 ghost use Rattle.mig_host_laws.specs.Standing.{is_of_no_type};
 ghost use Rattle.mig_host_laws.specs.Unsoundness.{UnsoundHas};
-ghost use Rattle.mig_unended.specs.Unread.{WroteNoStream};
+ghost use Rattle.mig_dirtysave.specs.Unread.{WroteNoStream};
 ghost use Rattle.mig_dirtysave_rounds.specs.Parts.{total};
 ghost use Rattle.mig_dirtysave_rounds.specs.Live.{StaysSame, HasRounds, IsTight};
 ghost use Rattle.mig_dirtysave_parts.specs.KeptParts.{HoldsParts, is_early, is_setting};

@@ -16,8 +16,8 @@ use Rattle.mig_guest.specs.Hosts.{HostOf, most_saved_width}
 use Rattle.mig_canon.specs.Canon.{headers}
 use Rattle.mig_host.specs.HostView.{HostAndSpare}
 use Rattle.mig_image.specs.Answer.{ReadsHost}
-use Rattle.mig_unended.specs.Unread.{WroteNoStream}
-use Rattle.mig_unended.proofs.Written.{bare_headers}
+use Rattle.mig_dirtysave.specs.Unread.{WroteNoStream}
+use Rattle.mig_dirtysave.proofs.Written.{bare_headers}
 use Rattle.mig_machine_script.specs.ScriptAnswers.{ReadsScript}
 use Rattle.mig_machine_script.specs.ScriptLines.{LineOf}
 use Rattle.mig_machine_script.specs.Scripts.{most_script_bytes}

@@ -14,7 +14,7 @@ use Rattle.mig_report.specs.declared.status.Status.TheVariants as statuses
 use Rattle.mig_report.specs.Report.{Reports, refusal_line, write_fault_line, saved_line}
 use Rattle.mig_report.specs.Statuses.{NamesRefusal, StatusSays, Written}
 use Rattle.mig_machine_script.specs.ScriptLines.{LineOf}
-use Rattle.mig_unended.specs.Unread.{WroteNoStream}
+use Rattle.mig_dirtysave.specs.Unread.{WroteNoStream}
 use Rattle.mig_live.specs.LiveSaves.{HasHostAndScript, HasBadLine, HasLongScript, HasUnsoundPause, WroteLive, saved_host_at}
 
 -- ---- when it is refused

@@ -9,7 +9,7 @@ ghost use Rattle.mig_report.specs.Report.{saved_line};
 ghost use Rattle.mig_report.specs.declared.outcome.Outcome.TheVariants as outcomes;
 ghost use Rattle.mig_report.specs.declared.outcome.Refusal.TheVariants as refusals;
 ghost use Rattle.mig_report.specs.declared.status.Status.TheVariants as statuses;
-ghost use Rattle.mig_unended.specs.Unread.{WroteNoStream};
+ghost use Rattle.mig_dirtysave.specs.Unread.{WroteNoStream};
 ghost use Rattle.mig_report.specs.Statuses.{EndsWithOwnLine, InputRises, PutsLineOrFault, ReportsStatus};
 ghost use Rattle.mig_live.specs.Saves.{BreaksOff, HasSaveRefusal, RefusesPause, SaysSaved};
 ghost use Rattle.mig_live.specs.LiveSaves.{IsUnasked, WroteLive, WroteLiveTo};

@@ -2,9 +2,9 @@ use Rattle.std.proofs.Common.{◌≡◌, Option, Some, None, refl, sym, ap, subs
 use Rattle.mig_headers.specs.declared.unsound.Unsound.{Unsound}
 use Rattle.mig_guest.specs.Formed.{IsFormed}
 use Rattle.mig_guest.specs.Guests.{GuestOf}
-use Rattle.mig_pause.specs.Paused.{standing_seen}
-use Rattle.mig_pause.proofs.HeldParts.{kept_are_held}
-use Rattle.mig_pause.proofs.TableRows.{rounds_find_rows}
+use Rattle.mig_dirtysave.specs.Paused.{standing_seen}
+use Rattle.mig_dirtysave.proofs.HeldParts.{kept_are_held}
+use Rattle.mig_dirtysave.proofs.TableRows.{rounds_find_rows}
 use Rattle.mig_dirtysave_parts.specs.KeptParts.{is_setting}
 use Rattle.mig_dirtysave_parts.proofs.PvSettings.{settings_formed}
 use Rattle.mig_dirtysave.proofs.PvRows.{few_descriptors, found_stands}

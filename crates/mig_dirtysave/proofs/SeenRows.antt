@@ -1,0 +1,154 @@
+-- The rows of a PV host as a saver finds them: those that speak of contexts need no other parts, and the last stands in none.
+use Rattle.std.proofs.Common.{◌≡◌, ℕ, List, [], ◌∷◌, length, Bool, true, false, cond, Option, Some, None, refl, sym, ap, subst, ◌∙◌}
+use Rattle.std.specs.Prelude.{◌==◌, ◌&&◌, nat_lt, is_some, option_and_then, Result, Ok, Err, IfOk}
+use Rattle.std.specs.Option.{option_map, option_or}
+use Rattle.std.specs.Cmp.{nat_cmp_total}
+use Rattle.std.specs.FinMap as maps
+use Rattle.std.specs.FinMap.{nat_cmp-IsAntisymmetric}
+use Rattle.std.proofs.lemmas.Bool.{eqb-true}
+use Rattle.mig_headers.specs.declared.kind.Kind.{Kind}
+use Rattle.mig_headers.specs.declared.kind.Kind.TheVariants.{Pv}
+use Rattle.mig_headers.specs.declared.unsound.Unsound.{Unsound}
+use Rattle.mig_headers.specs.declared.unsound.Unsound.TheVariants.{P2mFrame, BadContext}
+use Rattle.mig_pagetypes.specs.declared.page_type.PageType.{PageType}
+use Rattle.mig_guest.specs.declared.part_key.PartKey.{PartKey}
+use Rattle.mig_guest.specs.declared.part_code.PartCode.TheVariants.{VcpuBasic, HvmContext}
+use Rattle.mig_guest.specs.Formed.{gdt_ents}
+use Rattle.mig_guest.specs.Hosts.{HostOf, HostFrame, IsValid}
+use Rattle.mig_guest.specs.PartCodes.{row_of}
+use Rattle.mig_guest.specs.PartKeys.{context_key, p2m_key}
+use Rattle.mig_guest.specs.Parts.{Part, PartMap}
+use Rattle.mig_guest.proofs.Counts.{same_parts}
+use Rattle.mig_guest.proofs.PartRows.{one_code}
+use Rattle.mig_pvtables.specs.Faults.{first_some, first_cause, type_at, find_in_contexts}
+use Rattle.mig_pvtables.proofs.EachValue.{get_each}
+use Rattle.mig_pvtables.proofs.Walks.{in_fields, in_contexts, large_in, contexts_start}
+use Rattle.mig_host_view.specs.Sound.{find_gdt, fault_in, unsoundness}
+use Rattle.mig_host_view.specs.View.{guest_in, without_machine}
+use Rattle.mig_headers.specs.Contexts.{scan}
+use Rattle.mig_host_laws.specs.FirstRow.{find_ill_listed, row_1, row_2, row_3, row_4, row_5, row_6, row_7}
+use Rattle.mig_host_laws.specs.Standing.{Standing}
+use Rattle.mig_host_laws.proofs.Instances.{host_wide}
+use Rattle.mig_host_laws.proofs.Savers.{saver_finds}
+use Rattle.mig_dirtysave.specs.Paused.{types_seen, standing_seen, HasTypes, first_in_tables, first_around}
+
+-- ---- parts that are alike at the contexts
+
+abbrev pub SameContexts : PartMap → PartMap → Type 0
+SameContexts m n = (key : PartKey) → key.code ≡ 4 → maps.get m key ≡ maps.get n key
+
+module _ (m n : PartMap) (same : SameContexts m n) where
+  in_same : {C : Type 0} (f : Part → Option C) → in_contexts f m ≡ in_contexts f n
+  in_same f = sym (contexts_start f m) ∙ ap (first_some f) (same_parts 4 m n same) ∙ contexts_start f n
+
+  pub same_fields : (bad : ℕ → List ℕ → ℕ → Bool) → find_in_contexts bad m ≡ find_in_contexts bad n
+  same_fields bad = in_same (in_fields bad)
+
+  pub same_gdt : find_gdt m ≡ find_gdt n
+  same_gdt = gdt_is m ∙ in_same large_in ∙ sym (gdt_is n)
+    where
+      one : (b c : Bool) (x : ℕ × ℕ) → ◌≡◌ {A = Option (ℕ × ℕ)} (cond (b && c) (Some x) None) (cond b (cond c (Some x) None) None)
+      one true c x = refl
+      one false c x = refl
+
+      gdt_is : (parts : PartMap) → find_gdt parts ≡ in_contexts large_in parts
+      gdt_is parts = λ i. first_some (λ e. one (e.0.code == 4) (nat_lt 7168 (gdt_ents e.1)) (e.0.key1, gdt_ents e.1) i) (maps.entries parts)
+
+-- ---- a PV host
+
+module _ (h : HostOf) (valid : IsValid h) where
+  pub contexts_long : (key : PartKey) (context : List ℕ) → maps.get h.parts key ≡ Some context → key.code ≡ 4 → length context ≡ 5168
+  contexts_long key context is code =
+      let part = valid.parts key context is in
+      eqb-true (length context) 5168 (subst (λ c. (row_of c).allows h.width (length context) ≡ true) (one_code part.code VcpuBasic (sym part.number ∙ code)) part.len)
+
+  module _ (pv : h.kind ≡ Pv) where
+    no_context : (bytes : List ℕ) → maps.get h.parts context_key ≡ Some bytes → ⊥
+    no_context bytes is =
+        let part = valid.parts context_key bytes is in
+        let of : (row_of part.code).of_kind Pv ≡ true = subst (λ (k : Kind). (row_of part.code).of_kind k ≡ true) pv part.of_kind in
+        let no : false ≡ true = subst (λ c. (row_of c).of_kind Pv ≡ true) (one_code part.code HvmContext (sym part.number)) of in cc
+
+    no_row_7 : (types : List (Option PageType)) → row_7 (standing_seen h types) ≡ None
+    no_row_7 types = by_case (maps.get h.parts context_key) refl
+      where
+        by_case : (o : Option (List ℕ)) → maps.get h.parts context_key ≡ o → row_7 (standing_seen h types) ≡ None
+        by_case None is = ap (λ o. option_map (λ fault. BadContext fault) (option_and_then (λ (bytes : List ℕ). fault_in (scan bytes)) o)) is
+        by_case (Some bytes) is = absurd (no_context bytes is)
+
+-- ---- the rows in their order
+
+regroup : (a b c d rest : Option Unsound) → option_or a (option_or b (option_or (first_cause (c ∷ d ∷ [])) rest)) ≡ option_or a (option_or b (option_or c (option_or d rest)))
+regroup a b c d rest = ap (λ t. option_or a (option_or b t)) (by_case c d)
+  where
+    by_case : (c d : Option Unsound) → option_or (first_cause (c ∷ d ∷ [])) rest ≡ option_or c (option_or d rest)
+    by_case (Some u) d = refl
+    by_case None (Some u) = refl
+    by_case None None = refl
+
+-- the types of a host's frames are those of the guest that stands there
+types_there : (h : HostOf) (pfn : ℕ) → option_map (λ (f : HostFrame). f.type) (maps.get h.frames pfn) ≡ type_at (guest_in h).frames pfn
+types_there h pfn = by_case (maps.get h.frames pfn) ∙ ap (option_map (λ f. f.type)) (sym (get_each nat_cmp_total nat_cmp-IsAntisymmetric (λ _ (f : HostFrame). without_machine f) h.frames pfn))
+  where
+    by_case : (o : Option HostFrame) → option_map (λ (f : HostFrame). f.type) o ≡ option_map (λ f. f.type) (option_map without_machine o)
+    by_case None = refl
+    by_case (Some f) = refl
+
+-- where the types are the host's, the first row around what was found in the tables is what is in the way of seeing it
+pub first_is_unsoundness : (h : HostOf) → IsValid h → h.kind ≡ Pv → (types : List (Option PageType)) (tables : Option Unsound) → HasTypes h types
+    → tables ≡ first_in_tables h → first_around tables (standing_seen h types) ≡ unsoundness h
+first_is_unsoundness h valid pv types tables has is =
+    let s : Standing = standing_seen h types in
+    ap (λ t. first_around t s) is
+    ∙ regroup (row_1 s) (row_2 s) (row_3 h.width s) (row_4 h.width s) (first_cause (row_5 s ∷ row_6 s ∷ []))
+    ∙ ap (λ o. first_cause (row_1 s ∷ row_2 s ∷ row_3 h.width s ∷ row_4 h.width s ∷ row_5 s ∷ row_6 s ∷ o ∷ [])) (sym (no_row_7 h valid pv types))
+    ∙ saver_finds h (types_seen types) h.width (λ pfn. has pfn ∙ types_there h pfn) (host_wide h valid)
+
+-- ---- answers, one after another
+
+pub ok_then : {X E : Type 0} {P Q : X → Type 0} (result : Result X E) → ((x : X) → P x → Q x) → IfOk result P → IfOk result Q
+ok_then (Ok x) go is = go x is
+ok_then (Err e) go is = tt
+
+two_then : (a b rest : Option Unsound) → option_or a (option_or b rest) ≡ option_or (first_cause (a ∷ b ∷ [])) rest
+two_then (Some u) b rest = refl
+two_then None (Some u) rest = refl
+two_then None None rest = refl
+
+none_first : (t rest : Option Unsound) → is_some t ≡ false → rest ≡ option_or t rest
+none_first None rest is = refl
+none_first (Some u) rest is = let no : true ≡ false = is in cc
+
+nothing_behind : (o : Option Unsound) → o ≡ option_or o None
+nothing_behind None = refl
+nothing_behind (Some u) = refl
+
+module _ (a b t d : Option Unsound) where
+  pub behind_tables : None ≡ first_cause (a ∷ b ∷ []) → is_some t ≡ false → d ≡ first_cause (a ∷ b ∷ t ∷ d ∷ [])
+  behind_tables is none =
+      nothing_behind d ∙ none_first t (first_cause (d ∷ [])) none ∙ ap (λ o. option_or o (first_cause (t ∷ d ∷ []))) is ∙ sym (two_then a b (first_cause (t ∷ d ∷ [])))
+
+  -- the fields come last
+  module _ (e : Option Unsound) where
+    all_then : first_cause (a ∷ b ∷ t ∷ d ∷ e ∷ []) ≡ option_or (first_cause (a ∷ b ∷ t ∷ d ∷ [])) e
+    all_then = by_case a b t d
+      where
+        by_case : (a b t d : Option Unsound) → first_cause (a ∷ b ∷ t ∷ d ∷ e ∷ []) ≡ option_or (first_cause (a ∷ b ∷ t ∷ d ∷ [])) e
+        by_case (Some u) b t d = refl
+        by_case None (Some u) t d = refl
+        by_case None None (Some u) d = refl
+        by_case None None None (Some u) = refl
+        by_case None None None None = sym (nothing_behind e)
+
+    pub before_fields : (u : Unsound) → Some u ≡ first_cause (a ∷ b ∷ t ∷ d ∷ []) → Some u ≡ first_cause (a ∷ b ∷ t ∷ d ∷ e ∷ [])
+    before_fields u is = ap (λ o. option_or o e) is ∙ sym all_then
+
+    pub in_fields_alone : None ≡ first_cause (a ∷ b ∷ t ∷ d ∷ []) → e ≡ first_cause (a ∷ b ∷ t ∷ d ∷ e ∷ [])
+    in_fields_alone is = ap (λ o. option_or o e) is ∙ sym all_then
+
+-- ---- the list
+
+-- what of row 2 is found with the list of the host
+module _ (s : Standing) (key : PartKey) (list : List ℕ) (is : Some list ≡ maps.get s.parts key) (same : key ≡ p2m_key) where
+  pub row_of_list : (found : Option ℕ) → ((o : Standing) → o.types ≡ s.types → maps.get o.parts p2m_key ≡ Some list → found ≡ find_ill_listed o) → option_map (λ k. P2mFrame k) found ≡ row_2 s
+  row_of_list found all = ap (option_map (λ k. P2mFrame k)) (all s refl (ap (maps.get s.parts) (sym same) ∙ sym is))

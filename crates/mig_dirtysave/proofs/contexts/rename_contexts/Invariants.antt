@@ -1,0 +1,25 @@
+use Rattle.std.proofs.Common.{◌≡◌, ◌≤◌, length}
+use Rattle.std.specs.FinMap as maps
+use Rattle.mig_guest.specs.Hosts.{pfn_in}
+use Rattle.mig_guest.specs.Parts.{parts_after}
+use Rattle.mig_pvtables.specs.Faults.{first_some}
+use Rattle.mig_pvtables.specs.VcpuContexts.{is_used_somewhere}
+use Rattle.mig_pvtables.proofs.BlankCodes.{ChangedUpTo}
+use Rattle.mig_pvtables.proofs.Walks.{in_fields, in_contexts}
+use Rattle.mig_host_view.specs.RenamedContexts.{renamed_context}
+use Rattle.mig_host_laws.specs.FirstRow.{names_ill}
+use Rattle.mig_dirtysave.specs.Paused.{standing_seen, OnlyLooksUp}
+use Rattle.mig_dirtysave.proofs.contexts.rename_contexts.Given as goal
+
+abbrev pub invariant-loop-key : goal.invariant-loop-key
+invariant-loop-key g l = record {
+  changed : ChangedUpTo 4 (λ k. renamed_context is_used_somewhere (pfn_in (g.M.Machine.state l.fn.machine).host.frames) k.key1) l.fn.guest l.after l.guest;
+  so : first_some (in_fields (names_ill (standing_seen (g.M.Machine.state l.fn.machine).host l.types))) (parts_after 4 l.after (maps.entries l.guest.parts))
+      ≡ in_contexts (in_fields (names_ill (standing_seen (g.M.Machine.state l.fn.machine).host l.types))) l.fn.guest.parts;
+  looks : OnlyLooksUp (g.M.Machine.state l.fn.machine) (g.M.Machine.state l.machine);
+  later : g.M.Machine.Later l.fn.machine l.machine;
+  count : g.M.Machine.faults l.fn.machine ≤ g.M.Machine.faults l.machine;
+}
+
+abbrev pub decreases-loop-key : goal.decreases-loop-key
+decreases-loop-key g l = length (parts_after 4 l.after (maps.entries l.fn.guest.parts))

@@ -1,2 +1,0 @@
-pub mod Paused
-pub mod Marks

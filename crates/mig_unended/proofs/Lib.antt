@@ -1,4 +1,0 @@
-mod Fronts
-mod Images
-pub mod Libxl
-pub mod Written

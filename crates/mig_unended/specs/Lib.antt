@@ -1,2 +1,0 @@
-pub mod Unended
-pub mod Unread
