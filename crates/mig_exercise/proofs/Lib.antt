@@ -4,3 +4,9 @@ pub mod LongPages
 pub mod Adding
 pub mod PartsSet
 pub mod Writing
+pub mod CanonSizes
+pub mod CanonLength
+pub mod DataWrites
+pub mod DataTouched
+pub mod ExerciseEntries
+pub mod SoundExercise

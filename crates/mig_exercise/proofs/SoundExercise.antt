@@ -31,7 +31,7 @@ use Rattle.mig_host_view.specs.View.{without_machine}
 use Rattle.mig_host_view.proofs.SoundRows.{sound_is_faultless}
 use Rattle.mig_host.proofs.Machines.{pfn_of_machine}
 use Rattle.mig_exercise.specs.ExerciseHosts.{p2m_frame_count, exercise_type, exercise_machine, exercise_page, exercise_frame, frames_up_to, exercise_context, exercise_p2m_list, exercise_parts, page_of_zeros, host_with, ArePages, IsExerciseSize}
-use Rattle.mig_exercise_laws.proofs.ExerciseEntries.{machine_small, NamesFrames, known_table, no_table, is_table}
+use Rattle.mig_exercise.proofs.ExerciseEntries.{machine_small, NamesFrames, known_table, no_table, is_table}
 use Rattle.mig_exercise.proofs.Frames.{frame_there, frame_none, p2m_there, shared_there, vcpu_there}
 
 -- ---- numbers

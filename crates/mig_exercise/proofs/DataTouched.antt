@@ -13,7 +13,7 @@ use Rattle.mig_machine_script.specs.Touched.{touched}
 use Rattle.mig_machine.specs.Paced.{Pace, pace_before, ArePaces, Paced, sizes, sent_again}
 use Rattle.mig_exercise.specs.ExerciseHosts.{IsExerciseSize, first_data, data_count, host_of_exercise}
 use Rattle.mig_exercise.specs.ExerciseScripts.{IsDataWrite, script_of_exercise}
-use Rattle.mig_exercise_laws.proofs.DataWrites.{script_writes, between_writes}
+use Rattle.mig_exercise.proofs.DataWrites.{script_writes, between_writes}
 
 -- ---- what is logged
 

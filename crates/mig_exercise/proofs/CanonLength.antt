@@ -32,7 +32,7 @@ use Rattle.mig_libxl.specs.Canon.{canon_any}
 use Rattle.mig_host.proofs.InOrder.{no_entries}
 use Rattle.mig_exercise.specs.ExerciseHosts.{IsExerciseSize, ArePages, p2m_frame_count, first_data, exercise_page, exercise_frame, frames_up_to, exercise_parts, exercise_p2m_list, exercise_context, page_of_zeros, host_with, exercise_canon_len}
 use Rattle.mig_exercise.proofs.Frames.{frame_there, frame_none}
-use Rattle.mig_exercise_laws.proofs.CanonSizes.{IsPaged, three_parts, canon_size}
+use Rattle.mig_exercise.proofs.CanonSizes.{IsPaged, three_parts, canon_size}
 
 -- ---- parts
 

@@ -3,11 +3,11 @@ use Rattle.mig_guest.specs.Hosts.{HostOf}
 use Rattle.mig_host_view.specs.Sound.{unsoundness}
 use Rattle.mig_host_view.specs.View.{view}
 use Rattle.mig_libxl.specs.Canon.{canon_any}
-use Rattle.mig_exercise_laws.proofs.CanonLength.{exercise_canon_length}
-use Rattle.mig_exercise_laws.proofs.DataTouched.{few_again}
-use Rattle.mig_exercise_laws.proofs.DataWrites.{exercise_stays}
-use Rattle.mig_exercise_laws.proofs.SoundExercise.{exercise_faultless}
-use Rattle.mig_exercise_laws.proofs.law.exercise_is_saved.Goals as goal
+use Rattle.mig_exercise.proofs.CanonLength.{exercise_canon_length}
+use Rattle.mig_exercise.proofs.DataTouched.{few_again}
+use Rattle.mig_exercise.proofs.DataWrites.{exercise_stays}
+use Rattle.mig_exercise.proofs.SoundExercise.{exercise_faultless}
+use Rattle.mig_exercise.proofs.law.exercise_is_saved.Goals as goal
 
 pub returns-clause-sound : goal.returns-clause-sound
 returns-clause-sound c = λ seed n calls size.
