@@ -139,5 +139,5 @@ def verbs():
 
 def commands():
     """The commands of the program, each with its words, as its usage line has them."""
-    usage = re.search(r'b"usage: (.*)\\n"', read(TOP, 'crates', 'mig_report', 'src', 'outcome.rt'))[1]
+    usage = re.search(r'b"usage: (.*)\\n"', read(TOP, 'crates', 'mig_tool_report', 'src', 'outcome.rt'))[1]
     return {text.split()[0]: text for text in usage.split(' | ')}

@@ -12,8 +12,8 @@ pub use Rattle.mig_commands.specs.Fronts.{Accepting, Normalised, PartWritten, re
 pub use Rattle.mig_commands.specs.Outcomes.{outcome_of}
 pub use Rattle.mig_commands.specs.Refusals.{HasLegacyRefusal, HasStreamRefusal, HasWalkImageRefusal, HasWalkRefusal}
 pub use Rattle.mig_commands.specs.Says.{ConvertComes, NormaliseComes, RestoreComes, VerifySays}
-pub use Rattle.mig_report.specs.Statuses.{InputRises, OutcomeSays}
-pub use Rattle.mig_report.specs.Outcome.{status_of}
-pub use Rattle.mig_report.specs.Words.{IsBase}
-pub use Rattle.mig_report.specs.declared.outcome.Refusal.{Refusal}
-pub use Rattle.mig_report.specs.declared.outcome.Refusal.TheVariants as refusals
+pub use Rattle.mig_tool_report.specs.Statuses.{InputRises, OutcomeSays}
+pub use Rattle.mig_tool_report.specs.Outcome.{status_of}
+pub use Rattle.mig_tool_report.specs.Words.{IsBase}
+pub use Rattle.mig_tool_report.specs.declared.outcome.Refusal.{Refusal}
+pub use Rattle.mig_tool_report.specs.declared.outcome.Refusal.TheVariants as refusals

@@ -3,7 +3,7 @@ use Rattle.mig_commands.proofs.Common.{ℕ, List, GuestOf, AcceptedStream, Refus
 use Rattle.mig_legacy.proofs.Laws.{never_both as never_both_legacy}
 use Rattle.mig_legacy.specs.Spelled.{AcceptedLegacy}
 use Rattle.mig_libxl_form.proofs.Laws.{never_both}
-use Rattle.mig_report.specs.declared.outcome.Refusal.TheVariants as refusals
+use Rattle.mig_tool_report.specs.declared.outcome.Refusal.TheVariants as refusals
 use Rattle.mig_commands.proofs.Walks.{stream_once, image_once, host_once, address_once}
 use Rattle.mig_commands.specs.Addresses.{HostHasFrame, StreamHasFrame}
 

@@ -11,17 +11,17 @@ use Rattle.mig_host_view.specs.Sound.{IsSound}
 use Rattle.mig_image.specs.Answer.{ReadsHost}
 use Rattle.mig_libxl.specs.Reads.{ReadsStream}
 use Rattle.mig_restore.specs.declared.read.Reading.{Reading}
-use Rattle.mig_report.specs.declared.outcome.Outcome.{Outcome}
-use Rattle.mig_report.specs.declared.outcome.Outcome.TheVariants as outcomes
-use Rattle.mig_report.specs.declared.outcome.Refusal.TheVariants as refusals
-use Rattle.mig_report.specs.declared.outcome.WalkSummary.{WalkSummary}
-use Rattle.mig_report.specs.declared.status.Status.{Status}
+use Rattle.mig_tool_report.specs.declared.outcome.Outcome.{Outcome}
+use Rattle.mig_tool_report.specs.declared.outcome.Outcome.TheVariants as outcomes
+use Rattle.mig_tool_report.specs.declared.outcome.Refusal.TheVariants as refusals
+use Rattle.mig_tool_report.specs.declared.outcome.WalkSummary.{WalkSummary}
+use Rattle.mig_tool_report.specs.declared.status.Status.{Status}
 use Rattle.mig_host_laws.specs.Standing.{in_stream, in_host}
-use Rattle.mig_report.specs.Statuses.{EndsWithOwnLine, Refusing, ReportsStatus, StatusSays}
+use Rattle.mig_tool_report.specs.Statuses.{EndsWithOwnLine, Refusing, ReportsStatus, StatusSays}
 use Rattle.mig_commands.specs.Addresses.{AddressReported, MeansFrame, any_host_at}
 use Rattle.mig_commands.specs.AddressSteps.{EndsWalk, EndsInHost, FindsFrame, FindsInImage, FindsInStream, IsUnfound, TellsFound, status_found}
 use Rattle.mig_commands.proofs.Reporting.{accepted_front}
-use Rattle.mig_report.proofs.Statuses.{line_reported, says_of}
+use Rattle.mig_tool_report.proofs.Statuses.{line_reported, says_of}
 
 -- ---- what is found
 

@@ -10,9 +10,9 @@ use Rattle.mig_host_view.specs.Sound.{unsoundness}
 use Rattle.mig_host_view.specs.View.{view}
 use Rattle.mig_host_view.proofs.SoundRows.{sound_is_faultless}
 use Rattle.mig_libxl_form.proofs.Laws.{one_front}
-use Rattle.mig_report.specs.declared.outcome.WalkEnd.{WalkEnd}
-use Rattle.mig_report.specs.declared.outcome.WalkEnd.TheVariants as ends
-use Rattle.mig_report.specs.declared.outcome.WalkSummary.{WalkSummary}
+use Rattle.mig_tool_report.specs.declared.outcome.WalkEnd.{WalkEnd}
+use Rattle.mig_tool_report.specs.declared.outcome.WalkEnd.TheVariants as ends
+use Rattle.mig_tool_report.specs.declared.outcome.WalkSummary.{WalkSummary}
 use Rattle.mig_host_laws.specs.Standing.{Standing, in_stream, in_host}
 use Rattle.mig_walk.specs.Walks.{IsWalked}
 use Rattle.mig_walk.specs.declared.walk.Walked.{Walked}

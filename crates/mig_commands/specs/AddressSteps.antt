@@ -5,17 +5,17 @@ use Rattle.mig_bytes.specs.Bytes.{AppendsPart}
 use Rattle.mig_bytes.specs.Faults.{Rose}
 use Rattle.mig_guest.specs.Hosts.{HostOf}
 use Rattle.mig_host_view.specs.Sound.{IsSound, unsoundness}
-use Rattle.mig_report.specs.Outcome.{status_of, line_of}
-use Rattle.mig_report.specs.Report.{Reports, walked_line}
-use Rattle.mig_report.specs.declared.outcome.Outcome.{Outcome}
-use Rattle.mig_report.specs.declared.outcome.Outcome.TheVariants as outcomes
-use Rattle.mig_report.specs.declared.outcome.Refusal.TheVariants as refusals
-use Rattle.mig_report.specs.declared.outcome.WalkSummary.{WalkSummary}
-use Rattle.mig_report.specs.declared.status.Status.{Status}
-use Rattle.mig_report.specs.declared.status.Status.TheVariants as statuses
+use Rattle.mig_tool_report.specs.Outcome.{status_of, line_of}
+use Rattle.mig_tool_report.specs.Report.{Reports, walked_line}
+use Rattle.mig_tool_report.specs.declared.outcome.Outcome.{Outcome}
+use Rattle.mig_tool_report.specs.declared.outcome.Outcome.TheVariants as outcomes
+use Rattle.mig_tool_report.specs.declared.outcome.Refusal.TheVariants as refusals
+use Rattle.mig_tool_report.specs.declared.outcome.WalkSummary.{WalkSummary}
+use Rattle.mig_tool_report.specs.declared.status.Status.{Status}
+use Rattle.mig_tool_report.specs.declared.status.Status.TheVariants as statuses
 use Rattle.mig_host_laws.specs.Standing.{Standing, in_host}
 use Rattle.mig_commands.specs.Addresses.{FrameInHost, FrameInStream, MeansNone}
-use Rattle.mig_report.specs.Statuses.{OutcomeSays, Refusing}
+use Rattle.mig_tool_report.specs.Statuses.{OutcomeSays, Refusing}
 use Rattle.mig_commands.specs.Refusals.{HasWalkImageRefusal, HasWalkRefusal}
 
 -- what comes where no frame is found: nothing was written

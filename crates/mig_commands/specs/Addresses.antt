@@ -13,10 +13,10 @@ use Rattle.mig_host_view.specs.Sound.{IsSound, unsoundness}
 use Rattle.mig_host_view.specs.View.{view}
 use Rattle.mig_image.specs.ImageForm.{host_at}
 use Rattle.mig_libxl_form.specs.Spelled.{AcceptedStream}
-use Rattle.mig_report.specs.Report.{walked_line}
-use Rattle.mig_report.specs.declared.outcome.WalkEnd.{WalkEnd}
-use Rattle.mig_report.specs.declared.outcome.WalkEnd.TheVariants as ends
-use Rattle.mig_report.specs.declared.outcome.WalkSummary.{WalkSummary}
+use Rattle.mig_tool_report.specs.Report.{walked_line}
+use Rattle.mig_tool_report.specs.declared.outcome.WalkEnd.{WalkEnd}
+use Rattle.mig_tool_report.specs.declared.outcome.WalkEnd.TheVariants as ends
+use Rattle.mig_tool_report.specs.declared.outcome.WalkSummary.{WalkSummary}
 use Rattle.mig_host_laws.specs.Standing.{Standing, in_stream, in_host}
 use Rattle.mig_walk.specs.Walks.{IsWalked}
 use Rattle.mig_walk.specs.declared.walk.Walked.TheVariants as walks

@@ -16,8 +16,8 @@ use Rattle.mig_libxl_form.specs.Carried.{IsCarried}
 use Rattle.mig_libxl.specs.Canon.{canon_any}
 use Rattle.mig_libxl_form.specs.Spelled.{AcceptedStream}
 use Rattle.mig_restore_form.specs.Mean.{differs_of}
-use Rattle.mig_report.specs.declared.outcome.Summary.{Summary}
-use Rattle.mig_report.specs.Report.{ok_line}
+use Rattle.mig_tool_report.specs.declared.outcome.Summary.{Summary}
+use Rattle.mig_tool_report.specs.Report.{ok_line}
 
 -- that a front of an input is accepted with this guest, and what follows it
 abbrev pub Accepting : Type 1

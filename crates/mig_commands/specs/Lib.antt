@@ -4,7 +4,7 @@ pub mod Outcomes
 pub mod Fronts
 pub mod Says
 pub mod AddressSteps
-pub use Rattle.mig_report.specs.Words
-pub use Rattle.mig_report.specs.Report
-pub use Rattle.mig_report.specs.Outcome
-pub use Rattle.mig_report.specs.Statuses
+pub use Rattle.mig_tool_report.specs.Words
+pub use Rattle.mig_tool_report.specs.Report
+pub use Rattle.mig_tool_report.specs.Outcome
+pub use Rattle.mig_tool_report.specs.Statuses

@@ -3,8 +3,8 @@ use Rattle.std.specs.Prelude.{◌≡◌, ℕ, List}
 use Rattle.mig_bytes.specs.Judged.Judged.{Faulty}
 use Rattle.mig_legacy.specs.Stream.{IsLegacyRefused}
 use Rattle.mig_libxl_form.specs.Stream.{IsStreamRefused}
-use Rattle.mig_report.specs.declared.outcome.Refusal.{Refusal}
-use Rattle.mig_report.specs.declared.outcome.Refusal.TheVariants as refusals
+use Rattle.mig_tool_report.specs.declared.outcome.Refusal.{Refusal}
+use Rattle.mig_tool_report.specs.declared.outcome.Refusal.TheVariants as refusals
 use Rattle.mig_commands.specs.Addresses.{HasUnsoundHost, HostHasNone, StreamHasNone, any_host_at}
 
 -- of a stream, bare or inside a libxl stream

@@ -6,12 +6,12 @@ use Rattle.mig_bytes.specs.Bytes.{AppendsPart}
 use Rattle.mig_legacy.specs.Spelled.{AcceptedLegacy}
 use Rattle.mig_libxl.specs.Canon.{canon_any}
 use Rattle.mig_libxl_form.specs.Spelled.{AcceptedStream}
-use Rattle.mig_report.specs.declared.outcome.Outcome.{Outcome}
-use Rattle.mig_report.specs.declared.status.Status.{Status}
+use Rattle.mig_tool_report.specs.declared.outcome.Outcome.{Outcome}
+use Rattle.mig_tool_report.specs.declared.status.Status.{Status}
 use Rattle.mig_commands.specs.Addresses.{AddressReported, FrameInHost, FrameInStream}
 use Rattle.mig_commands.specs.Fronts.{Normalised, PartWritten, Restored, Verified, restored_text}
 use Rattle.mig_commands.specs.Refusals.{HasLegacyRefusal, HasStreamRefusal, HasWalkImageRefusal, HasWalkRefusal}
-use Rattle.mig_report.specs.Statuses.{OutcomeSays, StatusSays}
+use Rattle.mig_tool_report.specs.Statuses.{OutcomeSays, StatusSays}
 
 -- ---- of `normalise`, `convert` and `restore`, which write on the output
 

@@ -1,8 +1,8 @@
 ghost use Rattle.std.specs.Prelude.{◌≡◌, ◌≢◌, ◌≤◌, ℕ, IfOk, IfErr, OnOk};
 ghost use Rattle.mig_bytes.specs.Faults.{Rose};
-ghost use Rattle.mig_report.specs.Report.{walked_line};
-ghost use Rattle.mig_report.specs.declared.outcome.Refusal.TheVariants as refusals;
-ghost use Rattle.mig_report.specs.declared.status.Status.TheVariants as statuses;
+ghost use Rattle.mig_tool_report.specs.Report.{walked_line};
+ghost use Rattle.mig_tool_report.specs.declared.outcome.Refusal.TheVariants as refusals;
+ghost use Rattle.mig_tool_report.specs.declared.status.Status.TheVariants as statuses;
 ghost use Rattle.mig_host_view.specs.Sound.{IsSound};
 ghost use Rattle.mig_host_laws.specs.Standing.{Standing, in_host};
 ghost use Rattle.mig_walk.specs.Walks.{IsWalked};
@@ -11,13 +11,13 @@ ghost use Rattle.mig_commands.specs.AddressSteps.{EndsInHost, EndsWalk, FindsInI
 ghost use Rattle.mig_commands.specs.Outcomes.{outcome_of};
 ghost use Rattle.mig_commands.specs.Refusals.{HasWalkImageRefusal, HasWalkRefusal};
 ghost use Rattle.mig_commands.specs.Says.{WalkImageSays, WalkSays};
-ghost use Rattle.mig_report.specs.Statuses.{EndsWithOwnLine, InputRises, PutsLineOf, ReportsStatus};
+ghost use Rattle.mig_tool_report.specs.Statuses.{EndsWithOwnLine, InputRises, PutsLineOf, ReportsStatus};
 
 use crate::commands::unread;
 use mig_bytes::{Sink, Source};
 use mig_image::{Host, ImageAnswer, SoundAnswer, read_host};
 use mig_libxl::read_any;
-use mig_report::{Outcome, Refusal, Status, WalkEnd, WalkSummary, finish, put_walked};
+use mig_tool_report::{Outcome, Refusal, Status, WalkEnd, WalkSummary, finish, put_walked};
 use mig_walk::{Walked, walk_guest, walk_host};
 use std::alloc::Global;
 

@@ -8,21 +8,21 @@ ghost use Rattle.mig_commands.specs.Fronts.{restored_text};
 ghost use Rattle.mig_commands.specs.Outcomes.{outcome_of};
 ghost use Rattle.mig_commands.specs.Refusals.{HasLegacyRefusal, HasStreamRefusal};
 ghost use Rattle.mig_commands.specs.Says.{ConvertComes, ConvertSays, NormaliseComes, NormaliseSays, RestoreComes, RestoreSays, VerifySays};
-ghost use Rattle.mig_report.specs.Statuses.{EndsWithOwnLine, InputRises, NoneFailed, OutputRises, PutsLineOf, ReportsStatus};
-ghost use Rattle.mig_report.specs.Outcome.{status_of};
-ghost use Rattle.mig_report.specs.Report.{ok_line};
-ghost use Rattle.mig_report.specs.Words.{IsBase};
-ghost use Rattle.mig_report.specs.declared.outcome.Outcome.TheVariants as outcomes;
-ghost use Rattle.mig_report.specs.declared.outcome.Refusal.TheVariants as refusals;
-ghost use Rattle.mig_report.specs.declared.status.Status.TheVariants as statuses;
+ghost use Rattle.mig_tool_report.specs.Statuses.{EndsWithOwnLine, InputRises, NoneFailed, OutputRises, PutsLineOf, ReportsStatus};
+ghost use Rattle.mig_tool_report.specs.Outcome.{status_of};
+ghost use Rattle.mig_tool_report.specs.Report.{ok_line};
+ghost use Rattle.mig_tool_report.specs.Words.{IsBase};
+ghost use Rattle.mig_tool_report.specs.declared.outcome.Outcome.TheVariants as outcomes;
+ghost use Rattle.mig_tool_report.specs.declared.outcome.Refusal.TheVariants as refusals;
+ghost use Rattle.mig_tool_report.specs.declared.status.Status.TheVariants as statuses;
 
 use mig_bytes::{Sink, Source};
 use mig_guest::Guest;
 use mig_image::{HostAnswer, host_of, write_host};
 use mig_legacy::{LegacyAnswer, read_legacy};
 use mig_libxl::{read_any, write_any};
-use mig_report::{Outcome, Refusal, Status, Summary, finish, put_ok};
 use mig_restore::StreamAnswer;
+use mig_tool_report::{Outcome, Refusal, Status, Summary, finish, put_ok};
 use std::alloc::Global;
 
 /// The outcome where no stream is read.

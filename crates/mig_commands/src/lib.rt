@@ -2,7 +2,7 @@
 //! host, writes of it what is its own, and puts its line on the report.
 //!
 //! Responsible for: `normalise`, `convert`, `restore`, `verify`, `walk` and `walkimage`, each as one function that answers the
-//! status, and what a status says of each. Left to others: which command the words name, and the lines (mig_report), how a
+//! status, and what a status says of each. Left to others: which command the words name, and the lines (mig_tool_report), how a
 //! stream, a legacy stream or an image is read and written (mig_libxl_form, mig_legacy, mig_image), where an address leads
 //! (mig_walk), `relay` and `show` (mig_passing), and `save` and `exercise` (mig_live).
 //!

@@ -6,6 +6,6 @@ pub use Rattle.mig_headers.specs.declared.kind.Kind.{Kind}
 pub use Rattle.mig_headers.specs.declared.kind.Kind.TheVariants.{Hvm}
 pub use Rattle.mig_libxl_form.specs.Spelled.{AcceptedStream}
 pub use Rattle.mig_live.specs.Saves.{HasSaveRefusal, SaveBroke, SaveDone, SaysSaved}
-pub use Rattle.mig_report.specs.Outcome.{line_of, status_of}
-pub use Rattle.mig_report.specs.Statuses.{OutcomeSays, Written}
-pub use Rattle.mig_report.specs.declared.outcome.Refusal.{Refusal}
+pub use Rattle.mig_tool_report.specs.Outcome.{line_of, status_of}
+pub use Rattle.mig_tool_report.specs.Statuses.{OutcomeSays, Written}
+pub use Rattle.mig_tool_report.specs.declared.outcome.Refusal.{Refusal}

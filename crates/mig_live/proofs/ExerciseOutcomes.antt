@@ -13,9 +13,9 @@ use Rattle.mig_libxl.specs.Reads.{ReadsStream}
 use Rattle.mig_libxl_form.proofs.Laws.{accepted_is_stream, one_front, never_both}
 use Rattle.mig_restore.specs.declared.read.Reading.{Reading}
 use Rattle.mig_bytes.specs.declared.answer.Answer.{Answer}
-use Rattle.mig_report.specs.declared.outcome.Outcome.{Outcome}
-use Rattle.mig_report.specs.declared.outcome.Outcome.TheVariants as outcomes
-use Rattle.mig_report.specs.declared.outcome.Refusal.TheVariants as refusals
+use Rattle.mig_tool_report.specs.declared.outcome.Outcome.{Outcome}
+use Rattle.mig_tool_report.specs.declared.outcome.Outcome.TheVariants as outcomes
+use Rattle.mig_tool_report.specs.declared.outcome.Refusal.TheVariants as refusals
 use Rattle.mig_machine_script.specs.ScriptLines.{LineOf}
 use Rattle.std.specs.Prelude.{◌*◌, ◌≤◌}
 use Rattle.mig_host_view.specs.View.{view}
@@ -23,7 +23,7 @@ use Rattle.mig_libxl.specs.Canon.{canon_any}
 use Rattle.mig_machine.specs.Paced.{Paced}
 use Rattle.mig_exercise.specs.ExerciseHosts.{IsExerciseSize, host_of_exercise, data_count, exercise_canon_len}
 use Rattle.mig_exercise.specs.ExerciseScripts.{script_of_exercise}
-use Rattle.mig_report.specs.declared.outcome.SaveSummary.{SaveSummary}
+use Rattle.mig_tool_report.specs.declared.outcome.SaveSummary.{SaveSummary}
 use Rattle.mig_live.specs.Exercises.{Exercises, ExerciseSaved}
 use Rattle.mig_live.specs.LiveSaves.{WroteLive, WroteLiveTo, paused_host}
 use Rattle.mig_live.specs.SaveSteps.{ComesToNone}

@@ -1,6 +1,6 @@
 -- A machine that was saved, and what was written of it.
 use Rattle.mig_live.proofs.Common.{Kind, ◌≡◌, ℕ, ◌++◌, List, [], length, Option, Some, None, Result, Err, refl, sym, ap, subst, ◌∙◌, arith}
-use Rattle.mig_report.specs.declared.outcome.Refusal.TheVariants as refusals
+use Rattle.mig_tool_report.specs.declared.outcome.Refusal.TheVariants as refusals
 use mathlib.Core.Logic.{inl}
 use Rattle.std.specs.Prelude.{◌+◌, ◌∷◌, map}
 use Rattle.mig_bytes.specs.Faults.{Rose}
@@ -22,8 +22,8 @@ use Rattle.mig_machine.specs.Paced.{Paced, HasPaces, pfns_paced}
 use Rattle.mig_dirtysave.specs.SaveAnswers.{IfUnsound, IsTrusted, OnEnd, SaveWritten}
 use Rattle.mig_dirtysave.specs.declared.answer.SaveAnswer.{SaveAnswer}
 use Rattle.mig_dirtysave.specs.declared.answer.SaveAnswer.TheVariants as answers
-use Rattle.mig_report.specs.declared.outcome.Outcome.{Outcome}
-use Rattle.mig_report.specs.declared.outcome.Outcome.TheVariants as outcomes
+use Rattle.mig_tool_report.specs.declared.outcome.Outcome.{Outcome}
+use Rattle.mig_tool_report.specs.declared.outcome.Outcome.TheVariants as outcomes
 use Rattle.mig_live.specs.LiveSaves.{WroteLive, WroteLiveTo, paused_host}
 use Rattle.mig_live.specs.SaveSteps.{ComesToNone}
 

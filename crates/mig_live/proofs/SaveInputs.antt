@@ -1,6 +1,6 @@
 -- An input that is a host and a script isn't refused.
 use Rattle.mig_live.proofs.Common.{◌≡◌, ℕ, List, length, sym, ap, subst, ◌∙◌, arith, Refusal, HasSaveRefusal}
-use Rattle.mig_report.specs.declared.outcome.Refusal.TheVariants as refusals
+use Rattle.mig_tool_report.specs.declared.outcome.Refusal.TheVariants as refusals
 use Rattle.mig_bytes.specs.Judged.{Judged}
 use Rattle.mig_bytes.specs.Judged.Judged.{Passes, Faulty}
 use Rattle.mig_headers.specs.declared.image_fault.ImageCause.{ImageCause}

@@ -1,7 +1,7 @@
 -- What a live save comes to, says and reports.
 use Rattle.std.specs.Prelude.{◌+◌, drop}
 use Rattle.mig_live.proofs.Common.{◌⊎◌, ◌≡◌, ℕ, List, [], length, arith, Option, Some, None, Ok, Err, refl, sym, ap, subst, ◌∙◌, Hvm, Refusal, Written, HasSaveRefusal, OutcomeSays, SaveBroke, SaveDone, SaysSaved, status_of, line_of}
-use Rattle.mig_report.specs.declared.outcome.Refusal.TheVariants as refusals
+use Rattle.mig_tool_report.specs.declared.outcome.Refusal.TheVariants as refusals
 use mathlib.Core.Logic.{inl, inr}
 use mathlib.Core.List.{append-nil}
 use Rattle.std.specs.Io.KnownBytes.{Appends}
@@ -23,13 +23,13 @@ use Rattle.mig_machine_script.specs.ScriptLines.{LineOf}
 use Rattle.mig_machine_script.specs.Scripts.{most_script_bytes}
 use Rattle.mig_machine_script.specs.declared.script.ScriptAnswer.{ScriptAnswer}
 use Rattle.mig_machine_script.specs.declared.script.ScriptAnswer.TheVariants as scripts
-use Rattle.mig_report.specs.Report.{Reports, saved_line}
-use Rattle.mig_report.specs.declared.outcome.Outcome.{Outcome}
-use Rattle.mig_report.specs.declared.outcome.Outcome.TheVariants as outcomes
-use Rattle.mig_report.specs.declared.outcome.SaveSummary.{SaveSummary}
-use Rattle.mig_report.specs.declared.status.Status.{Status}
-use Rattle.mig_report.specs.declared.status.Status.TheVariants as statuses
-use Rattle.mig_report.specs.Statuses.{NamesRefusal}
+use Rattle.mig_tool_report.specs.Report.{Reports, saved_line}
+use Rattle.mig_tool_report.specs.declared.outcome.Outcome.{Outcome}
+use Rattle.mig_tool_report.specs.declared.outcome.Outcome.TheVariants as outcomes
+use Rattle.mig_tool_report.specs.declared.outcome.SaveSummary.{SaveSummary}
+use Rattle.mig_tool_report.specs.declared.status.Status.{Status}
+use Rattle.mig_tool_report.specs.declared.status.Status.TheVariants as statuses
+use Rattle.mig_tool_report.specs.Statuses.{NamesRefusal}
 use Rattle.mig_live.specs.Saves.{RefusesPause, BreaksOff}
 use Rattle.mig_live.specs.LiveSaves.{HasHostAndScript, WroteLive, saved_host_at}
 use Rattle.mig_live.specs.SaveSteps.{StopsAt, ReadsHostToSave, ReadsHostAndScript, stop_of_script, outcome_of_stop, ComesToNone}

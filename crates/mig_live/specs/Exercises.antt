@@ -7,11 +7,11 @@ use Rattle.mig_libxl.specs.Canon.{canon_any}
 use Rattle.mig_machine.specs.Paced.{Paced}
 use Rattle.mig_exercise.specs.ExerciseHosts.{host_of_exercise, data_count, exercise_canon_len}
 use Rattle.mig_exercise.specs.ExerciseScripts.{script_of_exercise}
-use Rattle.mig_report.specs.Report.{exercised_line}
-use Rattle.mig_report.specs.declared.outcome.ExerciseSummary.{ExerciseSummary}
-use Rattle.mig_report.specs.declared.outcome.SaveSummary.{SaveSummary}
-use Rattle.mig_report.specs.declared.status.Status.{Status}
-use Rattle.mig_report.specs.declared.status.Status.TheVariants as statuses
+use Rattle.mig_tool_report.specs.Report.{exercised_line}
+use Rattle.mig_tool_report.specs.declared.outcome.ExerciseSummary.{ExerciseSummary}
+use Rattle.mig_tool_report.specs.declared.outcome.SaveSummary.{SaveSummary}
+use Rattle.mig_tool_report.specs.declared.status.Status.{Status}
+use Rattle.mig_tool_report.specs.declared.status.Status.TheVariants as statuses
 use Rattle.mig_live.specs.LiveSaves.{WroteLive, paused_host}
 
 -- The numbers of an exercise with this seed and so many frames: it is saved in the rounds and up to the pause that its host

@@ -25,7 +25,7 @@ use Rattle.mig_machine.specs.MachineSeen.{MachineSeen, calls_of, is_paused, log_
 use Rattle.mig_guest.specs.History.{no_history}
 use Rattle.mig_guest.specs.Pfns.{no_pfns}
 use Rattle.mig_machine.specs.Paced.{Paced, pfns_paced}
-use Rattle.mig_report.specs.declared.outcome.SaveSummary.{SaveSummary}
+use Rattle.mig_tool_report.specs.declared.outcome.SaveSummary.{SaveSummary}
 
 -- ---- what is read
 

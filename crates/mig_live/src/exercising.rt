@@ -10,10 +10,10 @@ ghost use Rattle.mig_libxl.specs.Canon.{canon_any};
 ghost use Rattle.mig_libxl_form.specs.Spelled.{AcceptedStream};
 ghost use Rattle.mig_pvtables.specs.Blank.{blank as blank_form};
 ghost use Rattle.mig_pvtables.specs.Whole.{IsWhole};
-ghost use Rattle.mig_report.specs.Report.{Reports, memory_line};
-ghost use Rattle.mig_report.specs.Words.{IsFrameNumber};
-ghost use Rattle.mig_report.specs.declared.outcome.Outcome.TheVariants as outcomes;
-ghost use Rattle.mig_report.specs.declared.status.Status.TheVariants as statuses;
+ghost use Rattle.mig_tool_report.specs.Report.{Reports, memory_line};
+ghost use Rattle.mig_tool_report.specs.Words.{IsFrameNumber};
+ghost use Rattle.mig_tool_report.specs.declared.outcome.Outcome.TheVariants as outcomes;
+ghost use Rattle.mig_tool_report.specs.declared.status.Status.TheVariants as statuses;
 ghost use Rattle.mig_live.specs.Exercises.{Exercises, ExerciseSaved, SaysExercise};
 ghost use Rattle.mig_live.specs.LiveSaves.{IsUnasked, WroteLiveTo, paused_host};
 
@@ -24,8 +24,8 @@ use mig_guest::Guest;
 use mig_image::{Host, HostAnswer, SoundAnswer, guest_of, host_of, hosted_is_seen, hosted_is_sound};
 use mig_libxl::{read_any, write_any};
 use mig_machine::ScriptMachine;
-use mig_report::{ExerciseSummary, Outcome, SaveSummary, Status, finish, put_exercised};
 use mig_restore::StreamAnswer;
+use mig_tool_report::{ExerciseSummary, Outcome, SaveSummary, Status, finish, put_exercised};
 use std::alloc::Global;
 
 /// The machine frame of the first frame of a guest that is restored.

@@ -4,7 +4,7 @@
 //! machine that are saved, and that what an exercise wrote is read, restored and seen again. Left to others: how an image and a
 //! script are read (mig_image, mig_machine_script), how a machine runs its script (mig_machine), how it is saved (mig_dirtysave), that
 //! its rounds are those that host and script tell (mig_machine), the host and the script of an exercise (mig_exercise), which
-//! command the words name, and the lines (mig_report).
+//! command the words name, and the lines (mig_tool_report).
 //!
 //! What the layers above rely on: of an input that tells its bytes each status of `save` says what specs/Saves tells; what
 //! `exercise` comes to is that of specs/Exercises; the line is that of the status, and of a refusal that of the input; and a

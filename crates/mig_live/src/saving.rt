@@ -5,12 +5,12 @@ ghost use Rattle.mig_bytes.specs.Bytes.{AppendsPart};
 ghost use Rattle.mig_bytes.specs.Faults.{Rose, RisesOnReadFault};
 ghost use Rattle.mig_headers.specs.declared.unsound.Unsound.{Unsound};
 ghost use Rattle.mig_dirtysave.specs.declared.answer.SaveAnswer.TheVariants as answers;
-ghost use Rattle.mig_report.specs.Report.{saved_line};
-ghost use Rattle.mig_report.specs.declared.outcome.Outcome.TheVariants as outcomes;
-ghost use Rattle.mig_report.specs.declared.outcome.Refusal.TheVariants as refusals;
-ghost use Rattle.mig_report.specs.declared.status.Status.TheVariants as statuses;
+ghost use Rattle.mig_tool_report.specs.Report.{saved_line};
+ghost use Rattle.mig_tool_report.specs.declared.outcome.Outcome.TheVariants as outcomes;
+ghost use Rattle.mig_tool_report.specs.declared.outcome.Refusal.TheVariants as refusals;
+ghost use Rattle.mig_tool_report.specs.declared.status.Status.TheVariants as statuses;
 ghost use Rattle.mig_dirtysave.specs.Unread.{WroteNoStream};
-ghost use Rattle.mig_report.specs.Statuses.{EndsWithOwnLine, InputRises, PutsLineOrFault, ReportsStatus};
+ghost use Rattle.mig_tool_report.specs.Statuses.{EndsWithOwnLine, InputRises, PutsLineOrFault, ReportsStatus};
 ghost use Rattle.mig_live.specs.Saves.{BreaksOff, HasSaveRefusal, RefusesPause, SaysSaved};
 ghost use Rattle.mig_live.specs.LiveSaves.{IsUnasked, WroteLive, WroteLiveTo};
 ghost use Rattle.mig_live.specs.SaveSteps.{ReadsHostToSave, ReadsHostAndScript, stop_of_image, stop_of_script, outcome_of_stop, ComesToNone};
@@ -21,7 +21,7 @@ use mig_guest::mig_machine_api::Machine;
 use mig_image::{Host, ImageAnswer, read_host};
 use mig_machine::{ScriptMachine, rounds_are_paced, script_machine_is_at};
 use mig_machine_script::{Script, ScriptAnswer};
-use mig_report::{Outcome, Refusal, SaveSummary, Status, finish, put_saved};
+use mig_tool_report::{Outcome, Refusal, SaveSummary, Status, finish, put_saved};
 use std::alloc::Global;
 
 /// Wider hosts aren't saved.

@@ -13,18 +13,18 @@ use Rattle.mig_relay.specs.Relaying.{PassedWhole, PassedPart, IsRelayed}
 use Rattle.mig_relay.specs.declared.answer.RelayAnswer.{RelayAnswer}
 use Rattle.mig_relay.specs.declared.answer.RelayAnswer.TheVariants as answers
 use Rattle.mig_relay.specs.declared.answer.Relayed.{Relayed}
-use Rattle.mig_report.specs.Outcome.{status_of}
-use Rattle.mig_report.specs.Report.{relayed_line}
-use Rattle.mig_report.specs.declared.outcome.Outcome.{Outcome}
-use Rattle.mig_report.specs.declared.outcome.Refusal.{Refusal}
-use Rattle.mig_report.specs.declared.outcome.Refusal.TheVariants as refusals
-use Rattle.mig_report.specs.declared.outcome.RelaySummary.{RelaySummary}
-use Rattle.mig_report.specs.declared.status.Status.{Status}
-use Rattle.mig_report.specs.declared.status.Status.TheVariants as statuses
+use Rattle.mig_tool_report.specs.Outcome.{status_of}
+use Rattle.mig_tool_report.specs.Report.{relayed_line}
+use Rattle.mig_tool_report.specs.declared.outcome.Outcome.{Outcome}
+use Rattle.mig_tool_report.specs.declared.outcome.Refusal.{Refusal}
+use Rattle.mig_tool_report.specs.declared.outcome.Refusal.TheVariants as refusals
+use Rattle.mig_tool_report.specs.declared.outcome.RelaySummary.{RelaySummary}
+use Rattle.mig_tool_report.specs.declared.status.Status.{Status}
+use Rattle.mig_tool_report.specs.declared.status.Status.TheVariants as statuses
 use Rattle.mig_bytes.proofs.Joins.{passes_not}
 use Rattle.mig_passing.specs.RelaySteps.{outcome_of_relay, summary_of_relay}
 use Rattle.mig_passing.specs.Relays.{FrontRelayed, ReportStopped, PassableFront, PassedOn, SaysRelayed, counts_of}
-use Rattle.mig_report.specs.Statuses.{PutsLineOrFault}
+use Rattle.mig_tool_report.specs.Statuses.{PutsLineOrFault}
 
 -- ---- what was passed on
 

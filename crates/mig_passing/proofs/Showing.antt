@@ -6,8 +6,8 @@ use Rattle.serde_json.specs.Data.{Data}
 use Rattle.mig_bytes.specs.Bytes.{AppendsPart}
 use Rattle.mig_headers.specs.declared.fault.Cause.{Cause}
 use Rattle.mig_headers.specs.declared.fault.Place.{Place}
-use Rattle.mig_report.specs.declared.outcome.Outcome.{Outcome}
-use Rattle.mig_report.specs.declared.outcome.Outcome.TheVariants as outcomes
+use Rattle.mig_tool_report.specs.declared.outcome.Outcome.{Outcome}
+use Rattle.mig_tool_report.specs.declared.outcome.Outcome.TheVariants as outcomes
 use Rattle.mig_show.specs.Shows.{Shows, tree_line}
 use Rattle.mig_show.specs.declared.viewer.ShowAnswer.{ShowAnswer}
 use Rattle.mig_show.specs.declared.viewer.ShowAnswer.TheVariants as answers

@@ -9,11 +9,11 @@ use Rattle.mig_libxl_form.specs.Stream.{StreamOf}
 use Rattle.mig_relay.specs.Streams.{open_stream_at}
 use Rattle.mig_relay.specs.Relaying.{PassedWhole, PassedPart, RefusedPart, IsCutPart, IsWrittenPart}
 use Rattle.mig_relay.specs.declared.answer.Relayed.{Relayed}
-use Rattle.mig_report.specs.Report.{Reports, relayed_line, write_fault_line}
-use Rattle.mig_report.specs.declared.outcome.RelaySummary.{RelaySummary}
-use Rattle.mig_report.specs.declared.status.Status.{Status}
-use Rattle.mig_report.specs.declared.status.Status.TheVariants as statuses
-use Rattle.mig_report.specs.Statuses.{Written}
+use Rattle.mig_tool_report.specs.Report.{Reports, relayed_line, write_fault_line}
+use Rattle.mig_tool_report.specs.declared.outcome.RelaySummary.{RelaySummary}
+use Rattle.mig_tool_report.specs.declared.status.Status.{Status}
+use Rattle.mig_tool_report.specs.declared.status.Status.TheVariants as statuses
+use Rattle.mig_tool_report.specs.Statuses.{Written}
 
 -- a front of the input may pass, and rest follows it
 pub record PassableFront (input rest : List ℕ) : Type 0 where

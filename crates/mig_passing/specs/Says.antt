@@ -4,11 +4,11 @@ use Rattle.std.specs.Io.KnownBytes.{Appends}
 use Rattle.mig_bytes.specs.Bytes.{AppendsPart}
 use Rattle.mig_relay.specs.Streams.{IsOpenRefused}
 use Rattle.mig_relay.specs.Relaying.{PassedPart}
-use Rattle.mig_report.specs.Statuses.{OutcomeSays, StatusSays, Written}
-use Rattle.mig_report.specs.declared.outcome.Outcome.{Outcome}
-use Rattle.mig_report.specs.declared.outcome.Refusal.{Refusal}
-use Rattle.mig_report.specs.declared.outcome.Refusal.TheVariants as refusals
-use Rattle.mig_report.specs.declared.status.Status.{Status}
+use Rattle.mig_tool_report.specs.Statuses.{OutcomeSays, StatusSays, Written}
+use Rattle.mig_tool_report.specs.declared.outcome.Outcome.{Outcome}
+use Rattle.mig_tool_report.specs.declared.outcome.Refusal.{Refusal}
+use Rattle.mig_tool_report.specs.declared.outcome.Refusal.TheVariants as refusals
+use Rattle.mig_tool_report.specs.declared.status.Status.{Status}
 use Rattle.mig_passing.specs.Relays.{FrontRelayed}
 use Rattle.mig_passing.specs.Shown.{FrontShown, PartShown}
 

@@ -6,8 +6,8 @@ use Rattle.mig_bytes.specs.Bytes.{AppendsPart}
 use Rattle.mig_headers.specs.declared.fault.Cause.{Cause}
 use Rattle.mig_headers.specs.declared.fault.Place.{Place}
 use Rattle.mig_show.specs.Shows.{Shows, tree_line}
-use Rattle.mig_report.specs.declared.status.Status.{Status}
-use Rattle.mig_report.specs.declared.status.Status.TheVariants as statuses
+use Rattle.mig_tool_report.specs.declared.status.Status.{Status}
+use Rattle.mig_tool_report.specs.declared.status.Status.TheVariants as statuses
 use Rattle.mig_passing.specs.Relays.{PassableFront}
 
 -- a front of the input may pass, rest follows it, and the text of its records was written

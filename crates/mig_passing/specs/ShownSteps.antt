@@ -4,9 +4,9 @@ use Rattle.mig_headers.specs.declared.fault.Cause.{Cause}
 use Rattle.mig_headers.specs.declared.fault.Place.{Place}
 use Rattle.mig_show.specs.declared.viewer.ShowAnswer.{ShowAnswer}
 use Rattle.mig_show.specs.declared.viewer.ShowAnswer.TheVariants as answers
-use Rattle.mig_report.specs.declared.outcome.Outcome.{Outcome}
-use Rattle.mig_report.specs.declared.outcome.Outcome.TheVariants as outcomes
-use Rattle.mig_report.specs.declared.outcome.Refusal.TheVariants as refusals
+use Rattle.mig_tool_report.specs.declared.outcome.Outcome.{Outcome}
+use Rattle.mig_tool_report.specs.declared.outcome.Outcome.TheVariants as outcomes
+use Rattle.mig_tool_report.specs.declared.outcome.Refusal.TheVariants as refusals
 
 -- the outcome where the whole text was written
 abbrev pub outcome_of_shown : Option (Place × Cause) → Outcome

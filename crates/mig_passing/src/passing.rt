@@ -2,17 +2,17 @@ ghost use Rattle.std.specs.Prelude.{◌≡◌, ◌≢◌, ◌≤◌, ◌⊎◌};
 ghost use Rattle.std.specs.Io.KnownBytes.{Appends};
 ghost use Rattle.mig_bytes.specs.Bytes.{AppendsPart};
 ghost use Rattle.mig_bytes.specs.Faults.{Rose};
-ghost use Rattle.mig_report.specs.Report.{relayed_line};
-ghost use Rattle.mig_report.specs.declared.status.Status.TheVariants as statuses;
+ghost use Rattle.mig_tool_report.specs.Report.{relayed_line};
+ghost use Rattle.mig_tool_report.specs.declared.status.Status.TheVariants as statuses;
 ghost use Rattle.mig_passing.specs.Says.{HasOpenRefusal};
 ghost use Rattle.mig_passing.specs.Relays.{RelayBreaksOff, SaysRelayed};
 ghost use Rattle.mig_passing.specs.RelaySteps.{outcome_of_relay, summary_of_relay};
 ghost use Rattle.mig_passing.specs.Says.{RelaySays};
-ghost use Rattle.mig_report.specs.Statuses.{EndsWithOwnLine, InputRises, PutsLineOrFault, ReportsStatus};
+ghost use Rattle.mig_tool_report.specs.Statuses.{EndsWithOwnLine, InputRises, PutsLineOrFault, ReportsStatus};
 
 use mig_bytes::{Sink, Source};
 use mig_relay::{RelayAnswer, Relayed, relay as pass_on};
-use mig_report::{Outcome, Refusal, RelaySummary, Status, finish, put_relayed};
+use mig_tool_report::{Outcome, Refusal, RelaySummary, Status, finish, put_relayed};
 use std::alloc::Global;
 
 /// The outcome where no stream was passed on to its end.

@@ -1,19 +1,19 @@
 ghost use Rattle.std.specs.Prelude.{◌≡◌, ◌≢◌, ◌⊎◌, string_bytes};
 ghost use Rattle.std.specs.Io.KnownBytes.{Appends};
 ghost use Rattle.mig_bytes.specs.Bytes.{AppendsPart};
-ghost use Rattle.mig_report.specs.Outcome.{status_of};
-ghost use Rattle.mig_report.specs.declared.outcome.Outcome.TheVariants as outcomes;
-ghost use Rattle.mig_report.specs.declared.status.Status.TheVariants as statuses;
+ghost use Rattle.mig_tool_report.specs.Outcome.{status_of};
+ghost use Rattle.mig_tool_report.specs.declared.outcome.Outcome.TheVariants as outcomes;
+ghost use Rattle.mig_tool_report.specs.declared.status.Status.TheVariants as statuses;
 ghost use Rattle.mig_passing.specs.Says.{HasOpenRefusal};
 ghost use Rattle.mig_passing.specs.Says.{ShowComes, ShowSays};
 ghost use Rattle.mig_passing.specs.Shown.{SaysShown};
 ghost use Rattle.mig_passing.specs.ShownSteps.{outcome_of_shown, outcome_of_unshown};
-ghost use Rattle.mig_report.specs.Statuses.{InputRises, NoneFailed, OutputRises, ReportsStatus};
+ghost use Rattle.mig_tool_report.specs.Statuses.{InputRises, NoneFailed, OutputRises, ReportsStatus};
 
 use mig_bytes::{Sink, Source, put_all};
 use mig_headers::{Cause, Place};
-use mig_report::{Outcome, Refusal, Status, finish};
 use mig_show::{ShowAnswer, ShownText, show_text};
+use mig_tool_report::{Outcome, Refusal, Status, finish};
 use std::alloc::Global;
 
 /// The outcome where nothing is shown.

@@ -3,10 +3,10 @@ use Rattle.mig_tool.proofs.Common.{◌≡◌, ◌⊎◌, ℕ, List, Option, None
 use mathlib.Core.Logic.{inl, inr}
 use Rattle.std.specs.Prelude.{◌≢◌, ◌≤◌}
 use Rattle.mig_bytes.specs.Faults.{Rose}
-use Rattle.mig_report.specs.declared.status.Status.{Status}
-use Rattle.mig_report.specs.declared.status.Status.TheVariants as statuses
-use Rattle.mig_report.specs.Report.{Reports, exercised_line, memory_line}
-use Rattle.mig_report.specs.Statuses.{EndsWithOwnLine, InputRises, NoneFailed, OutputRises, PutsLineOf, ReportsStatus}
+use Rattle.mig_tool_report.specs.declared.status.Status.{Status}
+use Rattle.mig_tool_report.specs.declared.status.Status.TheVariants as statuses
+use Rattle.mig_tool_report.specs.Report.{Reports, exercised_line, memory_line}
+use Rattle.mig_tool_report.specs.Statuses.{EndsWithOwnLine, InputRises, NoneFailed, OutputRises, PutsLineOf, ReportsStatus}
 use Rattle.mig_passing.specs.Relays.{RelayBreaksOff}
 use Rattle.mig_live.specs.Exercises.{SaysExercise}
 use Rattle.mig_live.specs.Saves.{BreaksOff}

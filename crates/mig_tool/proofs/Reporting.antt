@@ -4,8 +4,8 @@ use mathlib.Core.Logic.{inl, inr}
 use Rattle.mig_bytes.specs.Faults.{Rose}
 use Rattle.mig_guest.specs.Hosts.{HostOf}
 use Rattle.mig_host_view.specs.View.{view}
-use Rattle.mig_report.specs.declared.status.Status.{Status}
-use Rattle.mig_report.specs.declared.status.Status.TheVariants as statuses
+use Rattle.mig_tool_report.specs.declared.status.Status.{Status}
+use Rattle.mig_tool_report.specs.declared.status.Status.TheVariants as statuses
 use Rattle.mig_machine_script.specs.ScriptLines.{LineOf}
 use Rattle.mig_commands.proofs.Once.{accepted_once, legacy_once, walk_image_once, walk_once}
 use Rattle.mig_passing.proofs.Relaying.{front_once, passed_front}

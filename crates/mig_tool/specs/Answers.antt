@@ -8,13 +8,13 @@ use Rattle.mig_libxl.specs.Canon.{canon_any}
 use Rattle.mig_libxl_form.specs.Spelled.{AcceptedStream}
 use Rattle.mig_legacy.specs.Spelled.{AcceptedLegacy}
 use Rattle.mig_relay.specs.Relaying.{PassedPart}
-use Rattle.mig_report.specs.declared.command.Command.{Command}
-use Rattle.mig_report.specs.declared.command.Command.TheVariants.{Normalise, Restore, Verify, Convert, Save, Exercise, Walk, WalkImage, Relay, Show}
-use Rattle.mig_report.specs.declared.outcome.Refusal.{Refusal}
-use Rattle.mig_report.specs.declared.status.Status.{Status}
-use Rattle.mig_report.specs.declared.status.Status.TheVariants as statuses
-use Rattle.mig_report.specs.Report.{ok_line, saved_line, exercised_line, walked_line, relayed_line}
-use Rattle.mig_report.specs.Statuses.{EndsWithOwnLine, InputRises, IsStatusLine, NoneFailed, PutsLineOf, PutsLineOrFault, ReportsStatus, StatusSays, Written}
+use Rattle.mig_tool_report.specs.declared.command.Command.{Command}
+use Rattle.mig_tool_report.specs.declared.command.Command.TheVariants.{Normalise, Restore, Verify, Convert, Save, Exercise, Walk, WalkImage, Relay, Show}
+use Rattle.mig_tool_report.specs.declared.outcome.Refusal.{Refusal}
+use Rattle.mig_tool_report.specs.declared.status.Status.{Status}
+use Rattle.mig_tool_report.specs.declared.status.Status.TheVariants as statuses
+use Rattle.mig_tool_report.specs.Report.{ok_line, saved_line, exercised_line, walked_line, relayed_line}
+use Rattle.mig_tool_report.specs.Statuses.{EndsWithOwnLine, InputRises, IsStatusLine, NoneFailed, PutsLineOf, PutsLineOrFault, ReportsStatus, StatusSays, Written}
 use Rattle.mig_commands.specs.Addresses.{AddressReported, FrameInHost, FrameInStream, HostHasFrame, StreamHasFrame}
 use Rattle.mig_commands.specs.Fronts.{Normalised, PartWritten, Restored, Verified, restored_text}
 use Rattle.mig_commands.specs.Refusals.{HasLegacyRefusal, HasStreamRefusal, HasWalkImageRefusal, HasWalkRefusal}

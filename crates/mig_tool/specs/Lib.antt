@@ -1,5 +1,5 @@
 pub mod Answers
-pub use Rattle.mig_report.specs.Words
-pub use Rattle.mig_report.specs.Report
-pub use Rattle.mig_report.specs.Outcome
-pub use Rattle.mig_report.specs.Statuses
+pub use Rattle.mig_tool_report.specs.Words
+pub use Rattle.mig_tool_report.specs.Report
+pub use Rattle.mig_tool_report.specs.Outcome
+pub use Rattle.mig_tool_report.specs.Statuses

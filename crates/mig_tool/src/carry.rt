@@ -1,13 +1,13 @@
 ghost use Rattle.std.specs.Prelude.{◌≡◌, ℕ};
-ghost use Rattle.mig_report.specs.Words.{IsBase, IsFrameNumber};
-ghost use Rattle.mig_report.specs.declared.command.Command.TheVariants as commands;
+ghost use Rattle.mig_tool_report.specs.Words.{IsBase, IsFrameNumber};
+ghost use Rattle.mig_tool_report.specs.declared.command.Command.TheVariants as commands;
 ghost use Rattle.mig_tool.specs.Answers.{CarriedOut};
 
 use mig_bytes::{Sink, Source};
 use mig_commands::{convert, normalise, restore, verify, walk, walk_image};
 use mig_live::{exercise_told, save};
 use mig_passing::{relay, show};
-use mig_report::{Command, Status};
+use mig_tool_report::{Command, Status};
 use std::alloc::Global;
 
 /// Carries out a command.

@@ -12,7 +12,7 @@ mod run;
 
 use crate::run::run;
 use mig_bytes::{InSource, OutSink};
-use mig_report::{Outcome, Status, put_line};
+use mig_tool_report::{Outcome, Status, put_line};
 use std::alloc::Global;
 use std::{env, io};
 use std::io::{BufReader, ErrorKind};

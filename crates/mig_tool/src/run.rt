@@ -3,23 +3,23 @@ ghost use Rattle.mig_bytes.specs.Faults.{Rose};
 ghost use Rattle.mig_guest.specs.Guests.{GuestOf};
 ghost use Rattle.mig_guest.specs.Hosts.{HostOf};
 ghost use Rattle.mig_machine_script.specs.ScriptLines.{LineOf};
-ghost use Rattle.mig_report.specs.Statuses.{InputRises, NoneFailed};
+ghost use Rattle.mig_tool_report.specs.Statuses.{InputRises, NoneFailed};
 ghost use Rattle.mig_passing.specs.Relays.{Relays};
 ghost use Rattle.mig_passing.specs.Shown.{SaysShown};
 ghost use Rattle.mig_tool.specs.Answers.{form_of, AcceptedIn, RefusedIn, SaysOf, MayWrite, WriteRose, IsLine, HasOwnLine, PutsOwnLine, WritesRefused};
 ghost use Rattle.mig_live.specs.Exercises.{SaysExercise};
 ghost use Rattle.mig_live.specs.LiveSaves.{HasHostAndScript};
 ghost use Rattle.mig_live.specs.Saves.{BreaksSave, IsOfInput, IsSavedOrPaused};
-ghost use Rattle.mig_report.specs.Report.{Reports, usage_line};
-ghost use Rattle.mig_report.specs.Words.{texts_of, Names};
-ghost use Rattle.mig_report.specs.declared.command.Command.{Command};
-ghost use Rattle.mig_report.specs.declared.command.Command.TheVariants as commands;
-ghost use Rattle.mig_report.specs.declared.outcome.Refusal.{Refusal};
-ghost use Rattle.mig_report.specs.declared.status.Status.TheVariants as statuses;
+ghost use Rattle.mig_tool_report.specs.Report.{Reports, usage_line};
+ghost use Rattle.mig_tool_report.specs.Words.{texts_of, Names};
+ghost use Rattle.mig_tool_report.specs.declared.command.Command.{Command};
+ghost use Rattle.mig_tool_report.specs.declared.command.Command.TheVariants as commands;
+ghost use Rattle.mig_tool_report.specs.declared.outcome.Refusal.{Refusal};
+ghost use Rattle.mig_tool_report.specs.declared.status.Status.TheVariants as statuses;
 
 use crate::carry::carry_out;
 use mig_bytes::{Sink, Source};
-use mig_report::{Outcome, Status, command_in, finish};
+use mig_tool_report::{Outcome, Status, command_in, finish};
 use std::alloc::Global;
 
 /// Does what the words say: reads `input`, writes on `out`, and puts the line of the status on `report`.

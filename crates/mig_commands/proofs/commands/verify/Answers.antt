@@ -1,7 +1,7 @@
 use Rattle.mig_commands.proofs.Common.{Ok, Err, refl, ◌∙◌, rules, HasStreamRefusal}
 use Rattle.std.specs.FinMap as maps
 use Rattle.mig_commands.proofs.Reporting.{not_read, verified}
-use Rattle.mig_report.proofs.Statuses.{line_reported, says_of}
+use Rattle.mig_tool_report.proofs.Statuses.{line_reported, says_of}
 use Rattle.mig_commands.proofs.commands.verify.Goals as goal
 
 pub returns-in-Err-clause-said : goal.returns-in-Err-clause-said

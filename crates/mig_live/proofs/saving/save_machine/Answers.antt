@@ -6,7 +6,7 @@ use Rattle.mig_machine.specs.MachineSeen.{history_of, machine_state}
 use Rattle.mig_dirtysave.specs.SaveAnswers.{IsTrusted}
 use Rattle.mig_dirtysave.specs.declared.answer.SaveReport.{SaveReport}
 use Rattle.mig_dirtysave.specs.declared.answer.SaveAnswer.{SaveAnswer}
-use Rattle.mig_report.specs.declared.outcome.Outcome.TheVariants as outcomes
+use Rattle.mig_tool_report.specs.declared.outcome.Outcome.TheVariants as outcomes
 use Rattle.mig_dirtysave_rounds.specs.Live.{HasRounds, StaysSame}
 use Rattle.mig_live.specs.SaveSteps.{ComesToNone}
 use Rattle.mig_live.proofs.SaveOutcomes.{unwritten}

@@ -1,7 +1,7 @@
 use Rattle.mig_passing.proofs.Common.{Written}
 use mathlib.Core.Logic.{inr}
 use Rattle.mig_passing.proofs.Relaying.{passed_says, passed_relayed, passed_breaks, passed_line, unpassed_comes, unpassed_relayed}
-use Rattle.mig_report.proofs.Statuses.{says_of, line_reported}
+use Rattle.mig_tool_report.proofs.Statuses.{says_of, line_reported}
 use Rattle.mig_passing.proofs.passing.relay.Goals as goal
 
 pub returns-in-Ok-clause-said : goal.returns-in-Ok-clause-said

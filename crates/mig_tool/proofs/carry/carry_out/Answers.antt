@@ -1,6 +1,6 @@
 use Rattle.mig_tool.proofs.Common.{Written, refl, sym}
 use mathlib.Core.Logic.{inl, inr}
-use Rattle.mig_report.specs.declared.command.Command.TheVariants as commands
+use Rattle.mig_tool_report.specs.declared.command.Command.TheVariants as commands
 use Rattle.mig_tool.proofs.Carrying.{of_same, none_failed, rose, untouched, relay_rose, save_rose, exercise_came}
 use Rattle.mig_tool.proofs.carry.carry_out.Goals as goal
 

@@ -1,5 +1,5 @@
 use Rattle.mig_tool.proofs.Common.{Written, Exercise, Save, Relay, Show}
-use Rattle.mig_report.proofs.Naming.{same_command}
+use Rattle.mig_tool_report.proofs.Naming.{same_command}
 use Rattle.mig_tool.proofs.Carrying.{of_same}
 use Rattle.mig_tool.proofs.Reporting.{accepted_done, refused_refused, saved_done, input_rose, refused_unbroken}
 use Rattle.mig_tool.proofs.run.run.Goals as goal

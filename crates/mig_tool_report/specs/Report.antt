@@ -1,0 +1,89 @@
+-- The lines that the program puts on its report.
+use Rattle.std.specs.Prelude.{◌≡◌, ◌≤◌, ◌⊎◌, ℕ, List, [], ◌++◌, codes, decimal, Option, Some, None}
+use Rattle.std.specs.Io.KnownBytes.{Appends}
+use Rattle.mig_bytes.specs.Bytes.{AppendsPart}
+use Rattle.mig_bytes.specs.Faults.{Rose}
+use Rattle.mig_headers.specs.declared.kind.Kind.{Kind}
+use Rattle.mig_headers.specs.declared.kind.Kind.TheVariants.{Pv, Hvm}
+use Rattle.mig_headers_text.specs.ImageTexts.{text_of_image_place, text_of_image_cause}
+use Rattle.mig_headers_text.specs.LegacyTexts.{text_of_legacy_place, text_of_legacy_cause}
+use Rattle.mig_headers_text.specs.Texts.{text_of_place, text_of_cause}
+use Rattle.mig_headers_text.specs.UnsoundTexts.{text_of_unsound}
+use Rattle.mig_tool_report.specs.declared.outcome.ExerciseSummary.{ExerciseSummary}
+use Rattle.mig_tool_report.specs.declared.outcome.Refusal.{Refusal}
+use Rattle.mig_tool_report.specs.declared.outcome.Refusal.TheVariants.{Stream, Legacy, Image, BadLine, TooLong, Pause, Host, Walk}
+use Rattle.mig_tool_report.specs.declared.outcome.RelaySummary.{RelaySummary}
+use Rattle.mig_tool_report.specs.declared.outcome.SaveSummary.{SaveSummary}
+use Rattle.mig_tool_report.specs.declared.outcome.Summary.{Summary}
+use Rattle.mig_tool_report.specs.declared.outcome.WalkEnd.{WalkEnd}
+use Rattle.mig_tool_report.specs.declared.outcome.WalkEnd.TheVariants.{NoVcpu, NotCanonical, Absent, NotTable}
+use Rattle.mig_tool_report.specs.declared.outcome.WalkSummary.{WalkSummary}
+
+-- why an address means no frame: `NUMBER NAME`, and the vCPU's id or the level
+abbrev pub text_of_walk_end : WalkEnd → List ℕ
+text_of_walk_end (NoVcpu id) = codes "1 NoVcpu " ++ decimal id
+text_of_walk_end NotCanonical = codes "2 NotCanonical"
+text_of_walk_end (Absent level) = codes "3 Absent " ++ decimal level
+text_of_walk_end (NotTable level) = codes "4 NotTable " ++ decimal level
+
+-- `PLACE: NUMBER NAME`, and the cause's arguments
+abbrev pub refusal_text : Refusal → List ℕ
+refusal_text (Stream place cause) = text_of_place place ++ (codes ": " ++ text_of_cause cause)
+refusal_text (Legacy place cause) = text_of_legacy_place place ++ (codes ": " ++ text_of_legacy_cause cause)
+refusal_text (Image place cause) = text_of_image_place place ++ (codes ": " ++ text_of_image_cause cause)
+refusal_text (BadLine line) = (codes "Script " ++ decimal line) ++ codes ": 1 BadLine"
+refusal_text TooLong = codes "Script: 2 TooLong"
+refusal_text (Pause unsound) = codes "Pause: " ++ text_of_unsound unsound
+refusal_text (Host unsound) = codes "Host: " ++ text_of_unsound unsound
+refusal_text (Walk end) = codes "Walk: " ++ text_of_walk_end end
+
+abbrev pub refusal_line : Refusal → List ℕ
+refusal_line refusal = codes "refused: " ++ (refusal_text refusal ++ codes "\n")
+
+abbrev pub usage_line : List ℕ
+usage_line = codes "usage: restore [BASE] | verify | normalise | convert | save | exercise SEED FRAMES | walk VCPU ADDRESS | walkimage VCPU ADDRESS | relay | show\n"
+
+abbrev pub read_fault_line : List ℕ
+read_fault_line = codes "fault: read\n"
+
+abbrev pub write_fault_line : List ℕ
+write_fault_line = codes "fault: write\n"
+
+abbrev pub memory_line : List ℕ
+memory_line = codes "fault: memory\n"
+
+abbrev pub kind_name : Kind → List ℕ
+kind_name Pv = codes "pv"
+kind_name Hvm = codes "hvm"
+
+-- ` differs D` of a stream with a VERIFY
+abbrev pub differs_text : Option ℕ → List ℕ
+differs_text None = []
+differs_text (Some n) = codes " differs " ++ decimal n
+
+-- `ok version V kind K frames N records R`, and ` differs D` where the stream has a VERIFY
+abbrev pub ok_line : Summary → List ℕ
+ok_line s =
+    (codes "ok version " ++ decimal s.version) ++ (codes " kind " ++ (kind_name s.kind
+    ++ ((codes " frames " ++ decimal s.frames) ++ ((codes " records " ++ decimal s.records) ++ (differs_text s.differs ++ codes "\n")))))
+
+-- `ok rounds R entries N`
+abbrev pub saved_line : SaveSummary → List ℕ
+saved_line s = (codes "ok rounds " ++ decimal s.rounds) ++ ((codes " entries " ++ decimal s.entries) ++ codes "\n")
+
+-- `ok frames N rounds R entries E canon B`
+abbrev pub exercised_line : ExerciseSummary → List ℕ
+exercised_line s =
+    (codes "ok frames " ++ decimal s.frames) ++ ((codes " rounds " ++ decimal s.rounds) ++ ((codes " entries " ++ decimal s.entries) ++ ((codes " canon " ++ decimal s.canon) ++ codes "\n")))
+
+-- `ok frame F type T`
+abbrev pub walked_line : WalkSummary → List ℕ
+walked_line s = (codes "ok frame " ++ decimal s.frame) ++ ((codes " type " ++ decimal s.kind) ++ codes "\n")
+
+-- `ok records R bytes B`
+abbrev pub relayed_line : RelaySummary → List ℕ
+relayed_line s = (codes "ok records " ++ decimal s.records) ++ ((codes " bytes " ++ decimal s.bytes) ++ codes "\n")
+
+-- the report got the line, and its count stands as it was; or a write failed, and it got some first bytes, but not all
+abbrev pub Reports : List ℕ → Option (List ℕ) → Option (List ℕ) → ℕ → ℕ → Type 0
+Reports line old new before now = ((now ≡ before) × Appends old new line) ⊎ ((before ≤ now) × Rose before now × AppendsPart old new line)

@@ -1,0 +1,358 @@
+ghost use Rattle.std.specs.Prelude.{◌≡◌, ◌≤◌, ◌++◌, decimal};
+ghost use Rattle.mig_bytes.specs.Bytes.{Puts};
+ghost use Rattle.mig_bytes.specs.Faults.{HasCause};
+ghost use Rattle.mig_tool_report.specs.Outcome.{status_of, line_of};
+ghost use Rattle.mig_tool_report.specs.Report.{Reports, refusal_line, refusal_text, text_of_walk_end, kind_name, differs_text, ok_line, saved_line, exercised_line, walked_line, relayed_line};
+ghost use Rattle.mig_tool_report.specs.declared.outcome.Outcome.TheVariants as outcomes;
+ghost use Rattle.mig_tool_report.specs.declared.outcome.Refusal.TheVariants as refusals;
+
+use crate::status::Status;
+use mig_bytes::{Sink, WriteFailed, put_all};
+use mig_headers::{Cause, ImageCause, ImagePlace, Kind, LegacyCause, LegacyPlace, Place, Unsound};
+use mig_headers_text::{put_cause, put_image_cause, put_image_place, put_legacy_cause, put_legacy_place, put_number, put_place, put_unsound};
+
+/// The place and the cause of a refusal.
+#[derive(Clone, Copy, Debug, PartialEq, Eq)]
+pub enum Refusal {
+    /// Of a stream.
+    Stream(Place, Cause),
+    /// Of a legacy stream.
+    Legacy(LegacyPlace, LegacyCause),
+    /// Of the image of a host.
+    Image(ImagePlace, ImageCause),
+    /// This line of a script, counted from 1, is the first that is none.
+    BadLine(u64),
+    /// A script has too many bytes.
+    TooLong,
+    /// A host can't be seen as a guest as it stands at the pause.
+    Pause(Unsound),
+    /// A host can't be seen as a guest.
+    Host(Unsound),
+    /// An address means no frame.
+    Walk(WalkEnd),
+}
+
+/// Why an address means no frame.
+#[derive(Clone, Copy, Debug, PartialEq, Eq)]
+pub enum WalkEnd {
+    /// There is no vCPU with this id.
+    NoVcpu(u64),
+    /// Bits 63 to 47 of the address aren't all equal.
+    NotCanonical,
+    /// Its way ends at a table of this level, where the entry names nothing.
+    Absent(u64),
+    /// Its way ends at a frame that is no table of this level.
+    NotTable(u64),
+}
+
+/// What a command came to: its status, and what its line says.
+#[derive(Clone, Copy, Debug, PartialEq, Eq)]
+pub enum Outcome {
+    Done,
+    Refused(Refusal),
+    Usage,
+    ReadFault,
+    WriteFault,
+    Memory,
+}
+
+/// What is said of an accepted stream.
+#[derive(Clone, Copy, Debug, PartialEq, Eq)]
+pub struct Summary {
+    pub version: u64,
+    pub kind: Kind,
+    /// The frames of its guest.
+    pub frames: u64,
+    /// Its records, with END and the optional ones.
+    pub records: u64,
+    /// The entries behind a VERIFY record that differ from the frames before it; none where there is no such record.
+    pub differs: Option<u64>,
+}
+
+/// What is said of a host that was saved live.
+#[derive(Clone, Copy, Debug, PartialEq, Eq)]
+pub struct SaveSummary {
+    /// The rounds before the pause.
+    pub rounds: u64,
+    /// The entries of all PAGE_DATA records.
+    pub entries: u64,
+}
+
+/// What is said of the host of `exercise`, which was saved live.
+#[derive(Clone, Copy, Debug, PartialEq, Eq)]
+pub struct ExerciseSummary {
+    /// The frames of its guest.
+    pub frames: u64,
+    /// The rounds before the pause.
+    pub rounds: u64,
+    /// The entries of all PAGE_DATA records.
+    pub entries: u64,
+    /// The bytes of the guest's canonical stream.
+    pub canon: u64,
+}
+
+/// What is said of a stream that was passed on.
+#[derive(Clone, Copy, Debug, PartialEq, Eq)]
+pub struct RelaySummary {
+    /// The image's records, with END and the optional ones.
+    pub records: u64,
+    /// The bytes that were written.
+    pub bytes: u64,
+}
+
+/// What is said of an address that means a frame.
+#[derive(Clone, Copy, Debug, PartialEq, Eq)]
+pub struct WalkSummary {
+    /// The frame: of a stream's guest its PFN, of a host its machine frame.
+    pub frame: u64,
+    /// The number of its type.
+    pub kind: u64,
+}
+
+/// The status of an outcome.
+fn status(outcome: Outcome) -> Status
+    ensures { result ≡ status_of outcome }
+{
+    match outcome {
+        Outcome::Done => Status::Done,
+        Outcome::Refused(_) => Status::Refused,
+        Outcome::Usage => Status::Usage,
+        Outcome::ReadFault => Status::ReadFault,
+        Outcome::WriteFault => Status::WriteFault,
+        Outcome::Memory => Status::Memory,
+    }
+}
+
+/// Puts a text and a number behind it.
+fn put_field<R: Sink>(report: &mut R, text: &[u8], number: u64) -> Result<(), WriteFailed>
+    ensures bytes { Puts (text.now ++ decimal number) (R.written report.old) (R.written report.new) result }
+    ensures cause { HasCause (R.faults report.old) (R.faults report.new) result }
+{
+    put_all(report, text)?;
+    put_number(report, number)
+}
+
+/// Puts the place and the cause of a stream's refusal.
+fn put_stream_refusal<R: Sink>(
+    report: &mut R,
+    place: Place,
+    cause: Cause,
+) -> Result<(), WriteFailed>
+    ensures bytes { Puts (refusal_text (refusals.Stream place cause)) (R.written report.old) (R.written report.new) result }
+    ensures cause { HasCause (R.faults report.old) (R.faults report.new) result }
+{
+    put_place(report, place)?;
+    put_all(report, b": ")?;
+    put_cause(report, cause)
+}
+
+/// Puts the place and the cause of a legacy stream's refusal.
+fn put_legacy_refusal<R: Sink>(
+    report: &mut R,
+    place: LegacyPlace,
+    cause: LegacyCause,
+) -> Result<(), WriteFailed>
+    ensures bytes { Puts (refusal_text (refusals.Legacy place cause)) (R.written report.old) (R.written report.new) result }
+    ensures cause { HasCause (R.faults report.old) (R.faults report.new) result }
+{
+    put_legacy_place(report, place)?;
+    put_all(report, b": ")?;
+    put_legacy_cause(report, cause)
+}
+
+/// Puts the place and the cause of an image's refusal.
+fn put_image_refusal<R: Sink>(
+    report: &mut R,
+    place: ImagePlace,
+    cause: ImageCause,
+) -> Result<(), WriteFailed>
+    ensures bytes { Puts (refusal_text (refusals.Image place cause)) (R.written report.old) (R.written report.new) result }
+    ensures cause { HasCause (R.faults report.old) (R.faults report.new) result }
+{
+    put_image_place(report, place)?;
+    put_all(report, b": ")?;
+    put_image_cause(report, cause)
+}
+
+/// Puts the line of a script that is none.
+fn put_bad_line<R: Sink>(report: &mut R, line: u64) -> Result<(), WriteFailed>
+    ensures bytes { Puts (refusal_text (refusals.BadLine line)) (R.written report.old) (R.written report.new) result }
+    ensures cause { HasCause (R.faults report.old) (R.faults report.new) result }
+{
+    put_field(report, b"Script ", line)?;
+    put_all(report, b": 1 BadLine")
+}
+
+/// Puts what is in the way of seeing the host at the pause.
+fn put_pause_refusal<R: Sink>(report: &mut R, unsound: Unsound) -> Result<(), WriteFailed>
+    ensures bytes { Puts (refusal_text (refusals.Pause unsound)) (R.written report.old) (R.written report.new) result }
+    ensures cause { HasCause (R.faults report.old) (R.faults report.new) result }
+{
+    put_all(report, b"Pause: ")?;
+    put_unsound(report, unsound)
+}
+
+/// Puts what is in the way of seeing a host.
+fn put_host_refusal<R: Sink>(report: &mut R, unsound: Unsound) -> Result<(), WriteFailed>
+    ensures bytes { Puts (refusal_text (refusals.Host unsound)) (R.written report.old) (R.written report.new) result }
+    ensures cause { HasCause (R.faults report.old) (R.faults report.new) result }
+{
+    put_all(report, b"Host: ")?;
+    put_unsound(report, unsound)
+}
+
+/// Puts why an address means no frame.
+fn put_walk_end<R: Sink>(report: &mut R, end: WalkEnd) -> Result<(), WriteFailed>
+    ensures bytes { Puts (text_of_walk_end end) (R.written report.old) (R.written report.new) result }
+    ensures cause { HasCause (R.faults report.old) (R.faults report.new) result }
+{
+    match end {
+        WalkEnd::NoVcpu(id) => put_field(report, b"1 NoVcpu ", id),
+        WalkEnd::NotCanonical => put_all(report, b"2 NotCanonical"),
+        WalkEnd::Absent(level) => put_field(report, b"3 Absent ", level),
+        WalkEnd::NotTable(level) => put_field(report, b"4 NotTable ", level),
+    }
+}
+
+/// Puts that an address means no frame.
+fn put_walk_refusal<R: Sink>(report: &mut R, end: WalkEnd) -> Result<(), WriteFailed>
+    ensures bytes { Puts (refusal_text (refusals.Walk end)) (R.written report.old) (R.written report.new) result }
+    ensures cause { HasCause (R.faults report.old) (R.faults report.new) result }
+{
+    put_all(report, b"Walk: ")?;
+    put_walk_end(report, end)
+}
+
+/// Puts the place and the cause of a refusal.
+fn put_place_and_cause<R: Sink>(report: &mut R, refusal: Refusal) -> Result<(), WriteFailed>
+    ensures bytes { Puts (refusal_text refusal) (R.written report.old) (R.written report.new) result }
+    ensures cause { HasCause (R.faults report.old) (R.faults report.new) result }
+{
+    match refusal {
+        Refusal::Stream(place, cause) => put_stream_refusal(report, place, cause),
+        Refusal::Legacy(place, cause) => put_legacy_refusal(report, place, cause),
+        Refusal::Image(place, cause) => put_image_refusal(report, place, cause),
+        Refusal::BadLine(line) => put_bad_line(report, line),
+        Refusal::TooLong => put_all(report, b"Script: 2 TooLong"),
+        Refusal::Pause(unsound) => put_pause_refusal(report, unsound),
+        Refusal::Host(unsound) => put_host_refusal(report, unsound),
+        Refusal::Walk(end) => put_walk_refusal(report, end),
+    }
+}
+
+/// Puts the line of a refusal on the report.
+fn put_refusal<R: Sink>(report: &mut R, refusal: Refusal) -> Result<(), WriteFailed>
+    ensures bytes { Puts (refusal_line refusal) (R.written report.old) (R.written report.new) result }
+    ensures cause { HasCause (R.faults report.old) (R.faults report.new) result }
+{
+    put_all(report, b"refused: ")?;
+    put_place_and_cause(report, refusal)?;
+    put_all(report, b"\n")
+}
+
+/// Puts the line of an outcome on the report. It takes no memory.
+pub fn put_line<R: Sink>(report: &mut R, outcome: Outcome) -> Result<(), WriteFailed>
+    ensures bytes { Puts (line_of outcome) (R.written report.old) (R.written report.new) result }
+    ensures cause { HasCause (R.faults report.old) (R.faults report.new) result }
+{
+    match outcome {
+        Outcome::Done => put_all(report, b""),
+        Outcome::Refused(refusal) => put_refusal(report, refusal),
+        Outcome::Usage => put_all(
+            report,
+            b"usage: restore [BASE] | verify | normalise | convert | save | exercise SEED FRAMES | walk VCPU ADDRESS | walkimage VCPU ADDRESS | relay | show\n",
+        ),
+        Outcome::ReadFault => put_all(report, b"fault: read\n"),
+        Outcome::WriteFault => put_all(report, b"fault: write\n"),
+        Outcome::Memory => put_all(report, b"fault: memory\n"),
+    }
+}
+
+/// Puts the line of an outcome on the report, and answers its status: a report that fails changes none.
+pub fn finish<R: Sink>(report: &mut R, outcome: Outcome) -> Status
+    ensures status { result ≡ status_of outcome }
+    ensures line { Reports (line_of outcome) (R.written report.old) (R.written report.new) (R.faults report.old) (R.faults report.new) }
+    ensures quiet { outcome ≡ outcomes.Done → R.faults report.new ≡ R.faults report.old }
+    ensures later { R.faults report.old ≤ R.faults report.new }
+{
+    let _ = put_line(report, outcome);
+    status(outcome)
+}
+
+/// Puts the name of a kind of guest.
+fn put_kind<R: Sink>(report: &mut R, kind: Kind) -> Result<(), WriteFailed>
+    ensures bytes { Puts (kind_name kind) (R.written report.old) (R.written report.new) result }
+    ensures cause { HasCause (R.faults report.old) (R.faults report.new) result }
+{
+    match kind {
+        Kind::Pv => put_all(report, b"pv"),
+        Kind::Hvm => put_all(report, b"hvm"),
+    }
+}
+
+/// Puts how many entries behind a VERIFY differ, where there is one.
+fn put_differs<R: Sink>(report: &mut R, differs: Option<u64>) -> Result<(), WriteFailed>
+    ensures bytes { Puts (differs_text differs) (R.written report.old) (R.written report.new) result }
+    ensures cause { HasCause (R.faults report.old) (R.faults report.new) result }
+{
+    match differs {
+        Some(count) => put_field(report, b" differs ", count),
+        None => put_all(report, b""),
+    }
+}
+
+/// Puts what an accepted stream is on the report.
+pub fn put_ok<R: Sink>(report: &mut R, summary: Summary) -> Result<(), WriteFailed>
+    ensures bytes { Puts (ok_line summary) (R.written report.old) (R.written report.new) result }
+    ensures cause { HasCause (R.faults report.old) (R.faults report.new) result }
+{
+    put_field(report, b"ok version ", summary.version)?;
+    put_all(report, b" kind ")?;
+    put_kind(report, summary.kind)?;
+    put_field(report, b" frames ", summary.frames)?;
+    put_field(report, b" records ", summary.records)?;
+    put_differs(report, summary.differs)?;
+    put_all(report, b"\n")
+}
+
+/// Puts how a host was saved on the report.
+pub fn put_saved<R: Sink>(report: &mut R, summary: SaveSummary) -> Result<(), WriteFailed>
+    ensures bytes { Puts (saved_line summary) (R.written report.old) (R.written report.new) result }
+    ensures cause { HasCause (R.faults report.old) (R.faults report.new) result }
+{
+    put_field(report, b"ok rounds ", summary.rounds)?;
+    put_field(report, b" entries ", summary.entries)?;
+    put_all(report, b"\n")
+}
+
+/// Puts how the host of `exercise` was saved on the report.
+pub fn put_exercised<R: Sink>(report: &mut R, summary: ExerciseSummary) -> Result<(), WriteFailed>
+    ensures bytes { Puts (exercised_line summary) (R.written report.old) (R.written report.new) result }
+    ensures cause { HasCause (R.faults report.old) (R.faults report.new) result }
+{
+    put_field(report, b"ok frames ", summary.frames)?;
+    put_field(report, b" rounds ", summary.rounds)?;
+    put_field(report, b" entries ", summary.entries)?;
+    put_field(report, b" canon ", summary.canon)?;
+    put_all(report, b"\n")
+}
+
+/// Puts which frame an address means on the report.
+pub fn put_walked<R: Sink>(report: &mut R, summary: WalkSummary) -> Result<(), WriteFailed>
+    ensures bytes { Puts (walked_line summary) (R.written report.old) (R.written report.new) result }
+    ensures cause { HasCause (R.faults report.old) (R.faults report.new) result }
+{
+    put_field(report, b"ok frame ", summary.frame)?;
+    put_field(report, b" type ", summary.kind)?;
+    put_all(report, b"\n")
+}
+
+/// Puts how many records and bytes of a stream were passed on on the report.
+pub fn put_relayed<R: Sink>(report: &mut R, summary: RelaySummary) -> Result<(), WriteFailed>
+    ensures bytes { Puts (relayed_line summary) (R.written report.old) (R.written report.new) result }
+    ensures cause { HasCause (R.faults report.old) (R.faults report.new) result }
+{
+    put_field(report, b"ok records ", summary.records)?;
+    put_field(report, b" bytes ", summary.bytes)?;
+    put_all(report, b"\n")
+}
