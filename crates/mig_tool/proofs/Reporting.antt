@@ -7,10 +7,10 @@ use Rattle.mig_host_view.specs.View.{view}
 use Rattle.mig_tool_report.specs.declared.status.Status.{Status}
 use Rattle.mig_tool_report.specs.declared.status.Status.TheVariants as statuses
 use Rattle.mig_machine_script.specs.ScriptLines.{LineOf}
-use Rattle.mig_commands.proofs.Once.{accepted_once, legacy_once, walk_image_once, walk_once}
-use Rattle.mig_passing.proofs.Relaying.{front_once, passed_front}
-use Rattle.mig_commands.proofs.Walks.{host_found, stream_found}
-use Rattle.mig_passing.specs.Relays.{PassedOn, RelayBreaksOff}
+use Rattle.mig_tool_guest.proofs.Once.{accepted_once, legacy_once, walk_image_once, walk_once}
+use Rattle.mig_tool_guest.proofs.Relaying.{front_once, passed_front}
+use Rattle.mig_tool_guest.proofs.Walks.{host_found, stream_found}
+use Rattle.mig_tool_guest.specs.Relays.{PassedOn, RelayBreaksOff}
 use Rattle.mig_live.proofs.SaveInputs.{not_refused, paused}
 use Rattle.mig_live.specs.LiveSaves.{HasHostAndScript}
 use Rattle.mig_live.specs.Saves.{IsOfInput, IsSavedOrPaused}

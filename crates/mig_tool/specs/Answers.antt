@@ -15,12 +15,12 @@ use Rattle.mig_tool_report.specs.declared.status.Status.{Status}
 use Rattle.mig_tool_report.specs.declared.status.Status.TheVariants as statuses
 use Rattle.mig_tool_report.specs.Report.{ok_line, saved_line, exercised_line, walked_line, relayed_line}
 use Rattle.mig_tool_report.specs.Statuses.{EndsWithOwnLine, InputRises, IsStatusLine, NoneFailed, PutsLineOf, PutsLineOrFault, ReportsStatus, StatusSays, Written}
-use Rattle.mig_commands.specs.Addresses.{AddressReported, FrameInHost, FrameInStream, HostHasFrame, StreamHasFrame}
-use Rattle.mig_commands.specs.Fronts.{Normalised, PartWritten, Restored, Verified, restored_text}
-use Rattle.mig_commands.specs.Refusals.{HasLegacyRefusal, HasStreamRefusal, HasWalkImageRefusal, HasWalkRefusal}
-use Rattle.mig_passing.specs.Relays.{FrontRelayed, PassableFront, Relays}
-use Rattle.mig_passing.specs.Says.{HasOpenRefusal}
-use Rattle.mig_passing.specs.Shown.{FrontShown, PartShown, SaysShown}
+use Rattle.mig_tool_guest.specs.Addresses.{AddressReported, FrameInHost, FrameInStream, HostHasFrame, StreamHasFrame}
+use Rattle.mig_tool_guest.specs.Fronts.{Normalised, PartWritten, Restored, Verified, restored_text}
+use Rattle.mig_tool_guest.specs.Refusals.{HasLegacyRefusal, HasStreamRefusal, HasWalkImageRefusal, HasWalkRefusal}
+use Rattle.mig_tool_guest.specs.Relays.{FrontRelayed, PassableFront, Relays}
+use Rattle.mig_tool_guest.specs.PassingSays.{HasOpenRefusal}
+use Rattle.mig_tool_guest.specs.Shown.{FrontShown, PartShown, SaysShown}
 use Rattle.mig_live.specs.Exercises.{ExerciseReported, SaysExercise}
 use Rattle.mig_live.specs.Saves.{BreaksSave, HasSaveRefusal, LiveBroken, LiveSaved}
 

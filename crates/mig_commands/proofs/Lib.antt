@@ -1,5 +1,0 @@
-pub mod Common
-pub mod Walks
-pub mod Reporting
-pub mod Walking
-pub mod Once

@@ -1,8 +1,0 @@
-use Rattle.mig_tool_report.proofs.Statuses.{says_of, line_reported}
-use Rattle.mig_commands.proofs.commands.convert.Goals as goal
-
-pub returns-clause-said : goal.returns-clause-said
-returns-clause-said g c = says_of _ _ _ _ _ c.converted-outcome.result c.finish.result c.finish.ensures.status c.converted-outcome.ensures.answer
-
-pub returns-clause-line : goal.returns-clause-line
-returns-clause-line g c = line_reported _ _ _ _ _ c.converted-outcome.result c.finish.result _ _ _ _ c.finish.ensures.status c.converted-outcome.ensures.answer c.finish.ensures.line

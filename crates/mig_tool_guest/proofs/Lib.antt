@@ -1,0 +1,8 @@
+pub mod Common
+pub mod Walks
+pub mod Reporting
+pub mod Walking
+pub mod Once
+pub mod PassingCommon
+pub mod Relaying
+pub mod Showing

@@ -1,0 +1,171 @@
+-- What a command answers.
+use Rattle.mig_tool_guest.proofs.Common.{◌⊎◌, ◌≡◌, ℕ, ◌++◌, List, length, arith, Option, Some, None, Result, Ok, Err, refl, sym, ap, subst, ◌∙◌, GuestOf, AcceptedStream, HasStreamRefusal, HasLegacyRefusal, Kind, Hvm, Pv, Accepting, Normalised, PartWritten, IsCarried, IsFew, IsBase, restored_text, OutcomeSays, NormaliseComes, ConvertComes, RestoreComes, VerifySays, summary_of, mean_kind, outcome_of}
+use mathlib.Core.Logic.{inl, inr}
+use Rattle.std.specs.FinMap as maps
+use Rattle.std.specs.Io.KnownBytes.{Appends}
+use Rattle.mig_bytes.specs.Bytes.{AppendsPart, Puts}
+use Rattle.mig_bytes.specs.Judged.Judged.{Passes}
+use Rattle.mig_bytes.specs.declared.answer.Answer.{Answer}
+use Rattle.mig_bytes.specs.declared.answer.Answer.TheVariants as answers
+use Rattle.mig_bytes.specs.declared.failure.WriteFailed.{WriteFailed}
+use Rattle.mig_headers.specs.declared.fault.Cause.{Cause}
+use Rattle.mig_headers.specs.declared.fault.Place.{Place}
+use Rattle.mig_headers.specs.declared.legacy_fault.LegacyCause.{LegacyCause}
+use Rattle.mig_headers.specs.declared.legacy_fault.LegacyPlace.{LegacyPlace}
+use Rattle.mig_host.proofs.HostedGuests.{whole_valid, whole_sound, whole_seen}
+use Rattle.mig_host.specs.Hosted.{hosted, IsBaseOutside}
+use Rattle.mig_image.proofs.ImageReads.{held, image_reads}
+use Rattle.mig_image.specs.declared.version.ImageVersion.TheVariants.{Two}
+use Rattle.mig_legacy.proofs.Laws.{accepted_is_legacy}
+use Rattle.mig_legacy.specs.Legacy.{LegacyStream, mean_legacy}
+use Rattle.mig_legacy.specs.Spelled.{AcceptedLegacy}
+use Rattle.mig_legacy.specs.Stream.{ReadsLegacy, legacy_at}
+use Rattle.mig_libxl.proofs.AnyCanons.{canon_is_accepted, canon_is_one_to_one}
+use Rattle.mig_libxl_form.proofs.Laws.{accepted_is_stream}
+use Rattle.mig_libxl.specs.Canon.{canon_any}
+use Rattle.mig_libxl_form.specs.Stream.{StreamOf, stream_at}
+use Rattle.mig_libxl.specs.Reads.{IsStreamReading, ReadsStream}
+use Rattle.mig_pvtables.proofs.HvmGuests.{hvm_complete}
+use Rattle.mig_pvtables.proofs.PvGuests.{pv_complete}
+use Rattle.mig_pvtables.specs.Whole.{IsWhole}
+use Rattle.mig_tool_report.specs.Report.{ok_line}
+use Rattle.mig_tool_report.specs.declared.outcome.Outcome.{Outcome}
+use Rattle.mig_tool_report.specs.declared.outcome.Outcome.TheVariants as outcomes
+use Rattle.mig_tool_report.specs.declared.outcome.Refusal.TheVariants as refusals
+use Rattle.mig_tool_report.specs.declared.outcome.Summary.{Summary}
+use Rattle.mig_tool_report.specs.declared.status.Status.{Status}
+use Rattle.mig_tool_report.specs.declared.status.Status.TheVariants as statuses
+use Rattle.mig_restore_form.specs.Mean.{differs_of}
+use Rattle.mig_restore_form.specs.Stream.{ImageOf}
+use Rattle.mig_restore.specs.declared.read.Reading.{Reading}
+
+-- ---- no stream was read
+
+module _ (D P : List ℕ → Type 0) where
+  pub not_read : (told left : Option (List ℕ)) (answer : Answer Place Cause) (outcome : Outcome) → ReadsStream told left (Err answer) → outcome ≡ outcome_of refusals.Stream answer → OutcomeSays D P HasStreamRefusal told left outcome
+  not_read told left answer outcome h is = subst (OutcomeSays D P HasStreamRefusal told left) (sym is) (by told answer h)
+    where
+      by : (told : Option (List ℕ)) (answer : Answer Place Cause) → ReadsStream told left (Err answer) → OutcomeSays D P HasStreamRefusal told left (outcome_of refusals.Stream answer)
+      by None answer h = tt
+      by (Some input) (answers.Refused place cause) (rest, refused, is) = (rest, refused, is)
+      by (Some input) _ h = tt
+
+  pub not_converted : (told left : Option (List ℕ)) (answer : Answer LegacyPlace LegacyCause) (outcome : Outcome) → ReadsLegacy told left (Err answer) → outcome ≡ outcome_of refusals.Legacy answer → OutcomeSays D P HasLegacyRefusal told left outcome
+  not_converted told left answer outcome h is = subst (OutcomeSays D P HasLegacyRefusal told left) (sym is) (by told answer h)
+    where
+      by : (told : Option (List ℕ)) (answer : Answer LegacyPlace LegacyCause) → ReadsLegacy told left (Err answer) → OutcomeSays D P HasLegacyRefusal told left (outcome_of refusals.Legacy answer)
+      by None answer h = tt
+      by (Some input) (answers.Refused place cause) (rest, refused, is) = (rest, refused, is)
+      by (Some input) _ h = tt
+
+-- ---- what a reading and a writing come to
+
+pub accepted_front : (input rest : List ℕ) (stream : StreamOf) (reading : Reading) → stream_at input ≡ Passes stream rest → IsStreamReading reading stream → AcceptedStream input reading.guest rest
+accepted_front input rest stream reading accepts is = record { stream = stream; image = is.image; spelled = accepted_is_stream input stream rest accepts; image_is = is.is; means = is.guest }
+
+accepted_legacy : (input rest : List ℕ) (stream : LegacyStream) (guest : GuestOf) → legacy_at input ≡ Passes stream rest → guest ≡ mean_legacy stream → AcceptedLegacy input guest rest
+accepted_legacy input rest stream guest accepts is = record { stream = stream; spelled = accepted_is_legacy input stream rest accepts; means = is }
+
+-- what was written of a guest that was read from an accepted front
+module _ (Accepts : Accepting) (input rest : List ℕ) (left old new : Option (List ℕ)) (guest : GuestOf) (accepted : Accepts input guest rest) (left_is : left ≡ Some rest) where
+  whole_text : IsCarried guest → Appends old new (canon_any guest) → Normalised Accepts input left old new
+  whole_text carried wrote = record {
+    guest = guest;
+    rest = rest;
+    accepted = accepted;
+    left_is = left_is;
+    wrote = wrote;
+    carried = carried;
+    kept = λ more. canon_is_accepted guest more carried;
+    alone = λ other too. canon_is_one_to_one other guest too carried;
+  }
+
+  text_part : AppendsPart old new (canon_any guest) → PartWritten Accepts canon_any input left old new
+  text_part wrote = record { guest = guest; rest = rest; accepted = accepted; left_is = left_is; wrote = wrote }
+
+module _ (told left old new : Option (List ℕ)) where
+  pub came : (reading : Reading) (outcome : Outcome) → ReadsStream told left (Ok reading) → IsCarried reading.guest → (outcome ≡ outcomes.Done → Appends old new (canon_any reading.guest)) → (outcome ≡ outcomes.WriteFault → AppendsPart old new (canon_any reading.guest))
+      → (outcome ≡ outcomes.Done) ⊎ (outcome ≡ outcomes.WriteFault) → NormaliseComes told left old new outcome
+  came reading outcome h carried done part answers = by told h answers
+    where
+      by : (t : Option (List ℕ)) → ReadsStream t left (Ok reading) → (outcome ≡ outcomes.Done) ⊎ (outcome ≡ outcomes.WriteFault) → NormaliseComes t left old new outcome
+      by None h answers = tt
+      by (Some input) (stream, rest, accepts, left_is, is_read) (inl is) =
+          subst (NormaliseComes (Some input) left old new) (sym is) (whole_text AcceptedStream input rest left old new reading.guest (accepted_front input rest stream reading accepts is_read) left_is carried (done is))
+      by (Some input) (stream, rest, accepts, left_is, is_read) (inr is) =
+          subst (NormaliseComes (Some input) left old new) (sym is) (text_part AcceptedStream input rest left old new reading.guest (accepted_front input rest stream reading accepts is_read) left_is (part is))
+
+  pub came_of_legacy : (guest : GuestOf) (outcome : Outcome) → ReadsLegacy told left (Ok guest) → IsCarried guest → (outcome ≡ outcomes.Done → Appends old new (canon_any guest)) → (outcome ≡ outcomes.WriteFault → AppendsPart old new (canon_any guest))
+      → (outcome ≡ outcomes.Done) ⊎ (outcome ≡ outcomes.WriteFault) → ConvertComes told left old new outcome
+  came_of_legacy guest outcome h carried done part answers = by told h answers
+    where
+      by : (t : Option (List ℕ)) → ReadsLegacy t left (Ok guest) → (outcome ≡ outcomes.Done) ⊎ (outcome ≡ outcomes.WriteFault) → ConvertComes t left old new outcome
+      by None h answers = tt
+      by (Some input) (stream, rest, accepts, left_is, is_read) (inl is) =
+          subst (ConvertComes (Some input) left old new) (sym is) (whole_text AcceptedLegacy input rest left old new guest (accepted_legacy input rest stream guest accepts is_read) left_is carried (done is))
+      by (Some input) (stream, rest, accepts, left_is, is_read) (inr is) =
+          subst (ConvertComes (Some input) left old new) (sym is) (text_part AcceptedLegacy input rest left old new guest (accepted_legacy input rest stream guest accepts is_read) left_is (part is))
+
+whole_few : (g : GuestOf) → IsWhole g → IsFew g.frames
+whole_few g whole = by g.kind refl
+  where
+    by : (kind : Kind) → g.kind ≡ kind → IsFew g.frames
+    by Hvm is = (hvm_complete g is whole.faultless).1
+    by Pv is = (pv_complete g is whole.faultless).few
+
+-- a base that may be given fits every guest without too many frames
+pub base_fits : (guest : GuestOf) (base : ℕ) → IsFew guest.frames → IsBase base → IsBaseOutside guest base → ⊥
+base_fits guest base few range (inl zero) = omega (arith, zero, range.0)
+base_fits guest base few range (inr above) = omega (arith, above, range.1, few)
+
+pub came_restored : (told left old new : Option (List ℕ)) (reading : Reading) (base : ℕ) (outcome : Outcome) → ReadsStream told left (Ok reading) → IsCarried reading.guest → IsBase base
+    → (outcome ≡ outcomes.Done → Appends old new (restored_text base reading.guest)) → (outcome ≡ outcomes.WriteFault → AppendsPart old new (restored_text base reading.guest))
+    → (outcome ≡ outcomes.Done) ⊎ ((outcome ≡ outcomes.WriteFault) ⊎ (outcome ≡ outcomes.Memory)) → RestoreComes base told left old new outcome
+came_restored None left old new reading base outcome h carried range done part answers = tt
+came_restored (Some input) left old new reading base outcome (stream, rest, accepts, left_is, is_read) carried range done part (inl is) =
+    let fits = base_fits reading.guest base (whole_few reading.guest carried.whole) range in
+    let valid = whole_valid reading.guest base carried.whole fits in
+    subst (RestoreComes base (Some input) left old new) (sym is)
+    (record {
+      guest = reading.guest;
+      rest = rest;
+      accepted = accepted_front input rest stream reading accepts is_read;
+      left_is = left_is;
+      wrote = done is;
+      carried = carried;
+      valid = valid;
+      sound = whole_sound reading.guest base carried.whole carried.blank fits;
+      seen = whole_seen reading.guest base carried.whole carried.blank fits;
+      kept = λ widest more narrow. image_reads widest (restored_text base reading.guest ++ more) (hosted reading.guest base) more (record { image = record { version = Two; valid = valid; holds = held (hosted reading.guest base) valid; spelled = refl }; narrow = narrow });
+    })
+came_restored (Some input) left old new reading base outcome (stream, rest, accepts, left_is, is_read) carried range done part (inr (inl is)) =
+    subst (RestoreComes base (Some input) left old new) (sym is) (record { guest = reading.guest; rest = rest; accepted = accepted_front input rest stream reading accepts is_read; left_is = left_is; wrote = part is })
+came_restored (Some input) left old new reading base outcome h carried range done part (inr (inr is)) = subst (RestoreComes base (Some input) left old new) (sym is) tt
+
+abbrev pub reported : Result (Unit {0}) WriteFailed → Status
+reported (Ok u) = statuses.Done
+reported (Err e) = statuses.WriteFault
+
+-- the summary is that of the stream
+summed : (input rest : List ℕ) (stream : StreamOf) (reading : Reading) (is : IsStreamReading reading stream) (a : AcceptedStream input reading.guest rest) (s : Summary) → a.image ≡ is.image
+    → s.version ≡ reading.version → s.kind ≡ reading.guest.kind → s.frames ≡ length (maps.entries reading.guest.frames) → s.records ≡ reading.records → s.differs ≡ reading.differs → s ≡ summary_of a
+summed input rest stream reading is a s same v k f n d =
+    let kind : reading.guest.kind ≡ is.image.opening.kind = ap (λ (x : GuestOf). x.kind) is.guest ∙ mean_kind is.image.opening.kind is.image.records in
+    let v' : s.version ≡ a.image.opening.version = v ∙ is.version ∙ ap (λ (x : ImageOf). x.opening.version) (sym same) in
+    let k' : s.kind ≡ a.image.opening.kind = k ∙ kind ∙ ap (λ (x : ImageOf). x.opening.kind) (sym same) in
+    let n' : s.records ≡ length a.image.records = n ∙ is.records ∙ ap (λ (x : ImageOf). length x.records) (sym same) in
+    let d' : s.differs ≡ differs_of a.image.opening.kind a.image.records = d ∙ is.differs ∙ ap (λ (x : ImageOf). differs_of x.opening.kind x.records) (sym same) in
+    λ i. record { version = v' i; kind = k' i; frames = f i; records = n' i; differs = d' i }
+
+pub verified : (told left old new : Option (List ℕ)) (reading : Reading) (s : Summary) (r : Result (Unit {0}) WriteFailed) (status : Status) → ReadsStream told left (Ok reading)
+    → s.version ≡ reading.version → s.kind ≡ reading.guest.kind → s.frames ≡ length (maps.entries reading.guest.frames) → s.records ≡ reading.records → s.differs ≡ reading.differs
+    → Puts (ok_line s) old new r → status ≡ reported r → VerifySays told left old new status
+unfolding accepted_front
+verified None left old new reading s r status h v k f n d put is = tt
+verified (Some input) left old new reading s r status (stream, rest, accepts, left_is, is_read) v k f n d put is =
+    let a = accepted_front input rest stream reading accepts is_read in
+    subst (VerifySays (Some input) left old new) (sym is) (by r (subst (λ t. Puts (ok_line t) old new r) (summed input rest stream reading is_read a s refl v k f n d) put))
+  where
+    by : (r : Result (Unit {0}) WriteFailed) → Puts (ok_line (summary_of (accepted_front input rest stream reading accepts is_read))) old new r → VerifySays (Some input) left old new (reported r)
+    by (Ok u) put = record { guest = reading.guest; rest = rest; accepted = accepted_front input rest stream reading accepts is_read; left_is = left_is; reported = put }
+    by (Err e) put = record { guest = reading.guest; rest = rest; accepted = accepted_front input rest stream reading accepts is_read; left_is = left_is; reported = put }

@@ -1,0 +1,161 @@
+ghost use Rattle.std.specs.Prelude.{◌≡◌, ◌≢◌, ◌≤◌, ℕ, IfOk, IfErr, OnOk};
+ghost use Rattle.mig_bytes.specs.Faults.{Rose};
+ghost use Rattle.mig_tool_report.specs.Report.{walked_line};
+ghost use Rattle.mig_tool_report.specs.declared.outcome.Refusal.TheVariants as refusals;
+ghost use Rattle.mig_tool_report.specs.declared.status.Status.TheVariants as statuses;
+ghost use Rattle.mig_host_view.specs.Sound.{IsSound};
+ghost use Rattle.mig_host_laws.specs.Standing.{Standing, in_host};
+ghost use Rattle.mig_walk.specs.Walks.{IsWalked};
+ghost use Rattle.mig_tool_guest.specs.Addresses.{MeansFrame};
+ghost use Rattle.mig_tool_guest.specs.AddressSteps.{EndsInHost, EndsWalk, FindsInImage, FindsInStream, IsUnfound, TellsFound, status_found};
+ghost use Rattle.mig_tool_guest.specs.Outcomes.{outcome_of};
+ghost use Rattle.mig_tool_guest.specs.Refusals.{HasWalkImageRefusal, HasWalkRefusal};
+ghost use Rattle.mig_tool_guest.specs.Says.{WalkImageSays, WalkSays};
+ghost use Rattle.mig_tool_report.specs.Statuses.{EndsWithOwnLine, InputRises, PutsLineOf, ReportsStatus};
+
+use crate::commands::unread;
+use mig_bytes::{Sink, Source};
+use mig_image::{Host, ImageAnswer, SoundAnswer, read_host};
+use mig_libxl::read_any;
+use mig_tool_report::{Outcome, Refusal, Status, WalkEnd, WalkSummary, finish, put_walked};
+use mig_walk::{Walked, walk_guest, walk_host};
+use std::alloc::Global;
+
+/// Hosts of any width are looked into.
+const MOST_WIDTH: u64 = 1 << 52;
+
+/// What an address comes to: the frame that it means, or why it means none.
+fn told(vcpu: u32, walked: Walked) -> Result<WalkSummary, Outcome>
+    ensures frame { (s : Standing) (at : ℕ) → IsWalked s vcpu at walked → IfOk result (MeansFrame s vcpu at) }
+    ensures none { (s : Standing) (at : ℕ) → IsWalked s vcpu at walked → IfErr result (EndsWalk s vcpu at) }
+{
+    let end = match walked {
+        Walked::Frame { frame, kind } => {
+            return Ok(WalkSummary {
+                frame,
+                kind: u64::from(kind.nibble()),
+            });
+        }
+        Walked::NoVcpu => WalkEnd::NoVcpu(u64::from(vcpu)),
+        Walked::NotCanonical => WalkEnd::NotCanonical,
+        Walked::Absent(level) => WalkEnd::Absent(u64::from(level)),
+        Walked::NotTable(level) => WalkEnd::NotTable(u64::from(level)),
+    };
+    Err(Outcome::Refused(Refusal::Walk(end)))
+}
+
+/// The outcome where no image is read.
+fn no_image(answer: ImageAnswer) -> Outcome
+    ensures { result ≡ outcome_of refusals.Image answer }
+{
+    match answer {
+        ImageAnswer::Refused(place, cause) => Outcome::Refused(Refusal::Image(place, cause)),
+        ImageAnswer::ReadFault => Outcome::ReadFault,
+        ImageAnswer::Memory => Outcome::Memory,
+    }
+}
+
+/// Reads a stream, and finds the frame that an address means to a vCPU of its guest.
+fn frame_in_stream<S: Source>(
+    alloc: Global,
+    vcpu: u32,
+    address: u64,
+    input: &mut S,
+) -> Result<WalkSummary, Outcome>
+    ensures found { FindsInStream vcpu address (S.left input.old) (S.left input.new) result }
+    ensures unfound { IfErr result IsUnfound }
+    ensures read { InputRises (status_found result) (S.faults input.old) (S.faults input.new) }
+{
+    match read_any(alloc, input) {
+        Ok(reading) => told(vcpu, walk_guest(&reading.guest, vcpu, address)),
+        Err(answer) => Err(unread(answer)),
+    }
+}
+
+/// Finds the machine frame that an address means to a vCPU of a host, if that is sound.
+fn frame_there(alloc: Global, vcpu: u32, address: u64, host: &Host) -> Result<WalkSummary, Outcome>
+    ensures sound { OnOk result (IsSound host.now.host) }
+    ensures frame { IfOk result (MeansFrame (in_host host.now.host) vcpu address) }
+    ensures none { IfErr result (EndsInHost host.now.host vcpu address) }
+{
+    match host.sound(alloc) {
+        Ok(()) => told(vcpu, walk_host(host, vcpu, address)),
+        Err(SoundAnswer::Unsound(unsound)) => Err(Outcome::Refused(Refusal::Host(unsound))),
+        Err(SoundAnswer::Memory) => Err(Outcome::Memory),
+    }
+}
+
+/// Reads the image of a host, leaves unread what follows it, and finds the machine frame that an address means to a vCPU there.
+fn frame_in_image<S: Source>(
+    alloc: Global,
+    vcpu: u32,
+    address: u64,
+    input: &mut S,
+) -> Result<WalkSummary, Outcome>
+    ensures found { FindsInImage vcpu address (S.left input.old) (S.left input.new) result }
+    ensures unfound { IfErr result IsUnfound }
+    ensures read { InputRises (status_found result) (S.faults input.old) (S.faults input.new) }
+{
+    match read_host(alloc, input, MOST_WIDTH) {
+        Ok(host) => frame_there(alloc, vcpu, address, &host),
+        Err(answer) => Err(no_image(answer)),
+    }
+}
+
+/// Says on the report what was found.
+fn report_found<R: Sink>(report: &mut R, found: Result<WalkSummary, Outcome>) -> Status
+    requires { IfErr found IsUnfound }
+    ensures told { TellsFound found result (R.written report.old) (R.written report.new) (R.faults report.old) (R.faults report.new) }
+    ensures quiet { result ≡ statuses.Done → R.faults report.new ≡ R.faults report.old }
+    ensures later { R.faults report.old ≤ R.faults report.new }
+{
+    match found {
+        Ok(summary) => match put_walked(report, summary) {
+            Ok(()) => Status::Done,
+            Err(_) => Status::WriteFault,
+        },
+        Err(outcome) => finish(report, outcome),
+    }
+}
+
+/// Reads a stream, and says on the report which frame an address means to a vCPU of its guest.
+pub fn walk<S: Source, R: Sink>(
+    alloc: Global,
+    vcpu: u32,
+    address: u64,
+    input: &mut S,
+    report: &mut R,
+) -> Status
+    ensures said { WalkSays vcpu address (S.left input.old) (S.left input.new) (R.written report.old) (R.written report.new) result }
+    ensures known { result ≢ statuses.Usage }
+    ensures read { InputRises result (S.faults input.old) (S.faults input.new) }
+    ensures write { result ≡ statuses.WriteFault → Rose (R.faults report.old) (R.faults report.new) }
+    ensures quiet { result ≡ statuses.Done → R.faults report.new ≡ R.faults report.old }
+    ensures line { (EndsWithOwnLine result → ⊥) → ReportsStatus (HasWalkRefusal vcpu address) (S.left input.old) result (R.written report.old) (R.written report.new) (R.faults report.old) (R.faults report.new) }
+    ensures own_line { PutsLineOf walked_line (R.written report.old) (R.written report.new) result }
+    ensures report_later { R.faults report.old ≤ R.faults report.new }
+{
+    let found = frame_in_stream(alloc, vcpu, address, input);
+    report_found(report, found)
+}
+
+/// Reads the image of a host, and says on the report which machine frame an address means to a vCPU there.
+pub fn walk_image<S: Source, R: Sink>(
+    alloc: Global,
+    vcpu: u32,
+    address: u64,
+    input: &mut S,
+    report: &mut R,
+) -> Status
+    ensures said { WalkImageSays vcpu address (S.left input.old) (S.left input.new) (R.written report.old) (R.written report.new) result }
+    ensures known { result ≢ statuses.Usage }
+    ensures read { InputRises result (S.faults input.old) (S.faults input.new) }
+    ensures write { result ≡ statuses.WriteFault → Rose (R.faults report.old) (R.faults report.new) }
+    ensures quiet { result ≡ statuses.Done → R.faults report.new ≡ R.faults report.old }
+    ensures line { (EndsWithOwnLine result → ⊥) → ReportsStatus (HasWalkImageRefusal vcpu address) (S.left input.old) result (R.written report.old) (R.written report.new) (R.faults report.old) (R.faults report.new) }
+    ensures own_line { PutsLineOf walked_line (R.written report.old) (R.written report.new) result }
+    ensures report_later { R.faults report.old ≤ R.faults report.new }
+{
+    let found = frame_in_image(alloc, vcpu, address, input);
+    report_found(report, found)
+}

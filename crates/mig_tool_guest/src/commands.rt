@@ -1,0 +1,214 @@
+ghost use Rattle.std.specs.Prelude.{◌≡◌, ◌≢◌, ◌≤◌, ◌⊎◌};
+ghost use Rattle.std.specs.Io.KnownBytes.{Appends};
+ghost use Rattle.mig_bytes.specs.Bytes.{AppendsPart};
+ghost use Rattle.mig_bytes.specs.Faults.{Rose};
+ghost use Rattle.mig_pvtables.specs.Whole.{IsWhole};
+ghost use Rattle.mig_libxl.specs.Canon.{canon_any};
+ghost use Rattle.mig_tool_guest.specs.Fronts.{restored_text};
+ghost use Rattle.mig_tool_guest.specs.Outcomes.{outcome_of};
+ghost use Rattle.mig_tool_guest.specs.Refusals.{HasLegacyRefusal, HasStreamRefusal};
+ghost use Rattle.mig_tool_guest.specs.Says.{ConvertComes, ConvertSays, NormaliseComes, NormaliseSays, RestoreComes, RestoreSays, VerifySays};
+ghost use Rattle.mig_tool_report.specs.Statuses.{EndsWithOwnLine, InputRises, NoneFailed, OutputRises, PutsLineOf, ReportsStatus};
+ghost use Rattle.mig_tool_report.specs.Outcome.{status_of};
+ghost use Rattle.mig_tool_report.specs.Report.{ok_line};
+ghost use Rattle.mig_tool_report.specs.Words.{IsBase};
+ghost use Rattle.mig_tool_report.specs.declared.outcome.Outcome.TheVariants as outcomes;
+ghost use Rattle.mig_tool_report.specs.declared.outcome.Refusal.TheVariants as refusals;
+ghost use Rattle.mig_tool_report.specs.declared.status.Status.TheVariants as statuses;
+
+use mig_bytes::{Sink, Source};
+use mig_guest::Guest;
+use mig_image::{HostAnswer, host_of, write_host};
+use mig_legacy::{LegacyAnswer, read_legacy};
+use mig_libxl::{read_any, write_any};
+use mig_restore::StreamAnswer;
+use mig_tool_report::{Outcome, Refusal, Status, Summary, finish, put_ok};
+use std::alloc::Global;
+
+/// The outcome where no stream is read.
+pub(crate) fn unread(answer: StreamAnswer) -> Outcome
+    ensures { result ≡ outcome_of refusals.Stream answer }
+{
+    match answer {
+        StreamAnswer::Refused(place, cause) => Outcome::Refused(Refusal::Stream(place, cause)),
+        StreamAnswer::ReadFault => Outcome::ReadFault,
+        StreamAnswer::Memory => Outcome::Memory,
+    }
+}
+
+/// The outcome where no legacy stream is read.
+fn unconverted(answer: LegacyAnswer) -> Outcome
+    ensures { result ≡ outcome_of refusals.Legacy answer }
+{
+    match answer {
+        LegacyAnswer::Refused(place, cause) => Outcome::Refused(Refusal::Legacy(place, cause)),
+        LegacyAnswer::ReadFault => Outcome::ReadFault,
+        LegacyAnswer::Memory => Outcome::Memory,
+    }
+}
+
+/// Writes the canonical stream of a guest.
+fn write_canonical<K: Sink>(guest: &Guest, out: &mut K) -> Outcome
+    requires whole { IsWhole guest.now }
+    ensures done { result ≡ outcomes.Done → Appends (K.written out.old) (K.written out.new) (canon_any guest.now) }
+    ensures part { result ≡ outcomes.WriteFault → AppendsPart (K.written out.old) (K.written out.new) (canon_any guest.now) }
+    ensures answers { (result ≡ outcomes.Done) ⊎ (result ≡ outcomes.WriteFault) }
+    ensures write { OutputRises (status_of result) (K.faults out.old) (K.faults out.new) }
+{
+    match write_any(out, guest) {
+        Ok(()) => Outcome::Done,
+        Err(_) => Outcome::WriteFault,
+    }
+}
+
+/// Reads a stream, and writes it in its canonical form.
+fn normalised<S: Source, K: Sink>(alloc: Global, input: &mut S, out: &mut K) -> Outcome
+    ensures answer { NormaliseComes (S.left input.old) (S.left input.new) (K.written out.old) (K.written out.new) result }
+    ensures known { result ≢ outcomes.Usage }
+    ensures kept { result ≢ outcomes.Done → result ≢ outcomes.WriteFault → out.new ≡ out.old }
+    ensures read { InputRises (status_of result) (S.faults input.old) (S.faults input.new) }
+    ensures write { OutputRises (status_of result) (K.faults out.old) (K.faults out.new) }
+{
+    match read_any(alloc, input) {
+        Ok(reading) => write_canonical(&reading.guest, out),
+        Err(answer) => unread(answer),
+    }
+}
+
+/// Reads a stream, writes it in its canonical form, and puts the line of the status on the report.
+pub fn normalise<S: Source, K: Sink, R: Sink>(
+    alloc: Global,
+    input: &mut S,
+    out: &mut K,
+    report: &mut R,
+) -> Status
+    ensures said { NormaliseSays (S.left input.old) (S.left input.new) (K.written out.old) (K.written out.new) result }
+    ensures known { result ≢ statuses.Usage }
+    ensures kept { result ≢ statuses.Done → result ≢ statuses.WriteFault → out.new ≡ out.old }
+    ensures read { InputRises result (S.faults input.old) (S.faults input.new) }
+    ensures write { OutputRises result (K.faults out.old) (K.faults out.new) }
+    ensures line { ReportsStatus HasStreamRefusal (S.left input.old) result (R.written report.old) (R.written report.new) (R.faults report.old) (R.faults report.new) }
+    ensures report_faults { NoneFailed result (R.faults report.old) (R.faults report.new) }
+{
+    let outcome = normalised(alloc, input, out);
+    finish(report, outcome)
+}
+
+/// Reads a legacy stream, and writes the canonical stream of its guest.
+fn converted<S: Source, K: Sink>(alloc: Global, input: &mut S, out: &mut K) -> Outcome
+    ensures answer { ConvertComes (S.left input.old) (S.left input.new) (K.written out.old) (K.written out.new) result }
+    ensures known { result ≢ outcomes.Usage }
+    ensures kept { result ≢ outcomes.Done → result ≢ outcomes.WriteFault → out.new ≡ out.old }
+    ensures read { InputRises (status_of result) (S.faults input.old) (S.faults input.new) }
+    ensures write { OutputRises (status_of result) (K.faults out.old) (K.faults out.new) }
+{
+    match read_legacy(alloc, input) {
+        Ok(guest) => write_canonical(&guest, out),
+        Err(answer) => unconverted(answer),
+    }
+}
+
+/// Reads a legacy stream, writes the canonical stream of its guest, and puts the line of the status on the report.
+pub fn convert<S: Source, K: Sink, R: Sink>(
+    alloc: Global,
+    input: &mut S,
+    out: &mut K,
+    report: &mut R,
+) -> Status
+    ensures said { ConvertSays (S.left input.old) (S.left input.new) (K.written out.old) (K.written out.new) result }
+    ensures known { result ≢ statuses.Usage }
+    ensures kept { result ≢ statuses.Done → result ≢ statuses.WriteFault → out.new ≡ out.old }
+    ensures read { InputRises result (S.faults input.old) (S.faults input.new) }
+    ensures write { OutputRises result (K.faults out.old) (K.faults out.new) }
+    ensures line { ReportsStatus HasLegacyRefusal (S.left input.old) result (R.written report.old) (R.written report.new) (R.faults report.old) (R.faults report.new) }
+    ensures report_faults { NoneFailed result (R.faults report.old) (R.faults report.new) }
+{
+    let outcome = converted(alloc, input, out);
+    finish(report, outcome)
+}
+
+/// Writes the image of a guest, with machine frames counted up from the base.
+fn write_restored<K: Sink>(alloc: Global, guest: Guest, base: u64, out: &mut K) -> Outcome
+    requires whole { IsWhole guest }
+    requires base { IsBase base }
+    ensures done { result ≡ outcomes.Done → Appends (K.written out.old) (K.written out.new) (restored_text base guest) }
+    ensures part { result ≡ outcomes.WriteFault → AppendsPart (K.written out.old) (K.written out.new) (restored_text base guest) }
+    ensures answers { (result ≡ outcomes.Done) ⊎ ((result ≡ outcomes.WriteFault) ⊎ (result ≡ outcomes.Memory)) }
+    ensures kept { result ≡ outcomes.Memory → out.new ≡ out.old }
+    ensures write { OutputRises (status_of result) (K.faults out.old) (K.faults out.new) }
+{
+    match host_of(alloc, guest, base) {
+        Ok(host) => match write_host(out, &host) {
+            Ok(()) => Outcome::Done,
+            Err(_) => Outcome::WriteFault,
+        },
+        Err(HostAnswer::Memory) => Outcome::Memory,
+        Err(HostAnswer::BaseRange) => unreachable!(),
+    }
+}
+
+/// Reads a stream, and writes the image of its guest, with machine frames counted up from the base.
+fn restored<S: Source, K: Sink>(alloc: Global, base: u64, input: &mut S, out: &mut K) -> Outcome
+    requires { IsBase base }
+    ensures answer { RestoreComes base (S.left input.old) (S.left input.new) (K.written out.old) (K.written out.new) result }
+    ensures known { result ≢ outcomes.Usage }
+    ensures kept { result ≢ outcomes.Done → result ≢ outcomes.WriteFault → out.new ≡ out.old }
+    ensures read { InputRises (status_of result) (S.faults input.old) (S.faults input.new) }
+    ensures write { OutputRises (status_of result) (K.faults out.old) (K.faults out.new) }
+{
+    let guest = match read_any(alloc, input) {
+        Ok(reading) => reading.guest,
+        Err(answer) => return unread(answer),
+    };
+    write_restored(alloc, guest, base, out)
+}
+
+/// Reads a stream, writes the image of its guest, with machine frames counted up from the base, and puts the line of the
+/// status on the report.
+pub fn restore<S: Source, K: Sink, R: Sink>(
+    alloc: Global,
+    base: u64,
+    input: &mut S,
+    out: &mut K,
+    report: &mut R,
+) -> Status
+    requires { IsBase base }
+    ensures said { RestoreSays base (S.left input.old) (S.left input.new) (K.written out.old) (K.written out.new) result }
+    ensures known { result ≢ statuses.Usage }
+    ensures kept { result ≢ statuses.Done → result ≢ statuses.WriteFault → out.new ≡ out.old }
+    ensures read { InputRises result (S.faults input.old) (S.faults input.new) }
+    ensures write { OutputRises result (K.faults out.old) (K.faults out.new) }
+    ensures line { ReportsStatus HasStreamRefusal (S.left input.old) result (R.written report.old) (R.written report.new) (R.faults report.old) (R.faults report.new) }
+    ensures report_faults { NoneFailed result (R.faults report.old) (R.faults report.new) }
+{
+    let outcome = restored(alloc, base, input, out);
+    finish(report, outcome)
+}
+
+/// Reads a stream, and says on the report what it is.
+pub fn verify<S: Source, R: Sink>(alloc: Global, input: &mut S, report: &mut R) -> Status
+    ensures said { VerifySays (S.left input.old) (S.left input.new) (R.written report.old) (R.written report.new) result }
+    ensures known { result ≢ statuses.Usage }
+    ensures read { InputRises result (S.faults input.old) (S.faults input.new) }
+    ensures write { result ≡ statuses.WriteFault → Rose (R.faults report.old) (R.faults report.new) }
+    ensures quiet { result ≡ statuses.Done → R.faults report.new ≡ R.faults report.old }
+    ensures line { (EndsWithOwnLine result → ⊥) → ReportsStatus HasStreamRefusal (S.left input.old) result (R.written report.old) (R.written report.new) (R.faults report.old) (R.faults report.new) }
+    ensures own_line { PutsLineOf ok_line (R.written report.old) (R.written report.new) result }
+    ensures report_later { R.faults report.old ≤ R.faults report.new }
+{
+    let reading = match read_any(alloc, input) {
+        Ok(reading) => reading,
+        Err(answer) => return finish(report, unread(answer)),
+    };
+    let summary = Summary {
+        version: u64::from(reading.version),
+        kind: reading.guest.kind(),
+        frames: reading.guest.frames(),
+        records: u64::from(reading.records),
+        differs: reading.differs,
+    };
+    match put_ok(report, summary) {
+        Ok(()) => Status::Done,
+        Err(_) => Status::WriteFault,
+    }
+}
