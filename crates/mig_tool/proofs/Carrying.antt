@@ -8,8 +8,8 @@ use Rattle.mig_tool_report.specs.declared.status.Status.TheVariants as statuses
 use Rattle.mig_tool_report.specs.Report.{Reports, exercised_line, memory_line}
 use Rattle.mig_tool_report.specs.Statuses.{EndsWithOwnLine, InputRises, NoneFailed, OutputRises, PutsLineOf, ReportsStatus}
 use Rattle.mig_tool_guest.specs.Relays.{RelayBreaksOff}
-use Rattle.mig_live.specs.Exercises.{SaysExercise}
-use Rattle.mig_live.specs.Saves.{BreaksOff}
+use Rattle.mig_tool_save.specs.Exercises.{SaysExercise}
+use Rattle.mig_tool_save.specs.Saves.{BreaksOff}
 use Rattle.mig_tool.specs.Answers.{CarriedOut}
 
 -- of the command that it is

@@ -11,9 +11,9 @@ use Rattle.mig_tool_guest.proofs.Once.{accepted_once, legacy_once, walk_image_on
 use Rattle.mig_tool_guest.proofs.Relaying.{front_once, passed_front}
 use Rattle.mig_tool_guest.proofs.Walks.{host_found, stream_found}
 use Rattle.mig_tool_guest.specs.Relays.{PassedOn, RelayBreaksOff}
-use Rattle.mig_live.proofs.SaveInputs.{not_refused, paused}
-use Rattle.mig_live.specs.LiveSaves.{HasHostAndScript}
-use Rattle.mig_live.specs.Saves.{IsOfInput, IsSavedOrPaused}
+use Rattle.mig_tool_save.proofs.SaveInputs.{not_refused, paused}
+use Rattle.mig_tool_save.specs.LiveSaves.{HasHostAndScript}
+use Rattle.mig_tool_save.specs.Saves.{IsOfInput, IsSavedOrPaused}
 use Rattle.mig_tool.specs.Answers.{SaysBesides}
 
 -- an input of whichever form isn't both accepted and refused

@@ -21,8 +21,8 @@ use Rattle.mig_tool_guest.specs.Refusals.{HasLegacyRefusal, HasStreamRefusal, Ha
 use Rattle.mig_tool_guest.specs.Relays.{FrontRelayed, PassableFront, Relays}
 use Rattle.mig_tool_guest.specs.PassingSays.{HasOpenRefusal}
 use Rattle.mig_tool_guest.specs.Shown.{FrontShown, PartShown, SaysShown}
-use Rattle.mig_live.specs.Exercises.{ExerciseReported, SaysExercise}
-use Rattle.mig_live.specs.Saves.{BreaksSave, HasSaveRefusal, LiveBroken, LiveSaved}
+use Rattle.mig_tool_save.specs.Exercises.{ExerciseReported, SaysExercise}
+use Rattle.mig_tool_save.specs.Saves.{BreaksSave, HasSaveRefusal, LiveBroken, LiveSaved}
 
 -- ---- the forms of input
 

@@ -4,9 +4,9 @@ ghost use Rattle.mig_tool_report.specs.declared.command.Command.TheVariants as c
 ghost use Rattle.mig_tool.specs.Answers.{CarriedOut};
 
 use mig_bytes::{Sink, Source};
-use mig_live::{exercise_told, save};
 use mig_tool_guest::{convert, normalise, relay, restore, show, verify, walk, walk_image};
 use mig_tool_report::{Command, Status};
+use mig_tool_save::{exercise_told, save};
 use std::alloc::Global;
 
 /// Carries out a command.

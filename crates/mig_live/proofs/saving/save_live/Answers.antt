@@ -1,5 +1,0 @@
-use Rattle.mig_live.proofs.SaveOutcomes.{unwritten}
-use Rattle.mig_live.proofs.saving.save_live.Goals as goal
-
-pub returns-in_default-clause-no_stream : goal.returns-in_default-clause-no_stream
-returns-in_default-clause-no_stream g c = unwritten _

@@ -1,0 +1,98 @@
+-- What an exercise comes to.
+use Rattle.mig_tool_save.proofs.Common.{◌≡◌, ◌⊎◌, ℕ, ◌++◌, List, [], length, Option, Some, None, Ok, Err, refl, sym, ap, subst, ◌∙◌, arith, GuestOf, AcceptedStream}
+use mathlib.Core.Logic.{inl, inr}
+use mathlib.Core.List.{append-nil}
+use Rattle.mig_bytes.specs.Answers.{or_stop}
+use Rattle.mig_bytes.specs.Faults.{RisesOnReadFault}
+use Rattle.mig_bytes.specs.declared.answer.Answer.TheVariants as answers
+use Rattle.mig_headers.specs.declared.fault.Cause.{Cause}
+use Rattle.mig_headers.specs.declared.fault.Place.{Place}
+use Rattle.mig_guest.specs.Hosts.{HostOf}
+use Rattle.mig_host_view.specs.Sound.{unsoundness}
+use Rattle.mig_libxl.specs.Reads.{ReadsStream}
+use Rattle.mig_libxl_form.proofs.Laws.{accepted_is_stream, one_front, never_both}
+use Rattle.mig_restore.specs.declared.read.Reading.{Reading}
+use Rattle.mig_bytes.specs.declared.answer.Answer.{Answer}
+use Rattle.mig_tool_report.specs.declared.outcome.Outcome.{Outcome}
+use Rattle.mig_tool_report.specs.declared.outcome.Outcome.TheVariants as outcomes
+use Rattle.mig_tool_report.specs.declared.outcome.Refusal.TheVariants as refusals
+use Rattle.mig_machine_script.specs.ScriptLines.{LineOf}
+use Rattle.std.specs.Prelude.{◌*◌, ◌≤◌}
+use Rattle.mig_host_view.specs.View.{view}
+use Rattle.mig_libxl.specs.Canon.{canon_any}
+use Rattle.mig_machine.specs.Paced.{Paced}
+use Rattle.mig_exercise.specs.ExerciseHosts.{IsExerciseSize, host_of_exercise, data_count, exercise_canon_len}
+use Rattle.mig_exercise.specs.ExerciseScripts.{script_of_exercise}
+use Rattle.mig_tool_report.specs.declared.outcome.SaveSummary.{SaveSummary}
+use Rattle.mig_tool_save.specs.Exercises.{Exercises, ExerciseSaved}
+use Rattle.mig_tool_save.specs.LiveSaves.{WroteLive, WroteLiveTo, paused_host}
+use Rattle.mig_tool_save.specs.SaveSteps.{ComesToNone}
+
+-- ---- a stream is read again
+
+-- it is accepted with this guest, whatever follows it
+abbrev pub Means : List ℕ → GuestOf → Type 0
+Means stream guest = (rest : List ℕ) → AcceptedStream (stream ++ rest) guest rest
+
+alone : (stream : List ℕ) (guest : GuestOf) → Means stream guest → AcceptedStream stream guest []
+alone stream guest means = subst (λ (s : List ℕ). AcceptedStream s guest []) (append-nil stream) (means [])
+
+pub read_again : (stream : List ℕ) (left : Option (List ℕ)) (reading : Reading) (guest : GuestOf) → ReadsStream (Some stream) left (Ok reading) → Means stream guest → reading.guest ≡ guest
+read_again stream left reading guest (s, rest, accepts, left_is, is_read) means =
+    let front : AcceptedStream stream reading.guest rest = record { stream = s; image = is_read.image; spelled = accepted_is_stream stream s rest accepts; image_is = is_read.is; means = is_read.guest } in
+    (one_front stream reading.guest guest rest [] front (alone stream guest means)).0
+
+-- and nothing but want of memory is in the way of reading it
+pub only_memory : (stream : List ℕ) (left : Option (List ℕ)) (answer : Answer Place Cause) → ((guest : GuestOf) × Means stream guest) → ReadsStream (Some stream) left (Err answer)
+    → RisesOnReadFault 0 0 (or_stop {X = Reading} (Err answer)) → answer ≡ answers.Memory
+only_memory stream left (answers.Refused place cause) (guest, means) (rest, refused, is) faults = absurd (never_both stream guest [] place cause rest (alone stream guest means) refused)
+only_memory stream left answers.ReadFault h read (later, rose) = absurd (omega (arith, rose))
+only_memory stream left answers.Memory h read faults = refl
+
+-- ---- a host that is sound at each pause is saved
+
+pub never_unsound : (h : HostOf) (lines : List LineOf) (outcome : Outcome) → ((calls : ℕ) → unsoundness (paused_host h lines calls) ≡ None) → ComesToNone h lines outcome → (outcome ≡ outcomes.WriteFault) ⊎ (outcome ≡ outcomes.Memory)
+never_unsound h lines (outcomes.Refused (refusals.Pause unsound)) sound none =
+    let no : None ≡ Some unsound = sym (sound none.calls) ∙ none.first in absurd cc
+never_unsound h lines outcomes.WriteFault sound none = inl refl
+never_unsound h lines outcomes.Memory sound none = inr refl
+never_unsound h lines _ sound none = absurd none
+
+pub sound_at : (h k : HostOf) (ls ms : List LineOf) → h ≡ k → ls ≡ ms → ((calls : ℕ) → unsoundness (paused_host k ms calls) ≡ None) → (calls : ℕ) → unsoundness (paused_host h ls calls) ≡ None
+sound_at h k ls ms same alike sound calls = ap (λ (x : HostOf). unsoundness (paused_host x ls calls)) same ∙ ap (λ (x : List LineOf). unsoundness (paused_host k x calls)) alike ∙ sound calls
+
+-- ---- a machine was saved into memory
+
+module _ (h : HostOf) (lines : List LineOf) (now : HostOf) (old new : List ℕ) (s : SaveSummary) (w : WroteLiveTo h lines now (Some old) (Some new) s) (empty : old ≡ []) where
+  pub sound_now : unsoundness now ≡ None
+  sound_now = ap (λ (x : HostOf). unsoundness x) w.at_pause ∙ w.wrote.sound
+
+  pub means_now : Means new (view now)
+  means_now rest =
+      let text : new ≡ w.wrote.text = w.wrote.wrote ∙ ap (λ (l : List ℕ). l ++ w.wrote.text) empty in
+      subst (λ (l : List ℕ). AcceptedStream (l ++ rest) (view now) rest) (sym text)
+      (subst (λ (x : HostOf). AcceptedStream (w.wrote.text ++ rest) (view x) rest) (sym w.at_pause) (w.wrote.means rest))
+
+  -- what was written of this host, and so long is the canonical stream of the guest at the pause
+  abbrev SavedAs : ℕ → HostOf → List LineOf → List ℕ → Type 0
+  SavedAs canon k ls from = (wrote : WroteLive k ls (Some from) (Some new) s) × (canon ≡ length (canon_any (view (paused_host k ls wrote.calls))))
+
+  pub exercise_saved : (seed n canon : ℕ) → h ≡ host_of_exercise seed n → lines ≡ script_of_exercise seed n → canon ≡ length (canon_any (view now)) → ExerciseSaved seed n new s canon
+  exercise_saved seed n canon host script len =
+      let here : SavedAs canon h lines old = (w.wrote, len ∙ ap (λ (x : HostOf). length (canon_any (view x))) w.at_pause) in
+      let there = subst (λ (k : HostOf). SavedAs canon k (script_of_exercise seed n) []) host (subst (λ (ls : List LineOf). SavedAs canon h ls []) script (subst (SavedAs canon h lines) empty here)) in
+      record { wrote = there.0; canon_is = there.1 }
+
+pub exercises : (seed n canon : ℕ) (stream : List ℕ) (s : SaveSummary) → IsExerciseSize n
+    → ((c : ℕ) → length (canon_any (view (paused_host (host_of_exercise seed n) (script_of_exercise seed n) c))) ≡ exercise_canon_len n)
+    → ((r c e : ℕ) → Paced (host_of_exercise seed n) (script_of_exercise seed n) r c e → e ≤ 5 * data_count n)
+    → ExerciseSaved seed n stream s canon → Exercises seed n (record { frames = n; rounds = s.rounds; entries = s.entries; canon = canon })
+exercises seed n canon stream s size long few saved = record {
+  calls = saved.wrote.calls;
+  again = saved.wrote.again;
+  frames = refl;
+  paced = saved.wrote.paced;
+  entries = saved.wrote.counted;
+  few = few s.rounds saved.wrote.calls saved.wrote.again saved.wrote.paced;
+  canon = saved.canon_is ∙ long saved.wrote.calls;
+}
