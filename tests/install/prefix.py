@@ -299,8 +299,8 @@ def a_change_of_other_crates():
     """What the program doesn't stand on has no say in what is installed."""
     with copy_and_prefix() as (copy, prefix):
         copy.ship()
-        os.makedirs(os.path.join(copy.top, 'crates', 'mig_tests', 'src'))
-        write('changed', copy.top, 'crates', 'mig_tests', 'src', 'lib.rt')
+        os.makedirs(os.path.join(copy.top, 'crates', 'mig_test_format', 'src'))
+        write('changed', copy.top, 'crates', 'mig_test_format', 'src', 'lib.rt')
         yield from installed(run(os.path.join(copy.top, 'bin', 'install'), '--prefix', prefix), prefix)
 
 

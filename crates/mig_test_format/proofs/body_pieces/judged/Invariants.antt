@@ -1,7 +1,7 @@
 use Rattle.std.proofs.Common.{◌≡◌, ℕ, ◌-◌, ◌≤◌, List, [], length, take, Option}
 use Rattle.mig_headers.specs.declared.fault.Cause.{Cause}
 use Rattle.mig_relay_bodies.specs.Begun.{IsBegunBody}
-use Rattle.mig_stream_tests.proofs.bodies.judged.Given as goal
+use Rattle.mig_test_format.proofs.body_pieces.judged.Given as goal
 
 abbrev pub invariant-loop-known : goal.invariant-loop-known
 invariant-loop-known l = record {

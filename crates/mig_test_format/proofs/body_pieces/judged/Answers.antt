@@ -2,7 +2,7 @@ use Rattle.std.proofs.Common.{◌≡◌, ℕ, ◌+◌, ◌≤◌, List, ◌++◌
 use Rattle.std.proofs.Math.Seq.{take-add}
 use Rattle.std.proofs.lemmas.List.{take_all}
 use Rattle.mig_relay_bodies.specs.Begun.{IsBegunBody}
-use Rattle.mig_stream_tests.proofs.bodies.judged.Goals as goal
+use Rattle.mig_test_format.proofs.body_pieces.judged.Goals as goal
 
 -- the next piece behind the first bytes
 joined : (body : List ℕ) (t w taken : ℕ) → t + w ≤ length body → taken ≡ t + length (take w (drop t body)) → take t body ++ take w (drop t body) ≡ take taken body
