@@ -4,7 +4,7 @@ use Rattle.std.specs.FinMap.{get-empty}
 use Rattle.std.specs.Ordering.{nat_cmp}
 use Rattle.mig_guest.specs.Hosts.{HostOf, HostFrame}
 use Rattle.mig_host.proofs.InOrder.{no_entries}
-use Rattle.mig_script_tests.proofs.standing.host.Goals as goal
+use Rattle.mig_test_machine.proofs.standing_tests.host.Goals as goal
 
 pub add_frame-requires-clause-absent : goal.add_frame-requires-clause-absent
 add_frame-requires-clause-absent c = ap (λ (h : HostOf). maps.get h.frames 65) c.new-host.ensures.host ∙ get-empty nat_cmp 65

@@ -8,9 +8,9 @@ use Rattle.mig_guest.specs.Hosts.{HostOf, HostFrame, IsValid, most_saved_width}
 use Rattle.mig_guest.specs.MachineCalls.{LogTaken}
 use Rattle.mig_guest.specs.MachineStates.{IsValidState}
 use Rattle.mig_guest.specs.Pfns.{Pfns, no_pfns}
-use Rattle.mig_machine_tests.specs.Standing.{Asked, and_then, asked, nothing_yet, standing}
-use Rattle.mig_machine_tests.specs.declared.standing.Call.{Call}
-use Rattle.mig_machine_tests.specs.declared.standing.Call.TheVariants as calls
+use Rattle.mig_test_machine.specs.Standing.{Asked, and_then, asked, nothing_yet, standing}
+use Rattle.mig_test_machine.specs.declared.standing.Call.{Call}
+use Rattle.mig_test_machine.specs.declared.standing.Call.TheVariants as calls
 
 pub stands : (h : HostOf) (a : Asked) → IsValid h → h.width ≤ most_saved_width → IsValidState (standing h a)
 stands h a valid narrow = record { host = valid; narrow = narrow; logged = λ p _. refl }

@@ -3,7 +3,7 @@ ghost use Rattle.std.proofs.Common.{◌∙◌};
 ghost use Rattle.mig_bytes.specs.Faults.{HasCause};
 ghost use Rattle.mig_guest.specs.Hosts.{IsValid, most_saved_width};
 ghost use Rattle.mig_guest.specs.Pfns.{pfns_of_words, no_pfns};
-ghost use Rattle.mig_machine_tests.specs.Standing.{asked, standing};
+ghost use Rattle.mig_test_machine.specs.Standing.{asked, standing};
 
 use mig_bytes::Failed;
 use mig_guest::{PartKey, is_fixed};

@@ -2,11 +2,11 @@ ghost use Rattle.std.specs.Prelude.{◌≡◌, IfOk};
 ghost use Rattle.mig_guest.specs.History.{no_history};
 
 use crate::made::{log, looks_up};
+use crate::standing::StandingMachine;
 use mig_guest::PartKey;
 use mig_guest::mig_machine_api::{Machine, Seen};
 use mig_headers::Kind;
 use mig_host::Host;
-use mig_machine_tests::StandingMachine;
 use mig_pagetypes::PageType;
 use std::alloc::Global;
 use std::process::Abort;

@@ -5,8 +5,8 @@ use Rattle.mig_guest.specs.Hosts.{HostOf}
 use Rattle.mig_guest.specs.History.{History, no_history, after_peek, after_call, after_log}
 use Rattle.mig_guest.specs.MachineStates.{MachineState}
 use Rattle.mig_guest.specs.Pfns.{no_pfns}
-use Rattle.mig_machine_tests.specs.declared.standing.Call.{Call}
-use Rattle.mig_machine_tests.specs.declared.standing.Call.TheVariants as calls
+use Rattle.mig_test_machine.specs.declared.standing.Call.{Call}
+use Rattle.mig_test_machine.specs.declared.standing.Call.TheVariants as calls
 
 pub record Asked : Type 0 where
   pub paused : Bool

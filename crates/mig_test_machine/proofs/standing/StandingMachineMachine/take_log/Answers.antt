@@ -1,7 +1,7 @@
 use Rattle.std.proofs.Common.{ap}
 use Rattle.mig_guest.specs.Pfns.{pfns_of_words}
-use Rattle.mig_machine_tests.proofs.StandingStates.{took}
-use Rattle.mig_machine_tests.proofs.standing.StandingMachineMachine.take_log.Goals as goal
+use Rattle.mig_test_machine.proofs.StandingStates.{took}
+use Rattle.mig_test_machine.proofs.standing.StandingMachineMachine.take_log.Goals as goal
 
 pub returns-clause-ok : goal.returns-clause-ok
 returns-clause-ok c =
