@@ -24,7 +24,10 @@ mod take;
 
 pub use answer::{Answer, answer_for, stop_for};
 pub use failure::{Failed, Memory, ReadFailed, WriteFailed};
-pub use fields::{pad_len, padding_is_least, put_u16_le, put_u32_be, put_u32_le, put_u64_be, put_u64_le, u16_be, u16_le, u32_be, u32_le, u64_be, u64_le};
+pub use fields::{
+    pad_len, padding_is_least, put_u16_le, put_u32_be, put_u32_le, put_u64_be, put_u64_le, u16_be,
+    u16_le, u32_be, u32_le, u64_be, u64_le,
+};
 pub use memory::{MemSink, MemSource};
 pub use outside::{InSource, OutSink};
 pub use part::{take_long, take_part};

@@ -6,4 +6,7 @@
 
 mod laws;
 
-pub use laws::{accepted_or_refused, named_is_least, never_both, one_refusal, passes_spelled, refused_so, then_judged};
+pub use laws::{
+    accepted_or_refused, named_is_least, never_both, one_refusal, passes_spelled, refused_so,
+    then_judged,
+};

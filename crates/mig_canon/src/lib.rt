@@ -6,7 +6,7 @@
 //! guest has emulators; and that the records of a guest, one after another in their canonical order, may each stand where
 //! they stand and say the guest's parts and frames. Left to others: the bytes of PAGE_DATA records (mig_records_pages), the
 //! shapes of bodies (mig_records), whether a guest can be written (`IsWhole` of mig_pvtables), what an image is
-//! (mig_restore_form), and what is written around the image (mig_libxl_form).
+//! (mig_restore_form), and what is written around the image (mig_libxl).
 //!
 //! What the layers above rely on: for a whole guest the bytes that are appended are exactly `canon` of specs/Canon, and
 //! after a failed write a part of them that isn't all; a failure is answered only where the count of the sink rose; and the

@@ -14,8 +14,8 @@ ghost use Rattle.mig_dirtysave.specs.Paused.{standing_seen, standing_with, with_
 
 use crate::lookup::pfn_for_field;
 use mig_bytes::Failed;
-use mig_guest::{Guest, PartKey};
 use mig_guest::mig_machine_api::Machine;
+use mig_guest::{Guest, PartKey};
 use mig_headers::Unsound;
 use mig_pagetypes::PageType;
 use mig_pvtables::{FIELDS, VCPU_BASIC, host_frame, put_vcpu_frame};

@@ -13,8 +13,8 @@ ghost use Rattle.mig_dirtysave.specs.Paused.{standing_seen, HasTypes, first_in_t
 use crate::contexts::rename_contexts;
 use crate::listing::misplaced_by_type;
 use mig_bytes::Failed;
-use mig_guest::{Guest, PartCode};
 use mig_guest::mig_machine_api::Machine;
+use mig_guest::{Guest, PartCode};
 use mig_headers::Unsound;
 use mig_host_view::large_gdt;
 use mig_pagetypes::PageType;

@@ -37,6 +37,9 @@ pub use judging::judge;
 pub use listing::misplaced_by_type;
 pub use pause_law::{parts_of_codes_are_held, rounds_judge_tables};
 pub use saver::Saver;
-pub use unended_law::{unended_has_no_stream, unended_image_is_no_stream, unended_libxl_stream_is_no_stream, unended_wrapped_image_is_no_stream};
+pub use unended_law::{
+    unended_has_no_stream, unended_image_is_no_stream, unended_libxl_stream_is_no_stream,
+    unended_wrapped_image_is_no_stream,
+};
 pub use viewed_law::saved_host_is_viewed;
 pub use viewing::view_parts;

@@ -5,8 +5,8 @@ ghost use Rattle.mig_dirtysave_parts.specs.KeptParts.{is_early as is_early_code,
 
 use crate::settings::{is_early, is_setting};
 use mig_bytes::Memory;
-use mig_guest::{Guest, PartKey};
 use mig_guest::mig_machine_api::Machine;
+use mig_guest::{Guest, PartKey};
 use mig_headers::Kind;
 use std::alloc::{AllocError, Global};
 

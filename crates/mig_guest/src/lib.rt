@@ -28,7 +28,10 @@ pub mod pfn_set;
 mod table;
 
 pub use guest::Guest;
-pub use law::{empty_guest_is_formed, setting_frames_keeps_formed, setting_parts_keeps_formed, setting_policies_keeps_formed};
+pub use law::{
+    empty_guest_is_formed, setting_frames_keeps_formed, setting_parts_keeps_formed,
+    setting_policies_keeps_formed,
+};
 pub use machine_law::{footprint_laws, members_laws, rounds_laws};
 pub use mig_pagestore::FrameStore;
 pub use part_code::{EMULATOR_CONTEXT, EMULATOR_PAIRS, PartCode, is_fixed};

@@ -4,7 +4,9 @@ ghost use Rattle.mig_headers.specs.Headers.{fault_of_marker, marker, behind_mark
 
 use crate::Kind;
 use crate::fault::Cause;
-use mig_bytes::{put_u16_le, put_u32_be, put_u32_le, put_u64_be, u16_be, u16_le, u32_be, u32_le, u64_be};
+use mig_bytes::{
+    put_u16_le, put_u32_be, put_u32_le, put_u64_be, u16_be, u16_le, u32_be, u32_le, u64_be,
+};
 
 /// The first 8 bytes of an image.
 const MARKER: u64 = u64::MAX;

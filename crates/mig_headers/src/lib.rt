@@ -26,7 +26,10 @@ pub use fault::{Cause, ContextFault, Place};
 pub use header::{DomainHeader, ImageHeader, LibxlHeader};
 pub use image_fault::{ImageCause, ImagePlace};
 pub use kind::Kind;
-pub use laws::{canonical_pairs_law, context_law, domain_header_laws, image_header_laws, libxl_header_laws, record_number_law};
+pub use laws::{
+    canonical_pairs_law, context_law, domain_header_laws, image_header_laws, libxl_header_laws,
+    record_number_law,
+};
 pub use legacy_fault::{LegacyCause, LegacyPlace};
 pub use record_type::{MOST_BODY, RecordType, is_optional};
 pub use unsound::Unsound;

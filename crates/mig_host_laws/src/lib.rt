@@ -13,7 +13,13 @@ mod saver_law;
 mod standing_law;
 mod worked_law;
 
-pub use field_law::{context_is_seen, field_keeps_what_is_put, fields_have_numbers, fields_say_values, renamed_context_says_names, worked_descriptors, worked_user_root};
+pub use field_law::{
+    context_is_seen, field_keeps_what_is_put, fields_have_numbers, fields_say_values,
+    renamed_context_says_names, worked_descriptors, worked_user_root,
+};
 pub use saver_law::saver_finds_unsoundness;
-pub use standing_law::{first_row_is_least, guest_fault_is_least, nothing_is_wrong, one_row_is_named, unsoundness_is_least};
+pub use standing_law::{
+    first_row_is_least, guest_fault_is_least, nothing_is_wrong, one_row_is_named,
+    unsoundness_is_least,
+};
 pub use worked_law::{listed_frames_are_numbers, worked_entries};

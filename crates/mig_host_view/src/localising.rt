@@ -15,7 +15,10 @@ ghost use Rattle.mig_host_view.specs.RenamedContexts.{renamed_context};
 
 use mig_guest::{Guest, PartCode, PartKey, Parts};
 use mig_headers::Kind;
-use mig_pvtables::{FIELDS, Frames, VCPU_BASIC, listed_pfn, localise_table, p2m_page, put_vcpu_frame, sole_key, vcpu_frame};
+use mig_pvtables::{
+    FIELDS, Frames, VCPU_BASIC, listed_pfn, localise_table, p2m_page, put_vcpu_frame, sole_key,
+    vcpu_frame,
+};
 
 /// Puts machine frames into the table of this frame, where the frame is a table.
 fn localise_frame<F: Frames>(guest: &mut Guest, pfn: u64, frames: &F)

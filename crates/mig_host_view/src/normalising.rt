@@ -16,7 +16,10 @@ ghost use Rattle.mig_host_view.specs.NormaliseSteps.{normalised_frame};
 ghost use Rattle.mig_host_view.specs.RenamedContexts.{renamed_context};
 
 use mig_guest::{Guest, PartKey};
-use mig_pvtables::{FIELDS, Frames, VCPU_BASIC, blank_shared_info, blank_vcpus, host_frame, put_vcpu_frame, rename_back, zero_p2m_frames};
+use mig_pvtables::{
+    FIELDS, Frames, VCPU_BASIC, blank_shared_info, blank_vcpus, host_frame, put_vcpu_frame,
+    rename_back, zero_p2m_frames,
+};
 
 /// Brings a table to its form in a stream. It makes no difference whether its blank slots are 0 before or after PFNs stand
 /// in it.

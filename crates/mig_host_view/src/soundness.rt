@@ -20,7 +20,10 @@ use mig_guest::{FrameStore, PartCode, PartKey, Parts};
 use mig_headers::{ContextFault, Kind, Unsound};
 use mig_hvm::scan_context;
 use mig_pagetypes::PageType;
-use mig_pvtables::{FIELDS, Frames, VCPU_BASIC, frame_type, gdt_ents, host_frame, is_type_of_field, lacks, misplaced_frame, sole_key, superpage_slot, unknown_slot};
+use mig_pvtables::{
+    FIELDS, Frames, VCPU_BASIC, frame_type, gdt_ents, host_frame, is_type_of_field, lacks,
+    misplaced_frame, sole_key, superpage_slot, unknown_slot,
+};
 use std::alloc::Global;
 
 /// The greatest number of descriptors that a GDT has: those of 14 frames.

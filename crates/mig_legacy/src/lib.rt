@@ -26,8 +26,15 @@ mod toolstack;
 
 pub use batch::{batch_fault, page_data_words};
 pub use chunk::{ChunkKind, chunk_kind};
-pub use chunk_law::{batches_are_judged, digits_spell_numbers, numbers_have_kinds, toolstack_is_spelled, words_say_frames};
-pub use law::{accepted_is_legacy, accepted_legacy_is_whole, accepted_or_refused, device_record_decides, guest_is_hvm, last_entry_decides, last_pair_decides, last_part_decides, last_value_decides, legacy_is_accepted, never_both, one_front};
+pub use chunk_law::{
+    batches_are_judged, digits_spell_numbers, numbers_have_kinds, toolstack_is_spelled,
+    words_say_frames,
+};
+pub use law::{
+    accepted_is_legacy, accepted_legacy_is_whole, accepted_or_refused, device_record_decides,
+    guest_is_hvm, last_entry_decides, last_pair_decides, last_part_decides, last_value_decides,
+    legacy_is_accepted, never_both, one_front,
+};
 pub use read::{LegacyAnswer, read_legacy};
 pub use text::put;
 pub use toolstack::{physmap_pairs, toolstack_fault};

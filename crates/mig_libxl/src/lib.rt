@@ -17,4 +17,6 @@ mod write;
 
 pub use canon_law::{canon_is_accepted, canon_is_one_to_one, emulators_ascend, twice_is_once};
 pub use read::read_any;
-pub use write::{close_wrapper, open_wrapper, write_any, write_closing, write_emulator, write_opening};
+pub use write::{
+    close_wrapper, open_wrapper, write_any, write_closing, write_emulator, write_opening,
+};

@@ -19,10 +19,15 @@ ghost use Rattle.mig_libxl_form.specs.Stream.StreamOf.{Wrapped};
 ghost use Rattle.mig_libxl_form.specs.Stream.{header_at, libxl_records_at, wrapped_at, bare_at, stream_at};
 ghost use Rattle.mig_libxl.specs.Reads.{IsStreamReading, ReadsStream};
 
-use mig_bytes::{Memory, ReadFailed, Source, Stop, answer_for, skip, stop_for, take_long, take_part, u32_le};
+use mig_bytes::{
+    Memory, ReadFailed, Source, Stop, answer_for, skip, stop_for, take_long, take_part, u32_le,
+};
 use mig_guest::PartKey;
 use mig_headers::{Cause, ImageHeader, LibxlHeader, Place};
-use mig_libxl_form::{EMULATOR_CONTEXT, EMULATOR_XENSTORE_DATA, Emulators, LIBXC_CONTEXT, LIBXL_END, RecordsBehind, libxl_head_fault};
+use mig_libxl_form::{
+    EMULATOR_CONTEXT, EMULATOR_XENSTORE_DATA, Emulators, LIBXC_CONTEXT, LIBXL_END, RecordsBehind,
+    libxl_head_fault,
+};
 use mig_policy::{PairsAnswer, pairs_fault};
 use mig_records::{RecordHead, take_head, take_padding};
 use mig_restore::{Reading, StreamAnswer, read_image, read_image_rest};

@@ -4,7 +4,10 @@ ghost use Rattle.mig_libxl_form.specs.Content.{LibxlRecord};
 ghost use Rattle.mig_libxl_form.specs.Judging.{fault_of_libxl_fields, fault_of_libxl_head, allows_length as length_allowed};
 ghost use Rattle.mig_libxl_form.specs.Behind.{AreBehind, MayFollow};
 
-use crate::numbers::{CHECKPOINT_END, CHECKPOINT_STATE, EMULATOR_CONTEXT, EMULATOR_XENSTORE_DATA, LIBXC_CONTEXT, LIBXL_END, MAX_RECORDS};
+use crate::numbers::{
+    CHECKPOINT_END, CHECKPOINT_STATE, EMULATOR_CONTEXT, EMULATOR_XENSTORE_DATA, LIBXC_CONTEXT,
+    LIBXL_END, MAX_RECORDS,
+};
 use mig_headers::{Cause, Kind, is_optional};
 use mig_records::{RecordHead, long_fault};
 

@@ -22,5 +22,8 @@ mod numbers;
 pub use emulator_law::{last_context_decides, last_value_decides};
 pub use emulators::Emulators;
 pub use head::{RecordsBehind, libxl_head_fault};
-pub use law::{accepted_is_stream, accepted_or_refused, accepted_stream_is_whole, never_both, one_front, stream_is_accepted};
+pub use law::{
+    accepted_is_stream, accepted_or_refused, accepted_stream_is_whole, never_both, one_front,
+    stream_is_accepted,
+};
 pub use numbers::{EMULATOR_CONTEXT, EMULATOR_XENSTORE_DATA, LIBXC_CONTEXT, LIBXL_END};

@@ -7,9 +7,9 @@ ghost use Rattle.mig_machine_script.proofs.CoursesRun.{later_itself, later_still
 
 use crate::machine::ScriptMachine;
 use mig_bytes::Failed;
-use mig_guest::{PartKey, is_fixed};
 use mig_guest::mig_machine_api::{Machine, Seen};
 use mig_guest::pfn_set::clear;
+use mig_guest::{PartKey, is_fixed};
 use mig_headers::Kind;
 use mig_host::Host;
 use mig_pvtables::Frames;

@@ -2,12 +2,12 @@
 //!
 //! Responsible for: what an entry of a table says, what is wrong with a table in a stream, the frame that a field of a
 //! vCPU's context says, what is wrong with a guest at the end of its stream, bringing a guest to its blank form, and
-//! bringing a table from frame numbers to machine frames and back. A whole guest that stands in a machine is left to
-//! mig_host_view.
+//! bringing a table from frame numbers to machine frames and back. Left to others: a whole guest that stands in a machine
+//! (mig_host_view).
 //!
-//! What the layers above rely on: a guest is whole exactly where no row of its faults finds anything, and its blank form
-//! is whole then, and is its own blank form. For those that look at a guest in a machine, the searches are here that are
-//! the same there: through the list of the P2M frames, through a table, and through the fields of a context.
+//! What the layers above rely on: a guest is whole exactly where no row of its faults finds anything, and its blank form is
+//! whole then, and is its own blank form. For those that look at a guest in a machine, the searches are here that are the
+//! same there: through the list of the P2M frames, through a table, and through the fields of a context.
 #![tactic(auto)]
 
 mod blanking;
@@ -23,12 +23,18 @@ mod vcpu;
 
 pub use blanking::{blank, blank_shared_info, blank_vcpus, zero_p2m_frames};
 pub use frames::Frames;
-pub use law::{blank_form_is_blank, blank_form_is_whole, faultless_table_is_within, hvm_guest_has_two_faults, hvm_guest_is_blank, hvm_guest_is_whole, pv_guest_is_whole, some_blank_pv_guest_is_whole, whole_as_its_blank_form, worked_pv_guest_is_whole};
+pub use law::{
+    blank_form_is_blank, blank_form_is_whole, faultless_table_is_within, hvm_guest_has_two_faults,
+    hvm_guest_is_blank, hvm_guest_is_whole, pv_guest_is_whole, some_blank_pv_guest_is_whole,
+    whole_as_its_blank_form, worked_pv_guest_is_whole,
+};
 pub use listing::{frame_type, lacks, listed_pfn, misplaced_frame, sole_key};
 pub use mig_guest::Entry;
 pub use p2m::p2m_page;
 pub use rename::{BadEntry, Why, localise_table, normalise_table, rename_back, unknown_slot};
-pub use renaming_law::{localised_table_comes_back, normalise_table_refuses_the_first, renamed_table_says_the_same};
+pub use renaming_law::{
+    localised_table_comes_back, normalise_table_refuses_the_first, renamed_table_says_the_same,
+};
 pub use table::{check_table, entry, put_entry, superpage_slot};
 pub use testing::{WholeAnswer, is_type_of_field, whole};
 pub use vcpu::{FIELDS, VCPU_BASIC, gdt_ents, host_frame, put_vcpu_frame, vcpu_frame};

@@ -28,11 +28,18 @@ mod table;
 mod words;
 mod write;
 
-pub use body_laws::{bodies_are_spelled_law, bodies_keep_formed_law, bodies_say_bytes_law, bodies_say_one_law, bodies_say_parts_law, canonical_bodies_law, p2m_keeps_formed_law, p2m_law, pv_info_law, vcpu_law};
+pub use body_laws::{
+    bodies_are_spelled_law, bodies_keep_formed_law, bodies_say_bytes_law, bodies_say_one_law,
+    bodies_say_parts_law, canonical_bodies_law, p2m_keeps_formed_law, p2m_law, pv_info_law,
+    vcpu_law,
+};
 pub use count::count_fault;
 pub use framing::{take_head, take_padding};
 pub use head::{RecordHead, length_fault, long_fault};
-pub use laws::{faultless_words, heads_are_read_back, outside_place_is_first, pieces_spell_a_record, reserved_place_is_first, reserved_types_are_unknown, spelled_is_record};
+pub use laws::{
+    faultless_words, heads_are_read_back, outside_place_is_first, pieces_spell_a_record,
+    reserved_place_is_first, reserved_types_are_unknown, spelled_is_record,
+};
 pub use layout::Layout;
 pub use pv::{p2m_fault, pv_info_fault, read_p2m, vcpu_fault};
 pub use read::{GDT_ENTS, MAX_GDT_ENTS, body_fault, read_body, read_single};

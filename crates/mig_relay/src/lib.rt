@@ -27,5 +27,8 @@ mod state;
 pub use answer::{RelayAnswer, Relayed, Step};
 pub use law::lists_are_fronts;
 pub use pass::relay;
-pub use passable_law::{accepted_passes, fronts_pass, left_out_is_not_told, no_prefix_passes, nothing_else_is_left_out, refused_is_open_refused, unfinished_is_not_accepted};
+pub use passable_law::{
+    accepted_passes, fronts_pass, left_out_is_not_told, no_prefix_passes, nothing_else_is_left_out,
+    refused_is_open_refused, unfinished_is_not_accepted,
+};
 pub use state::Relay;

@@ -23,7 +23,10 @@ use mig_bytes::{ReadFailed, Source, Stop, skip, take_long, take_part, u32_le};
 use mig_guest::{Guest, PartCode};
 use mig_headers::{Cause, Kind, RecordType, is_optional};
 use mig_hvm::{read_context, scan_context};
-use mig_records::{RecordHead, body_fault, count_fault, data_len, p2m_fault, pv_info_fault, read_body, read_p2m, words_fault};
+use mig_records::{
+    RecordHead, body_fault, count_fault, data_len, p2m_fault, pv_info_fault, read_body, read_p2m,
+    words_fault,
+};
 use mig_restore_form::{meant, page_fault, pfn_in, type_in, words_of};
 use std::alloc::Global;
 

@@ -16,5 +16,10 @@ mod law;
 mod word;
 
 pub use head::{MAX_RECORDS, RecordsSeen};
-pub use law::{accepted_is_image, accepted_is_whole, accepted_or_refused, entries_behind_verify_are_counted, entry_agrees, greatest_end_decides, image_is_accepted, last_content_decides, last_entry_decides, last_listing_decides, never_both, one_front, only_verify_is_counted, page_data_is_sent_or_compared, verify_parts_entries};
+pub use law::{
+    accepted_is_image, accepted_is_whole, accepted_or_refused, entries_behind_verify_are_counted,
+    entry_agrees, greatest_end_decides, image_is_accepted, last_content_decides,
+    last_entry_decides, last_listing_decides, never_both, one_front, only_verify_is_counted,
+    page_data_is_sent_or_compared, verify_parts_entries,
+};
 pub use word::{meant, page_fault, pfn_in, type_in, words_of};

@@ -1,4 +1,7 @@
-use mig_bytes::{Got, InSource, MemSink, MemSource, OutSink, ReadFailed, TakeFault, WriteFailed, put_all, skip, take_exact, take_vec};
+use mig_bytes::{
+    Got, InSource, MemSink, MemSource, OutSink, ReadFailed, TakeFault, WriteFailed, put_all, skip,
+    take_exact, take_vec,
+};
 use mig_headers::Cause;
 use mig_headers_text::put_cause;
 use mig_records::write_record;

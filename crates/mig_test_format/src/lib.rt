@@ -27,4 +27,3 @@ mod passing;
 mod renaming;
 #[cfg(test)]
 mod tables;
-

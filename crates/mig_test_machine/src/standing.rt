@@ -6,8 +6,8 @@ ghost use Rattle.mig_guest.specs.Pfns.{pfns_of_words, no_pfns};
 ghost use Rattle.mig_test_machine.specs.Standing.{asked, standing};
 
 use mig_bytes::Failed;
-use mig_guest::{PartKey, is_fixed};
 use mig_guest::mig_machine_api::{Machine, Seen};
+use mig_guest::{PartKey, is_fixed};
 use mig_headers::Kind;
 use mig_host::Host;
 use mig_pvtables::Frames;

@@ -1,3 +1,5 @@
+//! The program: `run` does the command that the words name, over any source and sinks, and `main` gives it the standard streams.
+//!
 //! Reads a stream of a Xen guest, and writes it in its one canonical form, writes the image of the restored guest, or says
 //! what it is; or reads a legacy stream, and writes the canonical stream of its guest; or reads the image of a host and a
 //! script, and saves the host live, while the script runs; or tries all of this on a host of its own; or says which frame an
@@ -14,9 +16,9 @@ use crate::run::run;
 use mig_bytes::{InSource, OutSink};
 use mig_tool_report::{Outcome, Status, put_line};
 use std::alloc::Global;
-use std::{env, io};
 use std::io::{BufReader, ErrorKind};
 use std::process::ExitCode;
+use std::{env, io};
 
 /// How much of standard input is read at once.
 const INPUT_BUFFER: usize = 131072;

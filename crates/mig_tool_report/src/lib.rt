@@ -14,5 +14,8 @@ mod outcome;
 mod status;
 
 pub use command::{Command, command_in};
-pub use outcome::{ExerciseSummary, Outcome, Refusal, RelaySummary, SaveSummary, Summary, WalkEnd, WalkSummary, finish, put_exercised, put_line, put_ok, put_relayed, put_saved, put_walked};
+pub use outcome::{
+    ExerciseSummary, Outcome, Refusal, RelaySummary, SaveSummary, Summary, WalkEnd, WalkSummary,
+    finish, put_exercised, put_line, put_ok, put_relayed, put_saved, put_walked,
+};
 pub use status::Status;

@@ -9,7 +9,10 @@ ghost use Rattle.mig_tool_report.specs.declared.outcome.Refusal.TheVariants as r
 use crate::status::Status;
 use mig_bytes::{Sink, WriteFailed, put_all};
 use mig_headers::{Cause, ImageCause, ImagePlace, Kind, LegacyCause, LegacyPlace, Place, Unsound};
-use mig_headers_text::{put_cause, put_image_cause, put_image_place, put_legacy_cause, put_legacy_place, put_number, put_place, put_unsound};
+use mig_headers_text::{
+    put_cause, put_image_cause, put_image_place, put_legacy_cause, put_legacy_place, put_number,
+    put_place, put_unsound,
+};
 
 /// The place and the cause of a refusal.
 #[derive(Clone, Copy, Debug, PartialEq, Eq)]

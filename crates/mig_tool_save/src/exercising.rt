@@ -21,7 +21,9 @@ use crate::saving::save_machine;
 use mig_bytes::{Failed, MemSink, Memory, Sink, Source};
 use mig_exercise::{exercise_host, exercise_is_saved, exercise_script};
 use mig_guest::Guest;
-use mig_image::{Host, HostAnswer, SoundAnswer, guest_of, host_of, hosted_is_seen, hosted_is_sound};
+use mig_image::{
+    Host, HostAnswer, SoundAnswer, guest_of, host_of, hosted_is_seen, hosted_is_sound,
+};
 use mig_libxl::{read_any, write_any};
 use mig_machine::ScriptMachine;
 use mig_restore::StreamAnswer;

@@ -2,7 +2,7 @@
 //!
 //! Responsible for: going down the four levels of page tables of a guest, or of a host, from the root that a vCPU's context
 //! names to the frame that an address means, and telling where the way ends if it ends before. Left to others: what an entry
-//! says (mig_guest), what a field of a context says (mig_pvtables), and how a guest stands where it is (mig_host_laws).
+//! says, and what a field of a context says (mig_pvtables), and how a guest stands where it is (mig_host_laws).
 //!
 //! What the layers above rely on: each answer is what a relation over the levels says, exactly one answer holds, and where a
 //! guest is restored the frame that an address means stays the same, with its machine frame for its number.
