@@ -6,17 +6,17 @@ use Rattle.mig_headers.specs.declared.fault.Place.{Place}
 use Rattle.mig_headers.specs.declared.fault.Cause.{Cause}
 use Rattle.mig_headers.specs.declared.kind.Kind.{Kind}
 use Rattle.mig_headers.specs.declared.kind.Kind.TheVariants.{Pv, Hvm}
-use Rattle.mig_show.specs.declared.record.ShownRecord.{ShownRecord}
+use Rattle.mig_show.specs.declared.record.Seen1.{Seen1}
 use Rattle.mig_show.specs.Tree.{is_page_data, common_members, with_pages, record_tree, kind_tree, version_tree, refused_tree, shown_tree}
 
-of_members : (pages : Bool) (shown : ShownRecord) → members_have_float (cond pages (with_pages shown (common_members shown)) (common_members shown)) ≡ false
+of_members : (pages : Bool) (shown : Seen1) → members_have_float (cond pages (with_pages shown (common_members shown)) (common_members shown)) ≡ false
 of_members true shown = refl
 of_members false shown = refl
 
-pub of_record : (shown : ShownRecord) → has_float (record_tree shown) ≡ false
+pub of_record : (shown : Seen1) → has_float (record_tree shown) ≡ false
 of_record shown = of_members (is_page_data shown) shown
 
-of_records : (list : List ShownRecord) → items_have_float (items_of (map record_tree list)) ≡ false
+of_records : (list : List Seen1) → items_have_float (items_of (map record_tree list)) ≡ false
 of_records [] = refl
 of_records (shown ∷ list) = rw (of_members (is_page_data shown) shown) (of_records list)
 
@@ -33,5 +33,5 @@ pub of_refused : (refused : Option (Place × Cause)) → has_float (refused_tree
 of_refused None = refl
 of_refused (Some refused) = refl
 
-pub no_float : (wrapper : Bool) (version : Option ℕ) (kind : Option Kind) (list : List ShownRecord) (refused : Option (Place × Cause)) → has_float (shown_tree wrapper version kind list refused) ≡ false
+pub no_float : (wrapper : Bool) (version : Option ℕ) (kind : Option Kind) (list : List Seen1) (refused : Option (Place × Cause)) → has_float (shown_tree wrapper version kind list refused) ≡ false
 no_float wrapper version kind list refused = rw (of_kind kind, of_records list, of_refused refused, of_version version) refl

@@ -13,7 +13,7 @@ use Rattle.mig_headers.specs.declared.fault.Place.TheVariants.{ImageHeader, Doma
 use Rattle.mig_records.specs.Records.{IsRecord}
 use Rattle.mig_show.specs.Fronts.{ShownFront, HasWords, StandsWhole, StandsBefore, of_form, with_shown, libxl_number, behind_image, image_first, header_first, libxl_header, libxl_record, libxl_context, libxl_end, image_header, domain_header, image_record, image_end}
 use Rattle.mig_show.specs.Tree.{is_page_data}
-use Rattle.mig_show.specs.declared.record.ShownRecord.{ShownRecord}
+use Rattle.mig_show.specs.declared.record.Seen1.{Seen1}
 
 -- ---- a record
 
@@ -33,11 +33,11 @@ same_words body number also pages more a b =
     (same, cc words.0)
 
 -- its five fields are all that is shown of a record
-same_shown : (shown also : ShownRecord) → shown.wrapped ≡ also.wrapped → shown.kind ≡ also.kind → shown.len ≡ also.len → (shown.words ≡ also.words) × (shown.pages ≡ also.pages) → shown ≡ also
+same_shown : (shown also : Seen1) → shown.wrapped ≡ also.wrapped → shown.kind ≡ also.kind → shown.len ≡ also.len → (shown.words ≡ also.words) × (shown.pages ≡ also.pages) → shown ≡ also
 same_shown shown also layer kind len counts = grind arith
 
 -- of two records of one layer that the same bytes begin with the same is shown, and the same bytes follow
-same_record : (wrapped : Bool) (text that rest more : List ℕ) (shown also : ShownRecord) → text ++ rest ≡ that ++ more → StandsWhole wrapped text shown → StandsWhole wrapped that also → (rest ≡ more) × (shown ≡ also)
+same_record : (wrapped : Bool) (text that rest more : List ℕ) (shown also : Seen1) → text ++ rest ≡ that ++ more → StandsWhole wrapped text shown → StandsWhole wrapped that also → (rest ≡ more) × (shown ≡ also)
 same_record wrapped text that rest more shown also bytes first second =
     (paddings.1, same_shown shown also (first.layer ∙ sym second.layer) kind (first.len ∙ len ∙ sym second.len) (by (is_page_data shown) refl (cc kind)))
   where
@@ -80,10 +80,10 @@ behind_record front n kind = if kind == 0 then behind_image front else Some (Rec
 abbrev Adds : Stand → List ℕ → Stand → Type 0
 Adds (front, None) text next = ⊥
 Adds (front, Some LibxlHeader) text next = (length text ≡ 16) × (next ≡ (front, Some (LibxlRecord 0)))
-Adds (front, Some (LibxlRecord n)) text next = (shown : ShownRecord) × StandsWhole true text shown × (next ≡ (with_shown front shown, behind_libxl n shown.kind))
+Adds (front, Some (LibxlRecord n)) text next = (shown : Seen1) × StandsWhole true text shown × (next ≡ (with_shown front shown, behind_libxl n shown.kind))
 Adds (front, Some ImageHeader) text next = (length text ≡ 24) × (next ≡ (record front { version = Some (be32 text 12) }, Some DomainHeader))
 Adds (front, Some DomainHeader) text next = (length text ≡ 16) × (next ≡ (record front { kind = Some (kind_of_number (le32 text 0)) }, Some (Record 0)))
-Adds (front, Some (Record n)) text next = (shown : ShownRecord) × StandsWhole false text shown × (next ≡ (with_shown front shown, behind_record front n shown.kind))
+Adds (front, Some (Record n)) text next = (shown : Seen1) × StandsWhole false text shown × (next ≡ (with_shown front shown, behind_record front n shown.kind))
 
 -- the same bytes add the same, and the same bytes follow
 same_step : (here : Stand) (text that rest more : List ℕ) (next also : Stand) → text ++ rest ≡ that ++ more → Adds here text next → Adds here that also → (rest ≡ more) × (next ≡ also)
@@ -162,11 +162,11 @@ abbrev image_parts : ShownFront → ℕ
 image_parts front = told front.version + told front.kind + count_by (λ shown. not shown.wrapped) front.records
 
 -- one more record of the libxl stream, or of the image
-number_more : (front : ShownFront) (shown : ShownRecord) (wrapped : Bool) → shown.wrapped ≡ wrapped
+number_more : (front : ShownFront) (shown : Seen1) (wrapped : Bool) → shown.wrapped ≡ wrapped
     → (libxl_number (with_shown front shown) ≡ libxl_number front + cond wrapped 1 0) × (image_parts (with_shown front shown) ≡ image_parts front + cond (not wrapped) 1 0)
 number_more front shown wrapped is = rw (← is) (
-  sum_by_push (λ (s : ShownRecord). cond s.wrapped 1 0) front.records shown,
-  omega (arith, sum_by_push (λ (s : ShownRecord). cond (not s.wrapped) 1 0) front.records shown),
+  sum_by_push (λ (s : Seen1). cond s.wrapped 1 0) front.records shown,
+  omega (arith, sum_by_push (λ (s : Seen1). cond (not s.wrapped) 1 0) front.records shown),
 )
 
 -- how far a front is that stands in front of a place

@@ -7,7 +7,7 @@ use Rattle.mig_headers.specs.declared.fault.Place.{Place}
 use Rattle.mig_relay.specs.Spots.{begins_with_ident}
 use Rattle.mig_show.specs.Fronts.{ShownFront, StandsBefore, StandsWhole, image_first, header_first, libxl_header, libxl_record, libxl_context, libxl_end, image_header, domain_header, image_record, image_end}
 use Rattle.mig_show.specs.Shows.{Shows, ShowsWhole, front_tree}
-use Rattle.mig_show.specs.declared.record.ShownRecord.{ShownRecord}
+use Rattle.mig_show.specs.declared.record.Seen1.{Seen1}
 use Rattle.mig_show.proofs.OneFront.{only_one_front}
 use Rattle.mig_show.proofs.Passing.{form_on}
 
@@ -15,7 +15,7 @@ some_none : {X : Type 0} {x : X} → ◌≡◌ {A = Option X} (Some x) None → 
 some_none e = cc
 
 -- a record has a head
-text_long : (wrapped : Bool) (text : List ℕ) (shown : ShownRecord) → StandsWhole wrapped text shown → 8 ≤ length text
+text_long : (wrapped : Bool) (text : List ℕ) (shown : Seen1) → StandsWhole wrapped text shown → 8 ≤ length text
 text_long wrapped text shown whole = omega (arith, ap length whole.is.whole, whole.is.head_len, length-append whole.is.head (whole.body ++ whole.is.padding))
 
 -- a whole stream has one

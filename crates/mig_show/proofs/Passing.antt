@@ -28,7 +28,7 @@ use Rattle.mig_relay.specs.declared.state.Relay.{Relay}
 use Rattle.mig_show.specs.Fronts.{ShownFront, StandsBefore, StandsWhole, of_form, libxl_number, image_first, header_first, libxl_header, image_header, domain_header}
 use Rattle.mig_show.specs.Seeing.{SeenState, begun_record, counted_record, with_hand, with_step, with_end}
 use Rattle.mig_show.specs.Tree.{is_page_data}
-use Rattle.mig_show.specs.declared.record.ShownRecord.{ShownRecord}
+use Rattle.mig_show.specs.declared.record.Seen1.{Seen1}
 use Rattle.mig_show.proofs.Stages.{Has, HandOf, HasSome, InHand, IsAround, IsAroundImage, finished, head_around, head_layer, head_place, is_libxl, is_start, more_some, opened, stood}
 
 apart : true ≡ false → ⊥
@@ -106,16 +106,16 @@ words_number n bytes = length-map-range_with_len (λ k. le64 bytes (8 * k)) 0 n
 
 -- ---- behind a head
 
-pub headed : (head : RecordHead) (wrapped : Bool) (part piece : List ℕ) (shown : ShownRecord) → length part ≡ 0 → length piece ≡ 8 → head_in piece ≡ head → shown ≡ begun_record wrapped head → {d : Due} → HasSome d [] head shown → InHand head d (bytes_behind_head head) wrapped [] (part ++ piece) shown
+pub headed : (head : RecordHead) (wrapped : Bool) (part piece : List ℕ) (shown : Seen1) → length part ≡ 0 → length piece ≡ 8 → head_in piece ≡ head → shown ≡ begun_record wrapped head → {d : Due} → HasSome d [] head shown → InHand head d (bytes_behind_head head) wrapped [] (part ++ piece) shown
 headed head wrapped part piece shown none size is begun some = record {
   first = piece;
   inner = [];
   whole = ap (λ l. l ++ piece) (no_bytes part none) ∙ sym (append-nil piece);
   first_len = size;
   headed = is;
-  kind = ap (λ (s : ShownRecord). s.kind) begun;
-  len = ap (λ (s : ShownRecord). s.len) begun;
-  layer = ap (λ (s : ShownRecord). s.wrapped) begun;
+  kind = ap (λ (s : Seen1). s.kind) begun;
+  len = ap (λ (s : Seen1). s.len) begun;
+  layer = ap (λ (s : Seen1). s.wrapped) begun;
   size = omega arith;
   words = some;
 }
@@ -137,7 +137,7 @@ module _ (bytes piece front part : List ℕ) (split : bytes ≡ front ++ part) (
 
 -- nothing was in hand
 unhanded : (seen : SeenState) → seen.hand ≡ None → with_end false seen ≡ seen
-unhanded seen none = ap {B = SeenState} (λ (o : Option ShownRecord). record { front = with_hand seen.front o; hand = None }) none ∙ ap {B = SeenState} (λ (o : Option ShownRecord). record { front = seen.front; hand = o }) (sym none)
+unhanded seen none = ap {B = SeenState} (λ (o : Option Seen1). record { front = with_hand seen.front o; hand = None }) none ∙ ap {B = SeenState} (λ (o : Option Seen1). record { front = seen.front; hand = o }) (sym none)
 
 around_same : (outer : Outer) (front other : ShownFront) → other.wrapper ≡ front.wrapper → libxl_number other ≡ libxl_number front → IsAroundImage outer front → IsAroundImage outer other
 around_same Alone front other form number (w, n) = (form ∙ w, number ∙ n)
@@ -263,12 +263,12 @@ kind_passed outer n o bytes piece seen t size h _ e = absurd e
 
 -- ---- the end of a record
 
-ended : {at next : Spot} {type : ℕ} → ComesBehind at type next → (bytes piece front part : List ℕ) (seen : SeenState) (shown : ShownRecord) → bytes ≡ front ++ part → 8 ≤ length bytes → seen.front.wrapper ≡ begins_with_ident bytes → StandsBefore front seen.front (place_of_spot at) → IsAround at seen.front
+ended : {at next : Spot} {type : ℕ} → ComesBehind at type next → (bytes piece front part : List ℕ) (seen : SeenState) (shown : Seen1) → bytes ≡ front ++ part → 8 ≤ length bytes → seen.front.wrapper ≡ begins_with_ident bytes → StandsBefore front seen.front (place_of_spot at) → IsAround at seen.front
     → StandsWhole (is_libxl at) (part ++ piece) shown → shown.kind ≡ type → seen.hand ≡ Some shown → Has next [] (bytes ++ piece) (with_end (is_some (in_hand next)) seen)
 ended {at} {next} behind bytes piece front part seen shown split long form stands around stands_whole kind_is hand =
     let s = stood behind front (part ++ piece) seen.front shown stands stands_whole kind_is around in
     subst (λ b. Has next [] (bytes ++ piece) (with_end b seen)) (sym (ap is_some s.none))
-    (subst (λ (o : Option ShownRecord). Has next [] (bytes ++ piece) (record { front = with_hand seen.front o; hand = None })) (sym hand)
+    (subst (λ (o : Option Seen1). Has next [] (bytes ++ piece) (record { front = with_hand seen.front o; hand = None })) (sym hand)
     (record {
       front = front ++ (part ++ piece);
       part = [];
@@ -285,10 +285,10 @@ ended {at} {next} behind bytes piece front part seen shown split long form stand
 
 -- a head of this layer
 module _ (bytes piece : List ℕ) (seen : SeenState) (wrapped w : Bool) (head : RecordHead) (w_is : w ≡ wrapped) (head_is : head ≡ head_in piece) where
-  abbrev its : ShownRecord
+  abbrev its : Seen1
   its = begun_record wrapped (head_in piece)
 
-  begun_is : ◌≡◌ {A = Option ShownRecord} (Some (begun_record w head)) (Some its)
+  begun_is : ◌≡◌ {A = Option Seen1} (Some (begun_record w head)) (Some its)
   begun_is = ap (λ b. Some (begun_record b head)) w_is ∙ ap (λ (h : RecordHead). Some (begun_record wrapped h)) head_is
 
 libxl_begun : (records : List LibxlRecord) (bytes piece : List ℕ) (seen : SeenState) (t : Relay) → length piece ≡ 8 → Has (AtLibxlHead records) [] bytes seen → (step : Step) → IsStep (AtLibxlHead records) piece t step → Has (AtLibxlBody records (head_in piece)) [] (bytes ++ piece) (with_end true (with_step seen step (words_in_hand t)))
@@ -393,7 +393,7 @@ count_passed outer o records head bytes piece seen t size fit h _ e = absurd e
 
 -- the record in hand behind a piece more, with what the piece says of it
 record Grown (here : Spot) (begun piece part : List ℕ) (head : RecordHead) (seen : SeenState) : Type 0 where
-  pub shown : ShownRecord
+  pub shown : Seen1
   pub is : seen.hand ≡ Some shown
   pub first : List ℕ
   pub inner : List ℕ

@@ -19,7 +19,7 @@ use Rattle.mig_relay.proofs.Kept.{among_same}
 use Rattle.mig_show.specs.Fronts.{ShownFront, HasWords, StandsWhole, StandsBefore, of_form, with_shown, libxl_number, libxl_record, libxl_context as context_stands, libxl_end as libxl_stands, image_record, image_end as image_stands}
 use Rattle.mig_show.specs.Seeing.{SeenState}
 use Rattle.mig_show.specs.Tree.{is_page_data}
-use Rattle.mig_show.specs.declared.record.ShownRecord.{ShownRecord}
+use Rattle.mig_show.specs.declared.record.Seen1.{Seen1}
 
 -- ---- the record in hand
 
@@ -36,13 +36,13 @@ is_libxl (AtLibxlPadding records head content) = true
 is_libxl _ = false
 
 -- what came behind its head, and what is known of its words
-abbrev pub HasSome : Due → List ℕ → RecordHead → ShownRecord → Type 0
+abbrev pub HasSome : Due → List ℕ → RecordHead → Seen1 → Type 0
 HasSome NothingDue inner head shown = (is_page_data shown ≡ true → HasWords inner shown.words shown.pages × (8 + 8 * shown.words + 4096 * shown.pages ≡ head.len)) × (is_page_data shown ≡ false → (shown.words ≡ 0) × (shown.pages ≡ 0))
 HasSome CountDue inner head shown = (inner ≡ []) × (is_page_data shown ≡ true)
 HasSome (WordsDue n) inner head shown = (length inner ≡ 8) × (le32 inner 0 ≡ n) × (is_page_data shown ≡ true) × (8 + 8 * n ≤ head.len)
 
 -- its bytes that came, its head first
-pub record InHand (head : RecordHead) (due : Due) (left : ℕ) (wrapped : Bool) (begun part : List ℕ) (shown : ShownRecord) : Type 0 where
+pub record InHand (head : RecordHead) (due : Due) (left : ℕ) (wrapped : Bool) (begun part : List ℕ) (shown : Seen1) : Type 0 where
   pub first : List ℕ
   pub inner : List ℕ
   pub whole : part ≡ first ++ inner
@@ -54,9 +54,9 @@ pub record InHand (head : RecordHead) (due : Due) (left : ℕ) (wrapped : Bool) 
   pub size : length inner + left ≡ bytes_behind_head head + length begun
   pub words : HasSome due inner head shown
 
-abbrev pub HandOf : Option RecordHead → Due → ℕ → Bool → ℕ → List ℕ → List ℕ → Option ShownRecord → Type 0
+abbrev pub HandOf : Option RecordHead → Due → ℕ → Bool → ℕ → List ℕ → List ℕ → Option Seen1 → Type 0
 HandOf None due left wrapped opened begun part hand = (hand ≡ None) × (length part ≡ opened)
-HandOf (Some head) due left wrapped opened begun part hand = (shown : ShownRecord) × (hand ≡ Some shown) × InHand head due left wrapped begun part shown
+HandOf (Some head) due left wrapped opened begun part hand = (shown : Seen1) × (hand ≡ Some shown) × InHand head due left wrapped begun part shown
 
 -- ---- the libxl stream around it
 
@@ -137,10 +137,10 @@ head_around (AtEnd s) front = refl
 -- ---- a whole record
 
 -- one more of the libxl stream, or of an image
-number_more : (front : ShownFront) (shown : ShownRecord) (wrapped : Bool) → shown.wrapped ≡ wrapped → libxl_number (with_shown front shown) ≡ libxl_number front + cond wrapped 1 0
-number_more front shown wrapped is = sum_by_push (λ (s : ShownRecord). cond s.wrapped 1 0) front.records shown ∙ ap (λ b. libxl_number front + cond b 1 0) is
+number_more : (front : ShownFront) (shown : Seen1) (wrapped : Bool) → shown.wrapped ≡ wrapped → libxl_number (with_shown front shown) ≡ libxl_number front + cond wrapped 1 0
+number_more front shown wrapped is = sum_by_push (λ (s : Seen1). cond s.wrapped 1 0) front.records shown ∙ ap (λ b. libxl_number front + cond b 1 0) is
 
-image_around : (outer : Outer) (front : ShownFront) (shown : ShownRecord) → shown.wrapped ≡ false → IsAroundImage outer front → IsAroundImage outer (with_shown front shown)
+image_around : (outer : Outer) (front : ShownFront) (shown : Seen1) → shown.wrapped ≡ false → IsAroundImage outer front → IsAroundImage outer (with_shown front shown)
 image_around Alone front shown plain (form, number) = (form, omega (arith, number_more front shown false plain, number))
 image_around (Behind records) front shown plain (form, number) = (form, omega (arith, number_more front shown false plain, number))
 
@@ -157,14 +157,14 @@ has_image (r ∷ records) image e = by (image_in r.content) (has_image records i
     by None others e = others e
 
 -- what comes next behind a whole record, which stands behind what stood before
-pub record Stood (front text : List ℕ) (seen : ShownFront) (shown : ShownRecord) (next : Spot) : Type 0 where
+pub record Stood (front text : List ℕ) (seen : ShownFront) (shown : Seen1) (next : Spot) : Type 0 where
   pub stands : StandsBefore (front ++ text) (with_shown seen shown) (place_of_spot next)
   pub around : IsAround next (with_shown seen shown)
   pub none : in_hand next ≡ None
   pub nothing_opened : opened next ≡ 0
   pub goes_on : is_start next ≡ false
 
-pub stood : {at next : Spot} {type : ℕ} → ComesBehind at type next → (front text : List ℕ) (seen : ShownFront) (shown : ShownRecord) → StandsBefore front seen (place_of_spot at) → StandsWhole (is_libxl at) text shown → shown.kind ≡ type → IsAround at seen → Stood front text seen shown next
+pub stood : {at next : Spot} {type : ℕ} → ComesBehind at type next → (front text : List ℕ) (seen : ShownFront) (shown : Seen1) → StandsBefore front seen (place_of_spot at) → StandsWhole (is_libxl at) text shown → shown.kind ≡ type → IsAround at seen → Stood front text seen shown next
 stood (libxl_next records r type other inner plain) front text seen shown before whole kind (form, number, unopened) = record {
   stands =
       subst (λ n. StandsBefore (front ++ text) (with_shown seen shown) (Some (AtRecord n))) (sym (length-append records (r ∷ [])))
@@ -252,11 +252,11 @@ cut_words bytes number pages len w fit =
       pages_is = w.pages_is;
     }
 
-pub more_some : (inner piece : List ℕ) (head : RecordHead) (shown : ShownRecord) → HasSome NothingDue inner head shown → HasSome NothingDue (inner ++ piece) head shown
+pub more_some : (inner piece : List ℕ) (head : RecordHead) (shown : Seen1) → HasSome NothingDue inner head shown → HasSome NothingDue (inner ++ piece) head shown
 more_some inner piece head shown (counted, plain) = (λ paged. (more_words inner piece shown.words shown.pages (counted paged).0, (counted paged).1), plain)
 
 -- all bytes of a record came
-pub finished : (head : RecordHead) (wrapped : Bool) (first inner text : List ℕ) (shown : ShownRecord) → text ≡ first ++ inner → length first ≡ 8 → head_in first ≡ head → shown.kind ≡ head.kind → shown.len ≡ head.len → shown.wrapped ≡ wrapped → length inner ≡ bytes_behind_head head → HasSome NothingDue inner head shown → StandsWhole wrapped text shown
+pub finished : (head : RecordHead) (wrapped : Bool) (first inner text : List ℕ) (shown : Seen1) → text ≡ first ++ inner → length first ≡ 8 → head_in first ≡ head → shown.kind ≡ head.kind → shown.len ≡ head.len → shown.wrapped ≡ wrapped → length inner ≡ bytes_behind_head head → HasSome NothingDue inner head shown → StandsWhole wrapped text shown
 finished head wrapped first inner text shown whole first_len headed kind len layer size (counted, plain) =
     let body = take head.len inner in
     let body_len : length body ≡ head.len = length-take-le head.len inner (omega (arith, size)) in

@@ -11,10 +11,10 @@ use Rattle.mig_headers.specs.declared.fault.Place.{Place}
 use Rattle.mig_headers.specs.declared.kind.Kind.{Kind}
 use Rattle.mig_show.specs.Lines.{records_text}
 use Rattle.mig_show.specs.Tree.{record_tree, kind_tree, refused_tree, version_tree, shown_tree}
-use Rattle.mig_show.specs.declared.record.ShownRecord.{ShownRecord}
+use Rattle.mig_show.specs.declared.record.Seen1.{Seen1}
 
 -- one record more
-later_more : (list : List ShownRecord) (shown : ShownRecord) → records_text true (list ++ shown ∷ []) ≡ records_text true list ++ (comma_if true ++ compact_text (record_tree shown))
+later_more : (list : List Seen1) (shown : Seen1) → records_text true (list ++ shown ∷ []) ≡ records_text true list ++ (comma_if true ++ compact_text (record_tree shown))
 later_more [] shown = ap (λ l. comma_if true ++ l) (append-nil (compact_text (record_tree shown)))
 later_more (first ∷ list) shown =
     ap (λ l. comma_if true ++ (compact_text (record_tree first) ++ l)) (later_more list shown)
@@ -22,18 +22,18 @@ later_more (first ∷ list) shown =
     ∙ ap (λ l. comma_if true ++ l) (append_assoc (compact_text (record_tree first)) (records_text true list) (comma_if true ++ compact_text (record_tree shown))))
 
 -- whether others stand before it
-abbrev pub has_some : List ShownRecord → Bool
+abbrev pub has_some : List Seen1 → Bool
 has_some [] = false
 has_some (first ∷ list) = true
 
-pub text_more : (list : List ShownRecord) (shown : ShownRecord) → records_text false (list ++ shown ∷ []) ≡ records_text false list ++ (comma_if (has_some list) ++ compact_text (record_tree shown))
+pub text_more : (list : List Seen1) (shown : Seen1) → records_text false (list ++ shown ∷ []) ≡ records_text false list ++ (comma_if (has_some list) ++ compact_text (record_tree shown))
 text_more [] shown = append-nil (compact_text (record_tree shown))
 text_more (first ∷ list) shown =
     ap (λ l. compact_text (record_tree first) ++ l) (later_more list shown)
     ∙ sym (append_assoc (compact_text (record_tree first)) (records_text true list) (comma_if true ++ compact_text (record_tree shown)))
 
 -- and the closing bracket behind all
-items_are : (later : Bool) (list : List ShownRecord) → items_text later (items_of (map record_tree list)) ≡ records_text later list ++ codes "]"
+items_are : (later : Bool) (list : List Seen1) → items_text later (items_of (map record_tree list)) ≡ records_text later list ++ codes "]"
 items_are later [] = refl
 items_are later (first ∷ list) =
     ap (λ l. comma_if later ++ (compact_text (record_tree first) ++ l)) (items_are true list)
@@ -53,7 +53,7 @@ joined a k b r c f d v e w z =
     ∙ append_assoc (a ++ k) b (r ++ (c ++ (f ++ (d ++ (v ++ (e ++ (w ++ z)))))))
     ∙ append_assoc a k (b ++ (r ++ (c ++ (f ++ (d ++ (v ++ (e ++ (w ++ z))))))))
 
-module _ (wrapper : Bool) (version : Option ℕ) (kind : Option Kind) (list : List ShownRecord) (refused : Option (Place × Cause)) where
+module _ (wrapper : Bool) (version : Option ℕ) (kind : Option Kind) (list : List Seen1) (refused : Option (Place × Cause)) where
   -- behind the records
   abbrev rest : List ℕ
   rest = codes ",\"refused\":" ++ (compact_text (refused_tree refused) ++ (codes ",\"version\":" ++ (compact_text (version_tree version) ++ (codes ",\"wrapper\":" ++ (compact_text (boolean wrapper) ++ codes "}")))))
@@ -82,12 +82,12 @@ pub value_on : (old new prior : List ℕ) (d e : Data) → new ≡ old ++ compac
 value_on old new prior d e is was same = is ∙ ap (λ l. l ++ compact_text d) was ∙ ap (λ (x : Data). prior ++ compact_text x) same
 
 -- a record more of a list
-has_some_taken : (list : List ShownRecord) (place : ℕ) → place < length list → has_some (take place list) ≡ nat_lt 0 place
+has_some_taken : (list : List Seen1) (place : ℕ) → place < length list → has_some (take place list) ≡ nat_lt 0 place
 has_some_taken [] place less = absurd (omega (arith, less))
 has_some_taken (first ∷ list) zero less = refl
 has_some_taken (first ∷ list) (suc place) less = sym (lt-ltb 0 (suc place) (omega arith))
 
-pub record_on : (list : List ShownRecord) (place : ℕ) (d : ShownRecord) (start old new : List ℕ) → place < length list → old ≡ start ++ records_text false (take place list) → new ≡ old ++ (comma_if (nat_lt 0 place) ++ compact_text (record_tree (get_or list place d))) → new ≡ start ++ records_text false (take (place + 1) list)
+pub record_on : (list : List Seen1) (place : ℕ) (d : Seen1) (start old new : List ℕ) → place < length list → old ≡ start ++ records_text false (take place list) → new ≡ old ++ (comma_if (nat_lt 0 place) ++ compact_text (record_tree (get_or list place d))) → new ≡ start ++ records_text false (take (place + 1) list)
 record_on list place d start old new less was now =
     let shown = get_or list place d in
     now

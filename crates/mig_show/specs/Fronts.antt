@@ -10,7 +10,7 @@ use Rattle.mig_pagetypes.specs.FrameWords.{word_has_data}
 use Rattle.mig_records.specs.Records.{IsRecord}
 use Rattle.mig_records.specs.Words.{words}
 use Rattle.mig_show.specs.Tree.{is_page_data}
-use Rattle.mig_show.specs.declared.record.ShownRecord.{ShownRecord}
+use Rattle.mig_show.specs.declared.record.Seen1.{Seen1}
 
 -- ---- a record
 
@@ -28,7 +28,7 @@ pub record HasWords (body : List ℕ) (number pages : ℕ) : Type 0 where
 
 -- what is shown of a record of a libxl stream, or of an image, that stands whole as these bytes: its head, its body and its
 -- padding; and of a PAGE_DATA how many words it has, and how many of them have data, which fill its body with their pages
-pub record StandsWhole (wrapped : Bool) (text : List ℕ) (shown : ShownRecord) : Type 0 where
+pub record StandsWhole (wrapped : Bool) (text : List ℕ) (shown : Seen1) : Type 0 where
   pub layer : shown.wrapped ≡ wrapped
   pub body : List ℕ
   pub is : IsRecord shown.kind body text
@@ -45,13 +45,13 @@ pub record ShownFront : Type 0 where
   pub wrapper : Bool
   pub version : Option ℕ
   pub kind : Option Kind
-  pub records : List ShownRecord
+  pub records : List Seen1
 
 -- nothing but the form
 abbrev pub of_form : Bool → ShownFront
 of_form wrapper = record { wrapper = wrapper; version = None; kind = None; records = [] }
 
-abbrev pub with_shown : ShownFront → ShownRecord → ShownFront
+abbrev pub with_shown : ShownFront → Seen1 → ShownFront
 with_shown front shown = record front { records = front.records ++ shown ∷ [] }
 
 -- how many records of the libxl stream there are
@@ -69,17 +69,17 @@ pub data StandsBefore : List ℕ → ShownFront → Option Place → Type 0 wher
   image_first : StandsBefore [] (of_form false) (Some ImageHeader)
   header_first : StandsBefore [] (of_form true) (Some LibxlHeader)
   libxl_header : (bytes text : List ℕ) (front : ShownFront) → StandsBefore bytes front (Some LibxlHeader) → length text ≡ 16 → StandsBefore (bytes ++ text) front (Some (LibxlRecord 0))
-  libxl_record : (bytes text : List ℕ) (front : ShownFront) (shown : ShownRecord) (n : ℕ) → StandsBefore bytes front (Some (LibxlRecord n))
+  libxl_record : (bytes text : List ℕ) (front : ShownFront) (shown : Seen1) (n : ℕ) → StandsBefore bytes front (Some (LibxlRecord n))
       → StandsWhole true text shown → shown.kind ≢ 0 → shown.kind ≢ 1 → StandsBefore (bytes ++ text) (with_shown front shown) (Some (LibxlRecord (n + 1)))
-  libxl_context : (bytes text : List ℕ) (front : ShownFront) (shown : ShownRecord) (n : ℕ) → StandsBefore bytes front (Some (LibxlRecord n))
+  libxl_context : (bytes text : List ℕ) (front : ShownFront) (shown : Seen1) (n : ℕ) → StandsBefore bytes front (Some (LibxlRecord n))
       → StandsWhole true text shown → shown.kind ≡ 1 → front.version ≡ None → StandsBefore (bytes ++ text) (with_shown front shown) (Some ImageHeader)
-  libxl_end : (bytes text : List ℕ) (front : ShownFront) (shown : ShownRecord) (n : ℕ) → StandsBefore bytes front (Some (LibxlRecord n))
+  libxl_end : (bytes text : List ℕ) (front : ShownFront) (shown : Seen1) (n : ℕ) → StandsBefore bytes front (Some (LibxlRecord n))
       → StandsWhole true text shown → shown.kind ≡ 0 → StandsBefore (bytes ++ text) (with_shown front shown) None
   image_header : (bytes text : List ℕ) (front : ShownFront) → StandsBefore bytes front (Some ImageHeader)
       → length text ≡ 24 → StandsBefore (bytes ++ text) (record front { version = Some (be32 text 12) }) (Some DomainHeader)
   domain_header : (bytes text : List ℕ) (front : ShownFront) → StandsBefore bytes front (Some DomainHeader)
       → length text ≡ 16 → StandsBefore (bytes ++ text) (record front { kind = Some (kind_of_number (le32 text 0)) }) (Some (Record 0))
-  image_record : (bytes text : List ℕ) (front : ShownFront) (shown : ShownRecord) (n : ℕ) → StandsBefore bytes front (Some (Record n))
+  image_record : (bytes text : List ℕ) (front : ShownFront) (shown : Seen1) (n : ℕ) → StandsBefore bytes front (Some (Record n))
       → StandsWhole false text shown → shown.kind ≢ 0 → StandsBefore (bytes ++ text) (with_shown front shown) (Some (Record (n + 1)))
-  image_end : (bytes text : List ℕ) (front : ShownFront) (shown : ShownRecord) (n : ℕ) → StandsBefore bytes front (Some (Record n))
+  image_end : (bytes text : List ℕ) (front : ShownFront) (shown : Seen1) (n : ℕ) → StandsBefore bytes front (Some (Record n))
       → StandsWhole false text shown → shown.kind ≡ 0 → StandsBefore (bytes ++ text) (with_shown front shown) (behind_image front)

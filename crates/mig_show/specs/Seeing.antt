@@ -9,21 +9,21 @@ use Rattle.mig_relay.specs.declared.answer.RelayAnswer.TheVariants as answers
 use Rattle.mig_relay.specs.declared.answer.Step.{Step}
 use Rattle.mig_relay.specs.declared.answer.Step.TheVariants.{Marker, Version, Kind, Head, Words, Piece, Done}
 use Rattle.mig_show.specs.Fronts.{ShownFront, with_shown}
-use Rattle.mig_show.specs.declared.record.ShownRecord.{ShownRecord}
+use Rattle.mig_show.specs.declared.record.Seen1.{Seen1}
 use Rattle.mig_show.specs.declared.viewer.ShowAnswer.{ShowAnswer}
 use Rattle.mig_show.specs.declared.viewer.ShowAnswer.TheVariants.{ReadFault, Memory}
 
 -- what stands whole, and the record in hand, whose head was passed on
 pub record SeenState : Type 0 where
   pub front : ShownFront
-  pub hand : Option ShownRecord
+  pub hand : Option Seen1
 
 -- what a head says
-abbrev pub begun_record : Bool → RecordHead → ShownRecord
+abbrev pub begun_record : Bool → RecordHead → Seen1
 begun_record wrapped head = record { wrapped = wrapped; kind = head.kind; len = head.len; words = 0; pages = 0 }
 
 -- and these words
-abbrev pub counted_record : List ℕ → ShownRecord → ShownRecord
+abbrev pub counted_record : List ℕ → Seen1 → Seen1
 counted_record ws shown = record shown { words = length ws; pages = count_by word_has_data ws }
 
 abbrev pub with_step : SeenState → Step → List ℕ → SeenState
@@ -36,7 +36,7 @@ with_step seen Piece ws = seen
 with_step seen Done ws = seen
 
 -- a record whose bytes all came stands whole
-abbrev pub with_hand : ShownFront → Option ShownRecord → ShownFront
+abbrev pub with_hand : ShownFront → Option Seen1 → ShownFront
 with_hand front None = front
 with_hand front (Some shown) = with_shown front shown
 

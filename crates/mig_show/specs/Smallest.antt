@@ -2,11 +2,11 @@
 use Rattle.std.specs.Prelude.{ℕ, List, [], ◌∷◌, codes, Some, None, false}
 use Rattle.serde_json.specs.Data.{Data}
 use Rattle.mig_headers.specs.declared.kind.Kind.TheVariants.{Hvm}
-use Rattle.mig_show.specs.declared.record.ShownRecord.{ShownRecord}
+use Rattle.mig_show.specs.declared.record.Seen1.{Seen1}
 use Rattle.mig_show.specs.Tree.{shown_tree}
 
 -- a record of a libxc stream that has no words
-abbrev pub wordless : ℕ → ℕ → ShownRecord
+abbrev pub wordless : ℕ → ℕ → Seen1
 wordless kind len = record { wrapped = false; kind = kind; len = len; words = 0; pages = 0 }
 
 -- of version 3, with STATIC_DATA_END, HVM_CONTEXT and END

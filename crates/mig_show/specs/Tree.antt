@@ -6,7 +6,7 @@ use Rattle.mig_headers.specs.declared.fault.Place.{Place}
 use Rattle.mig_headers.specs.declared.fault.Cause.{Cause}
 use Rattle.mig_headers.specs.declared.kind.Kind.{Kind}
 use Rattle.mig_headers.specs.declared.kind.Kind.TheVariants.{Pv, Hvm}
-use Rattle.mig_show.specs.declared.record.ShownRecord.{ShownRecord}
+use Rattle.mig_show.specs.declared.record.Seen1.{Seen1}
 use Rattle.mig_show.specs.Names.{shown_name}
 use Rattle.mig_show.specs.Refusals.{refused_text}
 
@@ -19,11 +19,11 @@ abbrev pub layer_name : Bool → List ℕ
 layer_name wrapped = if wrapped then codes "libxl" else codes "libxc"
 
 -- a PAGE_DATA: type 1 of a libxc stream
-abbrev pub is_page_data : ShownRecord → Bool
+abbrev pub is_page_data : Seen1 → Bool
 is_page_data shown = not shown.wrapped && (shown.kind == 1)
 
 -- what is shown of each record
-abbrev pub common_members : ShownRecord → Members
+abbrev pub common_members : Seen1 → Members
 common_members shown =
     member (codes "layer") (string (layer_name shown.wrapped))
     (member (codes "length") (whole shown.len)
@@ -31,15 +31,15 @@ common_members shown =
     (member (codes "type") (whole shown.kind) no_members)))
 
 -- with what is shown of a PAGE_DATA besides: how many words it has, and how many of them have data
-abbrev pub with_pages : ShownRecord → Members → Members
+abbrev pub with_pages : Seen1 → Members → Members
 with_pages shown members = put (codes "words") (whole shown.words) (put (codes "pages") (whole shown.pages) members)
 
 -- the object of a record
-abbrev pub record_tree : ShownRecord → Data
+abbrev pub record_tree : Seen1 → Data
 record_tree shown = object (if is_page_data shown then with_pages shown (common_members shown) else common_members shown)
 
 -- the objects of records, in their order
-abbrev pub records_tree : List ShownRecord → Data
+abbrev pub records_tree : List Seen1 → Data
 records_tree list = array (items_of (map record_tree list))
 
 -- the kind of guest, the version and the refusal, each null where there is none
@@ -58,7 +58,7 @@ refused_tree (Some refused) = string (refused_text refused.0 refused.1)
 
 -- the tree of a stream: whether it is a libxl stream, its version and kind as far as its headers tell them, its
 -- records, and why it is refused, where it is
-abbrev pub shown_tree : Bool → Option ℕ → Option Kind → List ShownRecord → Option (Place × Cause) → Data
+abbrev pub shown_tree : Bool → Option ℕ → Option Kind → List Seen1 → Option (Place × Cause) → Data
 shown_tree wrapper version kind list refused = object
     (member (codes "kind") (kind_tree kind)
     (member (codes "records") (records_tree list)

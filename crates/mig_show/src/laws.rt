@@ -4,14 +4,14 @@ ghost use Rattle.serde_json.specs.Written.{has_float, compact_text};
 ghost use Rattle.mig_headers.specs.declared.fault.Cause.{Cause};
 ghost use Rattle.mig_headers.specs.declared.fault.Place.{Place};
 ghost use Rattle.mig_headers.specs.declared.kind.Kind.{Kind};
-ghost use Rattle.mig_show.specs.declared.record.ShownRecord.{ShownRecord};
+ghost use Rattle.mig_show.specs.declared.record.Seen1.{Seen1};
 ghost use Rattle.mig_show.specs.Smallest.{smallest_tree, smallest_text};
 ghost use Rattle.mig_show.specs.Shows.{Shows};
 ghost use Rattle.mig_show.specs.Tree.{shown_tree};
 
 /// No number of a tree is a float, so that its JSON text is `compact_text` of it.
 pub fn trees_have_no_float()
-    ensures { (wrapper : Bool) (version : Option ℕ) (kind : Option Kind) (list : List ShownRecord) (refused : Option (Place × Cause))
+    ensures { (wrapper : Bool) (version : Option ℕ) (kind : Option Kind) (list : List Seen1) (refused : Option (Place × Cause))
         → has_float (shown_tree wrapper version kind list refused) ≡ false }
 {}
 

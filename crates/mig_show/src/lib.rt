@@ -19,6 +19,6 @@ mod tree;
 mod viewer;
 
 pub use laws::{one_tree_is_shown, smallest_stream_is_shown, trees_have_no_float};
-pub use record::ShownRecord;
+pub use record::Seen1;
 pub use tree::tree_of;
 pub use viewer::{ShowAnswer, Shown, ShownText, show, show_text};

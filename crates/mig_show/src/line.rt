@@ -4,9 +4,9 @@ ghost use Rattle.serde_json.specs.Written.{has_float, comma_if, compact_text};
 ghost use Rattle.mig_show.specs.Lines.{records_text};
 ghost use Rattle.mig_show.specs.Tree.{record_tree, shown_tree};
 ghost use Rattle.mig_show.specs.Shows.{tree_line};
-ghost use Rattle.mig_show.specs.declared.record.ShownRecord.{ShownRecord as Listed};
+ghost use Rattle.mig_show.specs.declared.record.Seen1.{Seen1 as Listed};
 
-use crate::record::{ShownRecord, record_object};
+use crate::record::{Seen1, record_object};
 use crate::tree::{kind_value, refused_value, version_value};
 use mig_headers::{Cause, Kind, Place};
 use serde_json::Value;
@@ -21,12 +21,7 @@ fn put_value(line: &mut String, alloc: Global, value: &Value) -> Result<(), Allo
 }
 
 /// Puts the text of a record, behind a comma where others stand before it.
-fn put_record(
-    line: &mut String,
-    alloc: Global,
-    later: bool,
-    shown: ShownRecord,
-) -> Result<(), AllocError>
+fn put_record(line: &mut String, alloc: Global, later: bool, shown: Seen1) -> Result<(), AllocError>
     ensures { OnOk result (string_bytes line.new ≡ string_bytes line.old ++ (comma_if later ++ compact_text (record_tree shown))) }
 {
     if later {
@@ -39,7 +34,7 @@ fn put_record(
 fn put_place(
     line: &mut String,
     alloc: Global,
-    list: &[ShownRecord],
+    list: &[Seen1],
     place: usize,
 ) -> Result<(), AllocError>
     requires { place < length list.now }
@@ -50,7 +45,7 @@ fn put_place(
 
 /// Puts the texts of the records, with a comma between two. Each record's object is gone before the next is made, so
 /// that a stream with many records takes the memory of its text, and not that of its tree.
-fn put_records(line: &mut String, alloc: Global, list: &[ShownRecord]) -> Result<(), AllocError>
+fn put_records(line: &mut String, alloc: Global, list: &[Seen1]) -> Result<(), AllocError>
     ensures { OnOk result (string_bytes line.new ≡ string_bytes line.old ++ records_text false list.now) }
 {
     for place in 0..list.len() {
@@ -63,7 +58,7 @@ fn put_records(line: &mut String, alloc: Global, list: &[ShownRecord]) -> Result
 const MOST: usize = 100;
 
 /// Puts the texts of the records, after room was made for all: a text that grows takes twice the memory.
-fn put_list(line: &mut String, alloc: Global, list: &[ShownRecord]) -> Result<(), AllocError>
+fn put_list(line: &mut String, alloc: Global, list: &[Seen1]) -> Result<(), AllocError>
     ensures { OnOk result (string_bytes line.new ≡ string_bytes line.old ++ records_text false list.now) }
 {
     line.reserve(list.len().saturating_mul(MOST))?;
@@ -76,7 +71,7 @@ pub(crate) fn stream_line(
     wrapper: bool,
     version: Option<u32>,
     kind: Option<Kind>,
-    list: &[ShownRecord],
+    list: &[Seen1],
     refused: Option<(Place, Cause)>,
 ) -> Result<String, AllocError>
     ensures { IfOk result (λ line. string_bytes line ≡ tree_line (shown_tree wrapper version kind list.now refused)) }

@@ -11,7 +11,7 @@ const PAGE_DATA: u32 = 1;
 
 /// What is shown of a record.
 #[derive(Clone, Copy, Debug, PartialEq, Eq)]
-pub struct ShownRecord {
+pub struct Seen1 {
     /// Whether it is a record of a libxl stream, and not of a libxc stream.
     pub wrapped: bool,
     /// The number of its type.
@@ -32,7 +32,7 @@ fn layer_name(wrapped: bool) -> &'static str
 }
 
 /// What is shown of each record.
-fn common_members(alloc: Global, shown: ShownRecord) -> Result<Map<String, Value>, AllocError>
+fn common_members(alloc: Global, shown: Seen1) -> Result<Map<String, Value>, AllocError>
     ensures { IfOk result (λ members. members_view members.entries ≡ common_members shown) }
 {
     let layer = Value::try_from_str(alloc, layer_name(shown.wrapped))?;
@@ -49,7 +49,7 @@ fn common_members(alloc: Global, shown: ShownRecord) -> Result<Map<String, Value
 fn put_pages(
     members: &mut Map<String, Value>,
     alloc: Global,
-    shown: ShownRecord,
+    shown: Seen1,
 ) -> Result<(), AllocError>
     ensures { OnOk result (members_view members.new.entries ≡ (if is_page_data shown then with_pages shown (members_view members.old.entries) else members_view members.old.entries)) }
 {
@@ -61,7 +61,7 @@ fn put_pages(
 }
 
 /// The JSON object of a record.
-pub(crate) fn record_object(alloc: Global, shown: ShownRecord) -> Result<Value, AllocError>
+pub(crate) fn record_object(alloc: Global, shown: Seen1) -> Result<Value, AllocError>
     ensures { IfOk result (λ v. view v ≡ record_tree shown) }
 {
     let mut members = common_members(alloc, shown)?;

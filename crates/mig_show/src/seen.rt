@@ -3,7 +3,7 @@ ghost use Rattle.mig_pagetypes.specs.FrameWords.{word_has_data};
 ghost use Rattle.mig_show.specs.Fronts.{of_form};
 ghost use Rattle.mig_show.specs.Seeing.{begun_record, counted_record, with_step, with_end};
 
-use crate::record::ShownRecord;
+use crate::record::Seen1;
 use mig_headers::Kind;
 use mig_records::RecordHead;
 use mig_relay::Step;
@@ -18,9 +18,9 @@ pub(crate) struct Seen {
     pub(crate) version: Option<u32>,
     pub(crate) kind: Option<Kind>,
     /// The records that stand whole.
-    pub(crate) records: Vec<ShownRecord>,
+    pub(crate) records: Vec<Seen1>,
     /// The record whose head was passed on, and of which bytes are still to come.
-    hand: Option<ShownRecord>,
+    hand: Option<Seen1>,
 }
 
 impl Model for Seen {
@@ -32,10 +32,10 @@ impl Model for Seen {
 }
 
 /// What a head says of a record.
-fn begun(wrapped: bool, head: RecordHead) -> ShownRecord
+fn begun(wrapped: bool, head: RecordHead) -> Seen1
     ensures { result ≡ begun_record wrapped head }
 {
-    ShownRecord {
+    Seen1 {
         wrapped,
         kind: head.kind,
         len: head.len,
@@ -55,10 +55,10 @@ fn pages(words: &[u64]) -> usize
 }
 
 /// The record, with what its words say.
-fn counted(shown: ShownRecord, words: &[u64]) -> ShownRecord
+fn counted(shown: Seen1, words: &[u64]) -> Seen1
     ensures { result ≡ counted_record words.now shown }
 {
-    ShownRecord {
+    Seen1 {
         words: words.len() as u64,
         pages: pages(words) as u64,
         ..shown

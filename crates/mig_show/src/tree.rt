@@ -2,7 +2,7 @@ ghost use Rattle.std.specs.Prelude.{◌≡◌, IfOk};
 ghost use Rattle.serde_json.specs.View.{view};
 ghost use Rattle.mig_show.specs.Tree.{records_tree, kind_tree, version_tree, refused_tree, shown_tree};
 
-use crate::record::{ShownRecord, record_object};
+use crate::record::{Seen1, record_object};
 use crate::refusal::refused_text;
 use mig_bytes::Memory;
 use mig_headers::{Cause, Kind, Place};
@@ -10,7 +10,7 @@ use serde_json::{Value, json};
 use std::alloc::{AllocError, Global};
 
 /// The JSON array of the records, in their order.
-fn records_array(alloc: Global, list: &[ShownRecord]) -> Result<Value, AllocError>
+fn records_array(alloc: Global, list: &[Seen1]) -> Result<Value, AllocError>
     ensures { IfOk result (λ v. view v ≡ records_tree list.now) }
 {
     let mut objects = Vec::new(alloc);
@@ -60,7 +60,7 @@ fn stream_object(
     wrapper: bool,
     version: Option<u32>,
     kind: Option<Kind>,
-    list: &[ShownRecord],
+    list: &[Seen1],
     refused: Option<(Place, Cause)>,
 ) -> Result<Value, AllocError>
     ensures { IfOk result (λ v. view v ≡ shown_tree wrapper version kind list.now refused) }
@@ -88,7 +88,7 @@ pub fn tree_of(
     wrapper: bool,
     version: Option<u32>,
     kind: Option<Kind>,
-    list: &[ShownRecord],
+    list: &[Seen1],
     refused: Option<(Place, Cause)>,
 ) -> Result<Value, Memory>
     ensures { IfOk result (λ v. view v ≡ shown_tree wrapper version kind list.now refused) }
