@@ -3,8 +3,8 @@
 //! Responsible for: each public call of these rooms that the program doesn't make where it does its work, which no contract
 //! says to do its work where memory is at hand; each source and sink that fails; what a relay keeps and what it writes where
 //! a read or a write fails; and what the formats say where no stream shows it to the built program. They stand in a crate of
-//! their own, since a crate with tests is proved twice. Left to others: machines and savers (mig_test_machine), and what a
-//! stream or an image says, which is tested with the built program (tests/examples).
+//! their own, since a crate with tests is proved twice. What a stream or an image says is tested with the built program
+//! (tests/examples).
 #![tactic(auto)]
 
 #[cfg(test)]
@@ -25,5 +25,7 @@ mod pages;
 mod passing;
 #[cfg(test)]
 mod renaming;
+#[cfg(test)]
+mod shown;
 #[cfg(test)]
 mod tables;

@@ -12,6 +12,11 @@ const SMALLEST: [u8; 104] = [
     17, 17, 17, 17, 17, 17, 17, 17, 17, 17, 0, 0, 0, 0, 0, 0, 0, 0, 0, 0, 0, 0, 0, 0, 0, 0,
 ];
 
+// The stream, of which a proof is to know nothing.
+pub(crate) fn smallest() -> &'static [u8] {
+    &SMALLEST
+}
+
 // A source that gives at most `cut` bytes a read, and none at read number `fails`.
 fn source(alloc: Global, bytes: Vec<u8>, cut: usize, fails: u64) -> Result<MemSource, Fail> {
     let cuts = vec![in alloc; cut; 500]?;

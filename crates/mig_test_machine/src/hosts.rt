@@ -117,6 +117,11 @@ fn behind() -> &'static [u8] {
     &BEHIND
 }
 
+// The context alone, behind what an image has in front of it.
+pub(crate) fn context() -> &'static [u8] {
+    &BEHIND[24..]
+}
+
 // A page of zeros, of which a proof is to know nothing.
 fn zeros() -> [u8; 4096] {
     [0; 4096]

@@ -12,6 +12,8 @@ mod faulty;
 #[cfg(test)]
 mod hosts;
 #[cfg(test)]
+mod judged;
+#[cfg(test)]
 mod made;
 #[cfg(test)]
 mod running;
@@ -24,5 +26,7 @@ mod sets;
 mod standing;
 #[cfg(test)]
 mod standing_tests;
+#[cfg(test)]
+mod streams;
 
 pub use standing::StandingMachine;
