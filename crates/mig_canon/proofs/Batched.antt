@@ -7,8 +7,9 @@ use Rattle.std.specs.FinMap as maps
 use Rattle.mig_headers.specs.Headers.{image_header_of, domain_header_of}
 use Rattle.mig_headers.proofs.HeaderLaws.{image_is_read_back, domain_is_read_back}
 use Rattle.mig_pvtables.specs.Blank.{blank}
-use Rattle.mig_canon.specs.Canon.{body_of, canon}
-use Rattle.mig_canon.proofs.Batches.{words_len}
+use Rattle.mig_records_pages.specs.PageData.{body_of}
+use Rattle.mig_canon.specs.Canon.{canon}
+use Rattle.mig_records_pages.proofs.PageTexts.{words_len}
 use Rattle.mig_restore_form.specs.Mean.{sent}
 use Rattle.mig_restore_form.specs.Spelled.HasContent.{pages as pages_say}
 use Rattle.mig_canon.specs.Batched.{IsSendable, IsSendableBatch, TellFrames, told, frames_told, batch_records, batched_bodies, batched}

@@ -14,8 +14,8 @@ use Rattle.mig_pagetypes.specs.PageTypes.{number_of, type_of, type_or_none, type
 use Rattle.mig_pagetypes.specs.FrameWords.{word_type, word_pfn, word_has_data, some_has_data}
 use Rattle.mig_records.specs.Words.{words, has_reserved_type, is_outside}
 use Rattle.mig_guest.specs.Tables.{EachEntry, IsWithin}
-use Rattle.mig_canon.specs.Canon.{body_of}
-use Rattle.mig_canon.proofs.Batches.{words_len}
+use Rattle.mig_records_pages.specs.PageData.{body_of}
+use Rattle.mig_records_pages.proofs.PageTexts.{words_len}
 use Rattle.mig_canon.specs.Batched.{IsSendable, told}
 use Rattle.mig_canon.proofs.CanonMaps.{IsKept}
 use Rattle.mig_canon.proofs.CanonParts.{le32_first}

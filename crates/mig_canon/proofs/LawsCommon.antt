@@ -5,7 +5,9 @@ pub use Rattle.mig_records.specs.Shapes.{IsBody, IsRecordBody, IsShaped, SayAll,
 pub use Rattle.mig_bytes.specs.Bytes.{padding_len}
 pub use Rattle.mig_bytes.specs.Sequences.{Spells}
 pub use Rattle.mig_bytes.specs.Sequences.Spells.{no_part, one_more}
-pub use Rattle.mig_canon.specs.Canon.{Frame, Record, batch, batches, frame_word_in, frames_in, headers, info_records, key_of, last_codes, last_records, p2m_body, p2m_record, p2m_records, page_in, pages_of, part_record, pv_last_codes, records_in_order, records_of, records_of_vcpu, static_bodies, static_codes, text_of, vcpu_codes, vcpu_record, vcpus_below, words_of}
+pub use Rattle.mig_records_pages.specs.PageData.{Frame, frame_word_in, page_in, pages_of, words_of}
+pub use Rattle.mig_records.specs.Records.{Record, text_of, IsRecord}
+pub use Rattle.mig_canon.specs.Canon.{batch, batches, frames_in, headers, info_records, key_of, last_codes, last_records, p2m_body, p2m_record, p2m_records, part_record, pv_last_codes, records_in_order, records_of, records_of_vcpu, static_bodies, static_codes, vcpu_codes, vcpu_record, vcpus_below}
 pub use Rattle.mig_canon.specs.Bare.{IsBare}
 pub use Rattle.mig_guest.proofs.Found.{all_found, found_first}
 pub use Rattle.mig_guest.proofs.KeyedMaps.{tied}
@@ -25,7 +27,6 @@ pub use Rattle.mig_guest.specs.declared.part_key.PartKey.{PartKey}
 pub use Rattle.mig_headers.specs.declared.kind.Kind.{Kind}
 pub use Rattle.mig_headers.specs.declared.kind.Kind.TheVariants.{Hvm, Pv}
 pub use Rattle.mig_pvtables.specs.Whole.{IsWhole}
-pub use Rattle.mig_records.specs.Records.{IsRecord}
 pub use Rattle.mig_restore_form.proofs.Meaning.{meant_as_sent, one_more_record}
 pub use Rattle.mig_restore_form.specs.Mean.{empty_guest, meant_type, put_content, put_entries, put_entry}
 pub use Rattle.mig_restore_form.specs.Record.{Content, StreamRecord, is_ended, types_of}

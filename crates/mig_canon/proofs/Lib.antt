@@ -1,5 +1,4 @@
 pub mod Common
-pub mod Steps
 pub mod Wholes
 pub mod Spelling
 pub mod Batches

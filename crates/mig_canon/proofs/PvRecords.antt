@@ -30,7 +30,8 @@ use Rattle.mig_guest.proofs.PartRows.{numbered}
 use Rattle.mig_records.specs.Shapes.{of_vcpu}
 use Rattle.mig_records.specs.Records.{spelled}
 use Rattle.mig_canon.specs.Canon.{vcpu_codes, all_vcpus}
-use Rattle.mig_canon.proofs.Spelling.{text_one, text_join, texts_of, record_text}
+use Rattle.mig_records.proofs.RecordTexts.{text_one, text_join, record_text}
+use Rattle.mig_canon.proofs.Spelling.{texts_of}
 use Rattle.mig_canon.proofs.Wholes.{short_parts}
 
 -- ---- the P2M frames

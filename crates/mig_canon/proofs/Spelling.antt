@@ -1,9 +1,7 @@
 -- How records, tables and the whole stream are spelled, piece by piece.
-use Rattle.mig_canon.proofs.Common.{◌≡◌, ℕ, suc, ◌+◌, ◌-◌, ◌<◌, ◌≤◌, List, [], ◌∷◌, ◌++◌, length, take, drop, replicate, map, Bool, true, false, refl, sym, ap, subst, ◌∙◌, arith, length-append, append-nil, append_assoc, flat_map-append, length-replicate, replicate-append-replicate, take-append-le, take-append-add, flat_map, padding_len, Part, code_number, shape_of, parts_at, part_body, bodies_by_shape, head_of, Record, records_of, records_in_order, frames_in, batches, frame_bodies, static_bodies, info_records, p2m_records, pv_last_codes, all_vcpus, last_records, text_of, headers, piece}
+use Rattle.mig_canon.proofs.Common.{◌≡◌, ℕ, suc, ◌+◌, ◌-◌, ◌<◌, List, [], ◌∷◌, ◌++◌, length, replicate, map, Bool, true, false, refl, sym, ap, subst, ◌∙◌, arith, length-append, append_assoc, length-replicate, replicate-append-replicate, flat_map, padding_len, Part, code_number, shape_of, parts_at, part_body, bodies_by_shape, head_of, Record, records_of, records_in_order, frames_in, batches, frame_bodies, static_bodies, info_records, p2m_records, pv_last_codes, all_vcpus, last_records, text_of, headers, piece}
 use Rattle.byteorder.specs.Endian.{little_bytes}
 use Rattle.byteorder.specs.Numbers.{length-bytes_low_first}
-use Rattle.byteorder.proofs.Bytes.{take-bytes_low_first}
-use Rattle.mig_bytes.specs.Fields.{with_field}
 use Rattle.mig_headers.specs.declared.kind.Kind.TheVariants.{Pv}
 use Rattle.mig_guest.specs.Guests.{GuestOf}
 use Rattle.mig_guest.specs.declared.part_code.PartCode.{PartCode}
@@ -12,23 +10,8 @@ use Rattle.mig_records.specs.declared.shape.Shape.{Shape}
 use Rattle.mig_records.specs.declared.shape.Shape.TheVariants.{Table, Single, Named, Chain, Other}
 use Rattle.mig_records.specs.Layouts.{front_text, entries_text, table_text}
 use Rattle.mig_records.specs.Records.{spelled}
+use Rattle.mig_records.proofs.RecordTexts.{record_text, text_one, text_join}
 use Rattle.mig_canon.specs.Canon.{canon}
-
--- ---- a record
-
-pub record_text : (type n : ℕ) (body : List ℕ) → n ≡ length body → spelled type body ≡ head_of type n ++ (body ++ replicate (padding_len n) 0)
-unfolding spelled
-record_text type n body size = ap (λ m. head_of type m ++ (body ++ replicate (padding_len m) 0)) (sym size)
-
--- a body whose length is a multiple of 8
-pub spelled_flat : (type n : ℕ) (body : List ℕ) → length body ≡ n → padding_len n ≡ 0 → spelled type body ≡ head_of type n ++ body
-spelled_flat type n body size none = record_text type n body (sym size) ∙ ap (λ m. head_of type n ++ (body ++ replicate m 0)) none ∙ ap (λ l. head_of type n ++ l) (append-nil body)
-
-pub text_one : (type : ℕ) (body : List ℕ) → text_of ((type, body) ∷ []) ≡ spelled type body
-text_one type body = append-nil (spelled type body)
-
-pub text_join : (a b : List Record) → text_of (a ++ b) ≡ text_of a ++ text_of b
-text_join a b = flat_map-append (λ r. spelled r.0 r.1) a b
 
 -- ---- the records of a code
 
@@ -95,19 +78,6 @@ pub named_len : (key1 key2 second ignored : ℕ) (value : List ℕ) → length (
 named_len key1 key2 second ignored value =
     let two = little_bytes second key2 in let zeros : List ℕ = replicate ignored 0 in
     omega (arith, length-append (little_bytes 4 key1) (two ++ (zeros ++ value)), length-append two (zeros ++ value), length-append zeros value, length-bytes_low_first 0 second key2, length-replicate {A = ℕ} ignored 0)
-
--- the lowest bytes of a number, which are the first of a field
-low_bytes : (width number : ℕ) (more : List ℕ) → width ≤ 8 → take width (little_bytes 8 number ++ more) ≡ little_bytes width number
-low_bytes width number more small = take-append-le width (little_bytes 8 number) more small ∙ take-bytes_low_first 0 8 width number small
-
--- a buffer in which a number is written, and behind its lowest bytes another
-pub numbers_text : (first second one two : ℕ) (buffer once twice : List ℕ) → first ≤ 8 → second ≤ 8 → once ≡ with_field buffer 0 (little_bytes 8 one) → twice ≡ with_field once first (little_bytes 8 two)
-    → little_bytes first one ++ little_bytes second two ≡ take (first + second) twice
-numbers_text first second one two buffer once twice a b put again =
-    let field = little_bytes first one in let behind = little_bytes 8 two ++ drop (first + 8) once in
-    ap (λ l. field ++ l) (sym (low_bytes second two (drop (first + 8) once) b)) ∙ sym (take-append-add field behind second)
-    ∙ ap (λ n. take (n + second) (field ++ behind)) (length-bytes_low_first 0 first one)
-    ∙ ap (λ l. take (first + second) (l ++ behind)) (sym (ap (take first) put ∙ low_bytes first one (drop 8 buffer) a)) ∙ ap (take (first + second)) (sym again)
 
 -- the numbers of a key, zeros and a value
 pub keyed_text : (first second ignored key1 key2 : ℕ) (value : List ℕ) → little_bytes first key1 ++ (little_bytes second key2 ++ (replicate ignored 0 ++ value)) ≡ (little_bytes first key1 ++ little_bytes second key2) ++ (replicate ignored 0 ++ value)

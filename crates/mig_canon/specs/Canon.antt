@@ -1,6 +1,6 @@
 -- The canonical stream of a guest: stated records in a stated order, keys ascending, all that a reader ignores zero.
 -- It has no record of an emulator's parts.
-use Rattle.std.specs.Prelude.{ℕ, ◌*◌, List, [], ◌∷◌, ◌++◌, length, take, drop, map, replicate, unwrap_or, Option, Some, None}
+use Rattle.std.specs.Prelude.{ℕ, ◌*◌, List, [], ◌∷◌, ◌++◌, length, take, drop, map, replicate, Option, Some, None}
 use Rattle.byteorder.specs.Endian.{little_bytes}
 use Rattle.std.specs.Int.{div_ceil}
 use Rattle.std.specs.List.{flat_map, range_with_len}
@@ -8,8 +8,6 @@ use Rattle.std.specs.FinMap as maps
 use Rattle.mig_headers.specs.declared.kind.Kind.{Kind}
 use Rattle.mig_headers.specs.declared.kind.Kind.TheVariants.{Pv, Hvm}
 use Rattle.mig_headers.specs.Headers.{image_header_of, domain_header_of}
-use Rattle.mig_pagetypes.specs.FrameWords.{word_of}
-use Rattle.mig_guest.specs.Frames.{FrameOf}
 use Rattle.mig_guest.specs.Guests.{GuestOf}
 use Rattle.mig_guest.specs.declared.part_code.PartCode.{PartCode}
 use Rattle.mig_guest.specs.declared.part_code.PartCode.TheVariants.{VcpuBasic, VcpuExtended, VcpuXsave, SharedInfo, Tsc, HvmContext, HvmParam, VcpuMsrs, CpuidLeaf, Msr}
@@ -17,12 +15,10 @@ use Rattle.mig_guest.specs.declared.part_key.PartKey.{PartKey}
 use Rattle.mig_guest.specs.PartCodes.{code_number}
 use Rattle.mig_guest.specs.PartKeys.{p2m_key}
 use Rattle.mig_records.specs.Shapes.{canonical_bodies, part_body, parts_at, shape_of}
-use Rattle.mig_records.specs.Records.{spelled}
+use Rattle.mig_records.specs.Records.{Record, text_of}
+use Rattle.mig_records_pages.specs.PageData.{Frame, body_of}
 
 -- ---- frames: 1024 in each record, and the rest in the last
-
-abbrev pub Frame : Type 0
-Frame = ℕ × FrameOf
 
 abbrev pub batch : List Frame → ℕ → List Frame
 batch fs k = take 1024 (drop (1024 * k) fs)
@@ -30,27 +26,7 @@ batch fs k = take 1024 (drop (1024 * k) fs)
 abbrev pub batches : List Frame → ℕ
 batches fs = div_ceil (length fs) 1024
 
-abbrev pub frame_word_in : Frame → ℕ
-frame_word_in f = word_of (record { pfn = f.0; kind = f.1.type })
-
-abbrev pub words_of : List Frame → List ℕ
-words_of fs = flat_map (λ f. little_bytes 8 (frame_word_in f)) fs
-
--- the page of a frame, where its type has data
-abbrev pub page_in : Frame → List ℕ
-page_in f = unwrap_or f.1.page []
-
-abbrev pub pages_of : List Frame → List ℕ
-pages_of fs = flat_map page_in fs
-
--- the body of a PAGE_DATA record: the count, 4 zero bytes, the words, the pages
-unfoldable pub body_of : List Frame → List ℕ
-body_of fs = little_bytes 4 (length fs) ++ (replicate 4 0 ++ (words_of fs ++ pages_of fs))
-
 -- ---- records: a type and a body
-
-abbrev pub Record : Type 0
-Record = ℕ × List ℕ
 
 -- the records of the first n batches
 abbrev pub frame_bodies : List Frame → ℕ → List Record
@@ -140,9 +116,6 @@ last_records Hvm g = records_in_order last_codes g
 abbrev pub bodies_of : Kind → GuestOf → List Record
 bodies_of kind g =
     info_records kind ++ (static_bodies g ++ (p2m_records kind g ++ (frame_bodies (frames_in g) (batches (frames_in g)) ++ (last_records kind g ++ (0, []) ∷ []))))
-
-abbrev pub text_of : List Record → List ℕ
-text_of bodies = flat_map (λ b. spelled b.0 b.1) bodies
 
 -- version 3, a domain of Xen 0.1
 abbrev pub headers : Kind → List ℕ

@@ -1,4 +1,5 @@
 pub mod Canon
+pub mod CanonStream
 pub mod Pieces
 pub mod Bare
 pub mod Batched

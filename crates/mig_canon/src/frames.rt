@@ -4,61 +4,21 @@ ghost use Rattle.std.specs.FinMap as maps;
 ghost use Rattle.mig_bytes.specs.Bytes.{Puts};
 ghost use Rattle.mig_bytes.specs.Faults.{HasCause};
 ghost use Rattle.mig_guest.specs.Frames.{entries_from};
-ghost use Rattle.mig_records.specs.Records.{spelled};
-ghost use Rattle.mig_canon.specs.Canon.{words_of, pages_of, body_of, text_of, frame_bodies, batches, frames_in};
+ghost use Rattle.mig_records.specs.Records.{spelled, text_of};
+ghost use Rattle.mig_records_pages.specs.PageData.{words_of, pages_of, body_of};
+ghost use Rattle.mig_canon.specs.Canon.{frame_bodies, batches, frames_in};
 
-use crate::parts::write_count;
 use mig_bytes::{Sink, WriteFailed, put_all, put_u64_le};
 use mig_guest::Guest;
 use mig_pagetypes::{FrameWord, encode_word};
-use mig_records::write_head;
+use mig_records::{write_count, write_head};
+use mig_records_pages::{no_pages, no_words, pages_with, put_page};
 
 /// The number of frames of a whole batch.
 const BATCH: u64 = 1024;
 
 /// The most pages that one write takes.
 const GATHERED: u32 = 4;
-
-/// How many pages a page is.
-fn one_page(page: &[u8; 4096]) -> u32
-    ensures len { length page.now ≡ 4096 * result }
-    ensures one { result ≡ 1 }
-{
-    (page.len() / 4096) as u32
-}
-
-/// How many pages come with a frame: 1 or 0.
-pub fn pages_with(page: Option<&[u8; 4096]>) -> u32
-    ensures len { length (unwrap_or (option_copied page.entry) []) ≡ 4096 * result }
-    ensures most { result ≤ 1 }
-{
-    match page {
-        Some(bytes) => one_page(bytes),
-        None => 0,
-    }
-}
-
-/// Puts the page, if there is one, behind so many pages; answers how many came: 1 or 0.
-pub fn put_page(buffer: &mut [u8], pages: u32, page: Option<&[u8; 4096]>) -> u32
-    requires room { 4096 * (pages + 1) ≤ length buffer.old }
-    ensures bytes { take (4096 * (pages + result)) buffer.new ≡ take (4096 * pages) buffer.old ++ unwrap_or (option_copied page.entry) [] }
-    ensures room { length buffer.new ≡ length buffer.old }
-    ensures most { result ≤ 1 }
-{
-    match page {
-        Some(bytes) => {
-            let at = 4096 * pages as usize;
-            buffer[at..at + 4096].copy_from_slice(bytes);
-            1
-        }
-        None => 0,
-    }
-}
-
-/// Room for the words of a batch.
-pub fn no_words() -> [u8; 8192] {
-    [0; 8192]
-}
 
 /// Writes the words of so many frames, from this number on; answers how many pages come with them.
 fn fill_words(words: &mut [u8], guest: &Guest, start: u64, count: u32) -> u32
@@ -84,14 +44,9 @@ fn fill_words(words: &mut [u8], guest: &Guest, start: u64, count: u32) -> u32
     pages
 }
 
-/// Room for the pages of one write.
-pub fn no_pages() -> [u8; 16384] {
-    [0; 16384]
-}
-
 /// Puts the pages of so many frames, from this number on, one behind the other; answers the number behind the frames,
 /// and how many pages come with them.
-#[tactic(auto, using(crate::proofs::Steps::drop_next, crate::proofs::Steps::not_ended, crate::proofs::Batches::pages_put))]
+#[tactic(auto, using(mig_records_pages::proofs::ListSteps::drop_next, mig_records_pages::proofs::ListSteps::not_ended, mig_records_pages::proofs::PageTexts::pages_put))]
 fn fill_pages(buffer: &mut [u8], guest: &Guest, start: u64, count: u32) -> (u64, u32)
     requires room { 4096 * count ≤ length buffer.old }
     requires most { count ≤ 4 }

@@ -27,8 +27,6 @@ mod parts;
 mod pv;
 mod writer;
 
-pub use frames::{no_pages, no_words, pages_with, put_page};
 pub use law::{canonical_image_is_accepted, frames_may_come_in_any_records};
-pub use parts::write_count;
 pub use pv::{write_info, write_p2m_frames, write_vcpus};
 pub use writer::{write_canon, write_codes, write_headers};

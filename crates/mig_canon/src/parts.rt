@@ -5,37 +5,19 @@ ghost use Rattle.mig_bytes.specs.Bytes.{Puts};
 ghost use Rattle.mig_bytes.specs.Faults.{HasCause};
 ghost use Rattle.mig_headers.specs.RecordTypes.{most_body};
 ghost use Rattle.mig_guest.specs.Formed.{IsFormed};
-ghost use Rattle.mig_records.specs.Records.{spelled};
+ghost use Rattle.mig_records.specs.Records.{spelled, text_of};
 ghost use Rattle.mig_guest.specs.PartCodes.{code_number};
 ghost use Rattle.mig_records.specs.declared.shape.Shape.TheVariants as shapes;
 ghost use Rattle.mig_records.specs.Layouts.{AreWidths, front_text, entry_text};
 ghost use Rattle.mig_records.specs.Shapes.{shape_of, parts_at, IsRow};
-ghost use Rattle.mig_canon.specs.Canon.{records_of, text_of};
+ghost use Rattle.mig_canon.specs.Canon.{records_of};
 ghost use Rattle.mig_canon.specs.Pieces.{piece, IsShortPart};
 
-use mig_bytes::{Sink, WriteFailed, put_all, put_u64_le};
+use mig_bytes::{Sink, WriteFailed, put_all};
 use mig_guest::{Guest, PartCode, PartKey};
-use mig_records::{Layout, Shape, shape_of, write_head, write_padding, write_record};
-
-/// Appends the lowest bytes of two numbers, of each the lowest first.
-#[tactic(auto, using(mig_bytes::proofs::Texts::puts_same, crate::proofs::Spelling::numbers_text))]
-pub(crate) fn write_numbers<K: Sink>(
-    sink: &mut K,
-    first: usize,
-    one: u32,
-    second: usize,
-    two: u32,
-) -> Result<(), WriteFailed>
-    requires first { first ≤ 8 }
-    requires second { second ≤ 8 }
-    ensures bytes { Puts (little_bytes first one ++ little_bytes second two) (K.written sink.old) (K.written sink.new) result }
-    ensures cause { HasCause (K.faults sink.old) (K.faults sink.new) result }
-{
-    let mut bytes = [0; 16];
-    put_u64_le(&mut bytes, 0, u64::from(one));
-    put_u64_le(&mut bytes, first, u64::from(two));
-    put_all(sink, &bytes[..first + second])
-}
+use mig_records::{
+    Layout, Shape, shape_of, write_count, write_head, write_numbers, write_padding, write_record,
+};
 
 /// Appends so many zero bytes.
 fn write_zeros<K: Sink>(sink: &mut K, count: usize) -> Result<(), WriteFailed>
@@ -46,14 +28,6 @@ fn write_zeros<K: Sink>(sink: &mut K, count: usize) -> Result<(), WriteFailed>
         put_all(sink, &[0])?;
     }
     Ok(())
-}
-
-/// Appends a count, and 4 zero bytes.
-pub fn write_count<K: Sink>(sink: &mut K, count: u32) -> Result<(), WriteFailed>
-    ensures bytes { Puts (little_bytes 4 count ++ replicate 4 0) (K.written sink.old) (K.written sink.new) result }
-    ensures cause { HasCause (K.faults sink.old) (K.faults sink.new) result }
-{
-    write_numbers(sink, 4, count, 4, 0)
 }
 
 /// Appends what stands before the entries of a table: their number, where it has it.

@@ -3,14 +3,14 @@ ghost use Rattle.mig_bytes.specs.Bytes.{Puts};
 ghost use Rattle.mig_bytes.specs.Faults.{HasCause};
 ghost use Rattle.mig_records.specs.Shapes.{shape_of, of_vcpu};
 ghost use Rattle.mig_guest.specs.Formed.{IsFormed};
-ghost use Rattle.mig_records.specs.Records.{spelled};
-ghost use Rattle.mig_canon.specs.Canon.{info_records, p2m_body, p2m_records, vcpu_record, records_of_vcpu, all_vcpus, text_of};
+ghost use Rattle.mig_records.specs.Records.{spelled, text_of};
+ghost use Rattle.mig_canon.specs.Canon.{info_records, p2m_body, p2m_records, vcpu_record, records_of_vcpu, all_vcpus};
 
-use crate::parts::{write_numbers, write_piece};
+use crate::parts::write_piece;
 use mig_bytes::{Sink, WriteFailed, put_all};
 use mig_guest::{Guest, PartCode, PartKey};
 use mig_headers::Kind;
-use mig_records::{shape_of, write_head, write_padding, write_record};
+use mig_records::{shape_of, write_head, write_numbers, write_padding, write_record};
 
 /// The type of X86_PV_INFO.
 const PV_INFO: u32 = 2;
@@ -26,7 +26,7 @@ const P2M_KEY: PartKey = PartKey {
 const VCPU_LIMIT: u32 = 4096;
 
 /// Appends the X86_PV_INFO of a PV guest; nothing for HVM.
-#[tactic(auto, using(mig_bytes::proofs::Texts::puts_same, crate::proofs::Spelling::text_one))]
+#[tactic(auto, using(mig_bytes::proofs::Texts::puts_same, mig_records::proofs::RecordTexts::text_one))]
 pub fn write_info<K: Sink>(sink: &mut K, guest: &Guest) -> Result<(), WriteFailed>
     ensures bytes { Puts (text_of (info_records guest.now.kind)) (K.written sink.old) (K.written sink.new) result }
     ensures cause { HasCause (K.faults sink.old) (K.faults sink.new) result }
@@ -52,7 +52,7 @@ fn write_p2m_list<K: Sink>(sink: &mut K, top: u32, frames: &[u8]) -> Result<(), 
 }
 
 /// Appends the record of a PV guest's P2M frames; nothing for HVM.
-#[tactic(auto, using(mig_bytes::proofs::Texts::puts_same, crate::proofs::Spelling::text_one, crate::proofs::PvRecords::top_small, crate::proofs::PvRecords::p2m_short))]
+#[tactic(auto, using(mig_bytes::proofs::Texts::puts_same, mig_records::proofs::RecordTexts::text_one, crate::proofs::PvRecords::top_small, crate::proofs::PvRecords::p2m_short))]
 pub fn write_p2m_frames<K: Sink>(sink: &mut K, guest: &Guest) -> Result<(), WriteFailed>
     requires { IsFormed guest.now }
     ensures bytes { Puts (text_of (p2m_records guest.now.kind guest.now)) (K.written sink.old) (K.written sink.new) result }

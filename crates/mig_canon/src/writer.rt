@@ -4,7 +4,8 @@ ghost use Rattle.mig_bytes.specs.Faults.{HasCause};
 ghost use Rattle.mig_guest.specs.Formed.{IsFormed};
 ghost use Rattle.mig_pvtables.specs.Whole.{IsWhole};
 ghost use Rattle.std.specs.List.{flat_map};
-ghost use Rattle.mig_canon.specs.Canon.{headers, records_of, static_bodies, last_records, text_of, canon};
+ghost use Rattle.mig_canon.specs.Canon.{headers, records_of, static_bodies, last_records, canon};
+ghost use Rattle.mig_records.specs.Records.{text_of};
 
 use crate::frames::write_frames;
 use crate::parts::write_parts;

@@ -1,6 +1,5 @@
 -- What a save has written where it stopped early.
-use Rattle.std.proofs.Common.{◌≡◌, ℕ, ◌+◌, ◌≤◌, Bool, true, false, List, [], ◌∷◌, ◌++◌, length, take, map, Option, refl, sym, ap, subst, ◌∙◌, arith, append_assoc, append-nil}
-use Rattle.std.proofs.Common.{inl, inr}
+use Rattle.std.proofs.Common.{◌≡◌, ℕ, ◌+◌, ◌≤◌, Bool, true, false, List, [], ◌∷◌, ◌++◌, length, take, map, Option, refl, sym, ap, subst, ◌∙◌, arith, append_assoc, append-nil, inl, inr}
 use Rattle.std.specs.List.{AllByRecursion}
 use Rattle.std.specs.Io.KnownBytes.{Appends, append_known}
 use Rattle.std.proofs.KnownBytes.{Appends-trans}
@@ -10,10 +9,10 @@ use Rattle.mig_headers.specs.declared.unsound.Unsound.{Unsound}
 use Rattle.mig_guest.specs.Formed.{IsFormed}
 use Rattle.mig_guest.specs.Guests.{GuestOf}
 use Rattle.mig_guest.specs.Parts.{PartMap}
-use Rattle.mig_records.specs.Records.{spelled}
-use Rattle.mig_canon.specs.Canon.{Record, headers, text_of}
-use Rattle.mig_canon.proofs.Spelling.{text_join, text_one}
-use Rattle.mig_libxl.specs.Canon.{has_emulators, is_of_converter, opening_text, wrapper_opening, wrapper_closing}
+use Rattle.mig_records.specs.Records.{spelled, Record, text_of}
+use Rattle.mig_canon.specs.Canon.{headers}
+use Rattle.mig_records.proofs.RecordTexts.{text_join, text_one}
+use Rattle.mig_canon.specs.CanonStream.{has_emulators, is_of_converter, opening_text, wrapper_opening, wrapper_closing}
 use Rattle.mig_libxl.proofs.Around.{opening_none, opening_some}
 use Rattle.mig_records_pages.specs.Told.{FrameTold, telling_record, all_told}
 use Rattle.mig_records_pages.specs.Written.{WroteAll, WroteSome, IsRecordWithin, AreRecordsWithin}

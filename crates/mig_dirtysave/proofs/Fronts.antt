@@ -9,8 +9,7 @@ use Rattle.byteorder.specs.Endian.{little_number}
 use Rattle.byteorder.specs.Numbers.{little_from-append}
 use Rattle.mig_bytes.specs.Bytes.{padding_len}
 use Rattle.mig_bytes.specs.Fields.{le32}
-use Rattle.mig_records.specs.Records.{IsRecord}
-use Rattle.mig_canon.specs.Canon.{Record}
+use Rattle.mig_records.specs.Records.{IsRecord, Record}
 use Rattle.mig_dirtysave.specs.Unended.{AreRecords, HaveNoEnd, IsCutRecord}
 
 pub type_front : (head more : List ℕ) → length head ≡ 8 → le32 (head ++ more) 0 ≡ le32 head 0

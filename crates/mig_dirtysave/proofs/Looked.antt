@@ -1,18 +1,18 @@
 -- What stays of a paused machine while machine frames are looked up: its host, and what a history says of rounds and reads.
-use Rattle.std.proofs.Common.{◌≡◌, ℕ, ◌+◌, ◌≤◌, List, [], ◌∷◌, ◌++◌, length, take, get_or, Option, Some, None, map, min, refl, sym, ap, subst, ◌∙◌, arith}
+use Rattle.std.proofs.Common.{◌≡◌, ℕ, ◌+◌, ◌≤◌, List, [], ◌∷◌, ◌++◌, length, take, get_or, Option, Some, None, map, min, refl, sym, ap, subst, ◌∙◌, arith, ◌⊎◌, inl, inr}
 use Rattle.std.specs.Prelude.{Result, Ok, Err, IsErrAnd}
 use Rattle.std.proofs.lemmas.Bool.{cases_lt}
 use Rattle.std.proofs.lemmas.List.{get_or-take, get_or_past, length-take}
-use Rattle.std.proofs.Common.{◌⊎◌, inl, inr}
 use Rattle.std.specs.Option.{option_map}
 use Rattle.std.specs.FinMap as maps
 use Rattle.mig_headers.specs.declared.kind.Kind.{Kind}
 use Rattle.mig_pagetypes.specs.declared.page_type.PageType.{PageType}
 use Rattle.mig_guest.specs.Hosts.{HostOf, HostFrame, IsValid}
-use Rattle.mig_canon.specs.Canon.{headers, text_of}
+use Rattle.mig_canon.specs.Canon.{headers}
+use Rattle.mig_records.specs.Records.{text_of}
 use Rattle.mig_records_pages.specs.Told.{telling_record}
 use Rattle.mig_host_view.specs.View.{view}
-use Rattle.mig_libxl.specs.Canon.{wrapper_opening, wrapper_closing}
+use Rattle.mig_canon.specs.CanonStream.{wrapper_opening, wrapper_closing}
 use Rattle.mig_libxl_form.specs.Spelled.{AcceptedStream}
 use Rattle.mig_guest.specs.History.{History}
 use Rattle.mig_guest.specs.MachineStates.{MachineState}

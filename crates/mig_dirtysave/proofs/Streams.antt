@@ -13,14 +13,15 @@ use Rattle.mig_guest.specs.PartCodes.{is_fixed}
 use Rattle.mig_guest.specs.Parts.{PartMap}
 use Rattle.mig_guest.specs.declared.part_key.PartKey.{PartKey}
 use Rattle.std.specs.FinMap as maps
-use Rattle.mig_canon.specs.Canon.{Record, headers, info_records, static_bodies, p2m_records, last_records, text_of}
-use Rattle.mig_canon.proofs.Spelling.{text_join}
+use Rattle.mig_records.specs.Records.{Record, text_of}
+use Rattle.mig_canon.specs.Canon.{headers, info_records, static_bodies, p2m_records, last_records}
+use Rattle.mig_records.proofs.RecordTexts.{text_join}
 use Rattle.mig_canon.specs.Batched.{batch_records, batched}
 use Rattle.mig_host_view.specs.Sound.{unsoundness}
 use Rattle.mig_host_view.specs.View.{view, top_of}
 use Rattle.mig_host_view.proofs.SoundRows.{sound_is_faultless}
 use Rattle.mig_host_view.proofs.ViewedGuests.{viewed_whole}
-use Rattle.mig_libxl.specs.Canon.{bare_guest, wrapper_opening, wrapper_closing}
+use Rattle.mig_canon.specs.CanonStream.{bare_guest, wrapper_opening, wrapper_closing}
 use Rattle.mig_libxl_form.specs.Spelled.{AcceptedStream}
 use Rattle.mig_libxl.proofs.Alike.{opening_alike, closing_alike}
 use Rattle.mig_libxl.proofs.AnyCanons.{around_is_accepted}

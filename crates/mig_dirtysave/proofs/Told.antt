@@ -18,7 +18,7 @@ use Rattle.mig_guest.specs.Frames.{FrameOf, FrameMap, framed, is_type_of}
 use Rattle.mig_guest.specs.Tables.{EachEntry, IsWithin}
 use Rattle.mig_host_view.specs.View.{top_of}
 use Rattle.mig_host_view.proofs.ViewedFrames.{not_absent, inside_is}
-use Rattle.mig_canon.specs.Canon.{Frame}
+use Rattle.mig_records_pages.specs.PageData.{Frame}
 use Rattle.mig_restore_form.specs.Mean.{meant_type, put_entry, put_entries}
 use Rattle.mig_canon.specs.Batched.{IsSendable, IsSendableBatch, told, frames_told}
 use Rattle.mig_records_pages.specs.Told.{FrameTold, frame_or_xtab, telling_frame, telling_frames, all_told}

@@ -15,11 +15,11 @@ use Rattle.mig_host_view.specs.Sound.{IsSound}
 use Rattle.mig_host_view.specs.View.{view, hvm_view, top_of}
 use Rattle.mig_host_view.proofs.HostViews.{hvm_viewed}
 use Rattle.mig_host_view.proofs.ViewedGuests.{viewed_whole}
-use Rattle.mig_canon.specs.Canon.{Frame}
+use Rattle.mig_records_pages.specs.PageData.{Frame}
 use Rattle.mig_restore_form.specs.Spelled.{Accepted, IsComplete}
 use Rattle.mig_canon.specs.Batched.{IsSendableBatch, TellFrames, frames_told, batched}
 use Rattle.mig_canon.proofs.Batched.{batched_is_accepted}
-use Rattle.mig_libxl.specs.Canon.{bare_guest}
+use Rattle.mig_canon.specs.CanonStream.{bare_guest}
 use Rattle.mig_libxl.proofs.Canon.{bare_is, bare_plain, bare_whole, batched_bare}
 use Rattle.mig_records_pages.specs.Told.{FrameTold, telling_frames, all_told}
 use Rattle.mig_records_pages.specs.Batches.{AreSized}

@@ -1,6 +1,5 @@
 -- What is written around the image where the write stops: whole records of emulators, and a part of one more.
-use Rattle.std.proofs.Common.{◌≡◌, ℕ, ◌+◌, ◌-◌, ◌<◌, Bool, true, false, List, [], ◌∷◌, ◌++◌, length, map, take, Option, Some, None, refl, sym, ap, subst, ◌∙◌, arith, length-append}
-use Rattle.std.proofs.Common.{◌⊎◌, inl, inr}
+use Rattle.std.proofs.Common.{◌≡◌, ℕ, ◌+◌, ◌-◌, ◌<◌, Bool, true, false, List, [], ◌∷◌, ◌++◌, length, map, take, Option, Some, None, refl, sym, ap, subst, ◌∙◌, arith, length-append, ◌⊎◌, inl, inr}
 use Rattle.std.specs.Prelude.{◌==◌, is_some}
 use Rattle.std.specs.List.{All}
 use Rattle.std.specs.Option.{option_map}
@@ -17,10 +16,9 @@ use Rattle.mig_guest.specs.Formed.{IsFormed, is_emulator_code}
 use Rattle.mig_guest.specs.Guests.{GuestOf}
 use Rattle.mig_guest.specs.Hosts.{HostOf}
 use Rattle.mig_guest.specs.Parts.{Part, PartMap}
-use Rattle.mig_records.specs.Records.{spelled}
-use Rattle.mig_canon.specs.Canon.{Record, text_of}
-use Rattle.mig_canon.proofs.Spelling.{text_one}
-use Rattle.mig_libxl.specs.Canon.{emulator_body, emulator_record, emulators_in_order, has_emulators, text_of_emulators, wrapper_opening, wrapper_closing}
+use Rattle.mig_records.specs.Records.{spelled, Record, text_of}
+use Rattle.mig_records.proofs.RecordTexts.{text_one}
+use Rattle.mig_canon.specs.CanonStream.{emulator_body, emulator_record, emulators_in_order, has_emulators, text_of_emulators, wrapper_opening, wrapper_closing}
 use Rattle.mig_libxl.proofs.Alike.{opening_alike, some_alike}
 use Rattle.mig_libxl.proofs.Around.{closing_none, closing_some}
 use Rattle.mig_libxl.proofs.EmulatorParts.{IsEmulatorPart, in_order_holds}

@@ -10,12 +10,12 @@ use Rattle.mig_bytes.specs.Fields.{be64}
 use Rattle.mig_headers.specs.declared.kind.Kind.{Kind}
 use Rattle.mig_headers.specs.Headers.{marker, image_header_of, domain_header_of, libxl_header_of}
 use Rattle.mig_headers.proofs.LibxlHeaders.{libxl_is_read_back}
-use Rattle.mig_records.specs.Records.{head_of, spelled, IsRecord}
+use Rattle.mig_records.specs.Records.{head_of, spelled, IsRecord, Record, text_of}
 use Rattle.mig_records.proofs.HeadBytes.{type_in_head, len_in_head}
-use Rattle.mig_canon.specs.Canon.{Record, text_of, headers}
+use Rattle.mig_canon.specs.Canon.{headers}
 use Rattle.mig_records_pages.specs.Written.{IsShortRecord, AreRecordsWithin, WroteAll, WroteSome}
 use Rattle.mig_records_pages.proofs.Written.{none_of_next}
-use Rattle.mig_libxl.specs.Canon.{opening_text}
+use Rattle.mig_canon.specs.CanonStream.{opening_text}
 use Rattle.mig_dirtysave.specs.Unended.{AreRecords, HaveNoEnd, AreCutOff, IsUnendedImage, IsUnclosedImage, IsUnended}
 use Rattle.mig_dirtysave.specs.Unread.{HasNoStream, WroteNoStream, EndedImage}
 use Rattle.mig_dirtysave.proofs.Images.{first_number}

@@ -4,8 +4,7 @@ use Rattle.std.specs.Prelude.{◌≡◌, ◌≢◌, ◌⊎◌, ℕ, ◌<◌, ◌
 use Rattle.std.specs.List.{AllByRecursion}
 use Rattle.mig_bytes.specs.Fields.{be64}
 use Rattle.mig_headers.specs.Headers.{marker, IsLibxlHeader}
-use Rattle.mig_records.specs.Records.{IsRecord}
-use Rattle.mig_canon.specs.Canon.{Record}
+use Rattle.mig_records.specs.Records.{IsRecord, Record}
 
 -- ---- records that are cut off
 

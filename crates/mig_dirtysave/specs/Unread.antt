@@ -3,8 +3,8 @@ use Rattle.std.specs.Prelude.{◌≡◌, ℕ, List, [], ◌++◌, Option, Some, 
 use Rattle.std.specs.Io.KnownBytes.{Appends}
 use Rattle.mig_guest.specs.Guests.{GuestOf}
 use Rattle.mig_headers.specs.declared.kind.Kind.{Kind}
-use Rattle.mig_records.specs.Records.{spelled}
-use Rattle.mig_canon.specs.Canon.{Record, headers}
+use Rattle.mig_records.specs.Records.{spelled, Record}
+use Rattle.mig_canon.specs.Canon.{headers}
 use Rattle.mig_records_pages.specs.Written.{WroteAll}
 use Rattle.mig_libxl_form.specs.Spelled.{AcceptedStream}
 

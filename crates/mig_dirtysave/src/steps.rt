@@ -10,7 +10,7 @@ ghost use Rattle.mig_guest.specs.History.{no_history};
 ghost use Rattle.mig_guest.specs.MachineStates.{IsValidState};
 ghost use Rattle.mig_dirtysave_rounds.specs.Parts.{total};
 ghost use Rattle.mig_dirtysave_rounds.specs.Live.{StaysSame, HasRounds, IsTight, FramesSaved, SawTypes, AnswersTables, IsUnsound};
-ghost use Rattle.mig_libxl.specs.Canon.{wrapper_opening, wrapper_closing};
+ghost use Rattle.mig_canon.specs.CanonStream.{wrapper_opening, wrapper_closing};
 ghost use Rattle.mig_dirtysave_parts.specs.SaveTexts.{text_before};
 ghost use Rattle.mig_dirtysave.specs.SaveAnswers.{IfUnsound};
 ghost use Rattle.mig_dirtysave.specs.declared.answer.SaveAnswer.TheVariants.{MachineFault, WriteFault};

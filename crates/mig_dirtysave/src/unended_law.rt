@@ -3,9 +3,10 @@ ghost use Rattle.std.specs.declared.option.Option.{Option};
 ghost use Rattle.std.specs.Io.KnownBytes.{Appends};
 ghost use Rattle.mig_bytes.specs.Bytes.{AppendsPart};
 ghost use Rattle.mig_headers.specs.declared.kind.Kind.{Kind};
-ghost use Rattle.mig_canon.specs.Canon.{Record, headers};
+ghost use Rattle.mig_records.specs.Records.{Record};
+ghost use Rattle.mig_canon.specs.Canon.{headers};
 ghost use Rattle.mig_records_pages.specs.Written.{WroteAll, WroteSome};
-ghost use Rattle.mig_libxl.specs.Canon.{opening_text};
+ghost use Rattle.mig_canon.specs.CanonStream.{opening_text};
 ghost use Rattle.mig_dirtysave.specs.Unended.{IsUnended};
 ghost use Rattle.mig_dirtysave.specs.Unread.{HasNoStream, WroteNoStream, EndedImage};
 

@@ -3,7 +3,7 @@ ghost use Rattle.mig_guest.specs.Hosts.{HostOf, IsValid};
 ghost use Rattle.mig_host_view.specs.Sound.{IsSound};
 ghost use Rattle.mig_host_view.specs.View.{view};
 ghost use Rattle.mig_restore_form.specs.Spelled.{Accepted};
-ghost use Rattle.mig_libxl.specs.Canon.{bare_guest};
+ghost use Rattle.mig_canon.specs.CanonStream.{bare_guest};
 ghost use Rattle.mig_canon.specs.Batched.{batched};
 ghost use Rattle.mig_records_pages.specs.Told.{FrameTold, telling_frames, all_told};
 ghost use Rattle.mig_records_pages.specs.Batches.{AreSized};

@@ -6,7 +6,8 @@ use Rattle.mig_headers.specs.declared.kind.Kind.TheVariants.{Pv, Hvm}
 use Rattle.mig_guest.specs.Formed.{IsFormed}
 use Rattle.mig_guest.specs.Guests.{GuestOf}
 use Rattle.mig_guest.specs.Hosts.{HostOf, IsValid}
-use Rattle.mig_canon.specs.Canon.{Record, last_records, text_of}
+use Rattle.mig_records.specs.Records.{Record, text_of}
+use Rattle.mig_canon.specs.Canon.{last_records}
 use Rattle.mig_host_view.proofs.HostViews.{hvm_viewed}
 use Rattle.mig_dirtysave_parts.specs.KeptParts.{is_setting, kept_parts, parts_alone}
 use Rattle.mig_dirtysave_parts.specs.SaveTexts.{IsContextFront, IsOtherRecord, closing_records, settings_seen, ClosesStream}

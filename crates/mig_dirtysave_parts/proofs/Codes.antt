@@ -6,8 +6,7 @@ use Rattle.std.specs.Ordering.{eq_by_cmp, nat_cmp}
 use Rattle.byteorder.specs.Endian.{little_bytes}
 use Rattle.byteorder.specs.Numbers.{length-bytes_low_first}
 use Rattle.std.proofs.lemmas.Cmp.{eq_by_cmp_equiv}
-use Rattle.std.proofs.Common.{append_assoc}
-use Rattle.std.proofs.Common.{inl, inr}
+use Rattle.std.proofs.Common.{append_assoc, inl, inr}
 use Rattle.std.proofs.lemmas.Bool.{leb-true, or_cases}
 use Rattle.std.proofs.lemmas.List.{length-replicate}
 use Rattle.std.specs.FinMap as maps
@@ -26,7 +25,8 @@ use Rattle.mig_guest.proofs.KeyedMaps.{tied}
 use Rattle.mig_guest.proofs.PartRows.{one_code}
 use Rattle.mig_records.specs.Shapes.{canonical_bodies, contents_by_shape, parts_at, shape_of, SayAll}
 use Rattle.mig_records.proofs.Canonical.{canonical_bodies_say}
-use Rattle.mig_canon.specs.Canon.{Record, info_records, p2m_record, p2m_records, records_of, records_in_order, static_bodies, last_records}
+use Rattle.mig_records.specs.Records.{Record}
+use Rattle.mig_canon.specs.Canon.{info_records, p2m_record, p2m_records, records_of, records_in_order, static_bodies, last_records}
 use Rattle.mig_canon.proofs.PvRecords.{p2m_short}
 use Rattle.mig_records_pages.specs.Written.{IsRecordWithin, AreRecordsWithin}
 use Rattle.mig_pvtables.proofs.EachValue.{get_each, to_each, stays_each}

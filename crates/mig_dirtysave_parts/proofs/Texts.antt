@@ -1,6 +1,5 @@
 -- Parts of what a save writes: of the headers and records, of records, and of records before END.
-use Rattle.std.proofs.Common.{◌≡◌, ℕ, ◌+◌, ◌-◌, ◌<◌, List, [], ◌∷◌, ◌++◌, length, take, Option, Some, None, Result, Ok, Err, OnOk, OnErr, refl, sym, ap, subst, ◌∙◌, arith, append_assoc, append-nil, length-append}
-use Rattle.std.proofs.Common.{◌⊎◌, inl, inr}
+use Rattle.std.proofs.Common.{◌≡◌, ℕ, ◌+◌, ◌-◌, ◌<◌, List, [], ◌∷◌, ◌++◌, length, take, Option, Some, None, Result, Ok, Err, OnOk, OnErr, refl, sym, ap, subst, ◌∙◌, arith, append_assoc, append-nil, length-append, ◌⊎◌, inl, inr}
 use Rattle.std.proofs.lemmas.Bool.{cases_lt}
 use Rattle.std.proofs.Math.Seq.{take-append-add}
 use Rattle.std.proofs.lemmas.List.{take-append-le}
@@ -11,13 +10,13 @@ use Rattle.mig_bytes.specs.declared.failure.WriteFailed.{WriteFailed}
 use Rattle.mig_bytes.specs.Bytes.{AppendsPart, Puts}
 use Rattle.mig_headers.specs.declared.kind.Kind.{Kind}
 use Rattle.mig_guest.specs.Guests.{GuestOf}
-use Rattle.mig_records.specs.Records.{spelled}
-use Rattle.mig_canon.specs.Canon.{Record, headers, info_records, static_bodies, p2m_records, records_of, records_in_order, text_of}
-use Rattle.mig_dirtysave_parts.specs.SaveTexts.{text_before}
-use Rattle.mig_canon.proofs.Spelling.{text_join, text_one, codes_alone}
+use Rattle.mig_records.specs.Records.{spelled, Record, text_of}
+use Rattle.mig_canon.specs.Canon.{headers, info_records, static_bodies, p2m_records, records_of, records_in_order}
+use Rattle.mig_dirtysave_parts.specs.SaveTexts.{text_before, StopsBehind, context_record, setting_codes, closing_records}
+use Rattle.mig_records.proofs.RecordTexts.{text_join, text_one}
+use Rattle.mig_canon.proofs.Spelling.{codes_alone}
 use Rattle.mig_records_pages.specs.Written.{IsShortRecord, AreRecordsWithin, WroteSome, LeavesPart}
 use Rattle.mig_records_pages.proofs.Written.{all_behind, some_behind, none_of_next}
-use Rattle.mig_dirtysave_parts.specs.SaveTexts.{StopsBehind, context_record, setting_codes, closing_records}
 
 -- a text that is some whole records, none of them END, and a part of one more
 record IsCut (text : List ℕ) : Type 0 where

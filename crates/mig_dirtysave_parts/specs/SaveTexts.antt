@@ -13,7 +13,8 @@ use Rattle.mig_guest.specs.Guests.{GuestOf}
 use Rattle.mig_guest.specs.Hosts.{HostOf}
 use Rattle.mig_guest.specs.Parts.{PartMap}
 use Rattle.mig_guest.specs.PartKeys.{context_key}
-use Rattle.mig_canon.specs.Canon.{Record, headers, info_records, static_bodies, p2m_records, records_in_order, last_records, text_of}
+use Rattle.mig_records.specs.Records.{Record, text_of}
+use Rattle.mig_canon.specs.Canon.{headers, info_records, static_bodies, p2m_records, records_in_order, last_records}
 use Rattle.mig_records_pages.specs.Written.{AreRecordsWithin, WroteAll, WroteSome}
 use Rattle.mig_pvtables.specs.Faults.{first_cause}
 use Rattle.mig_host_view.specs.Sound.{absent, find_context_fault, unsoundness}

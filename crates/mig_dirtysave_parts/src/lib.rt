@@ -3,9 +3,9 @@
 //! Responsible for: copying the parts that stand before the frames and room for those behind them, and marks for judging P2M
 //! frames, while there may still be no memory; writing the settings of the host as it is later over those that are held;
 //! judging a paused HVM host; and the records before the frames and behind them, END the last. Left to others: what may be
-//! asked of a machine (mig_guest), the frames and what is found in tables meanwhile (mig_dirtysave_rounds), judging a PV
-//! host and bringing its contexts to their form in a stream (mig_dirtysave), single records of parts (mig_canon), and what
-//! stands around the image (mig_libxl).
+//! asked of a machine (mig_guest), the frames and what is found in tables meanwhile, judging a PV host and bringing its
+//! contexts to their form in a stream, what stands around the image (mig_dirtysave), and single records of parts
+//! (mig_canon).
 //!
 //! What the layers above rely on: what stands before the frames is what the canonical image has there of a guest with the
 //! early parts; what stands behind them is what it has there of the host's view, where nothing is in the way of seeing it;

@@ -4,11 +4,10 @@ ghost use Rattle.mig_bytes.specs.Bytes.{Puts};
 ghost use Rattle.mig_bytes.specs.Faults.{HasCause};
 ghost use Rattle.mig_headers.specs.RecordTypes.{most_body};
 ghost use Rattle.mig_guest.specs.Formed.{IsFormed};
-ghost use Rattle.mig_records.specs.Records.{spelled};
+ghost use Rattle.mig_records.specs.Records.{spelled, text_of};
 ghost use Rattle.mig_headers.specs.declared.kind.Kind.TheVariants.{Pv};
-ghost use Rattle.mig_canon.specs.Canon.{static_bodies, last_records, text_of};
-ghost use Rattle.mig_dirtysave_parts.specs.SaveTexts.{text_before};
-ghost use Rattle.mig_dirtysave_parts.specs.SaveTexts.{context_record, closing_records, StopsBehind};
+ghost use Rattle.mig_canon.specs.Canon.{static_bodies, last_records};
+ghost use Rattle.mig_dirtysave_parts.specs.SaveTexts.{text_before, context_record, closing_records, StopsBehind};
 
 use mig_bytes::{Sink, WriteFailed, put_all};
 use mig_canon::{write_codes, write_headers, write_info, write_p2m_frames, write_vcpus};

@@ -4,7 +4,7 @@
 //! table from machine frames to frame numbers; which entry of the stream it becomes, and what is kept in mind of it; the
 //! rounds of a save, its pause, and what is read after it. Left to others: what may be asked of a machine, and sets of frame
 //! numbers (mig_guest), what an entry of a table says (mig_pvtables), the records of entries (mig_records_pages), the parts
-//! of the host and the records around the frames (mig_dirtysave_parts).
+//! of the host and the records around the frames (mig_dirtysave).
 //!
 //! What the layers above rely on: in an honest machine, and in one that is paused, what the step answers is what the frame
 //! number's footprint says when the step ends, wherever the frame number isn't in the log then. So over an honest machine

@@ -27,8 +27,9 @@ use Rattle.mig_pvtables.proofs.EachValue.{shown, from_each, entries_each, len_ea
 use Rattle.mig_host_view.specs.Localised.{renamed_page, renamed_frame, renamed_part}
 use Rattle.mig_host_view.specs.RenamedContexts.{renamed_context}
 use Rattle.mig_host_view.specs.View.{without_machine, view}
-use Rattle.mig_canon.specs.Canon.{Frame, batches}
-use Rattle.mig_libxl.specs.Canon.{canon_any}
+use Rattle.mig_records_pages.specs.PageData.{Frame}
+use Rattle.mig_canon.specs.Canon.{batches}
+use Rattle.mig_canon.specs.CanonStream.{canon_any}
 use Rattle.mig_host.proofs.InOrder.{no_entries}
 use Rattle.mig_exercise.specs.ExerciseHosts.{IsExerciseSize, ArePages, p2m_frame_count, first_data, exercise_page, exercise_frame, frames_up_to, exercise_parts, exercise_p2m_list, exercise_context, page_of_zeros, host_with, exercise_canon_len}
 use Rattle.mig_exercise.proofs.Frames.{frame_there, frame_none}

@@ -24,14 +24,16 @@ use Rattle.mig_guest.specs.declared.part_key.PartKey.{PartKey}
 use Rattle.mig_guest.proofs.KeyedMaps.{tied}
 use Rattle.mig_guest.proofs.PartOrder.{part_exact}
 use Rattle.mig_records.specs.Shapes.{canonical_bodies}
-use Rattle.mig_records.specs.Records.{head_of, spelled}
-use Rattle.mig_canon.specs.Canon.{Frame, Record, batch, batches, page_in, pages_of, body_of, frame_bodies, records_in_order, static_codes, pv_last_codes, static_bodies, p2m_body, p2m_record, p2m_records, part_record, key_of, vcpu_codes, records_of_vcpu, vcpus_below, all_vcpus, last_records, info_records, text_of, headers, canon}
-use Rattle.mig_canon.proofs.Batches.{words_len}
+use Rattle.mig_records.specs.Records.{head_of, spelled, Record, text_of}
+use Rattle.mig_records_pages.specs.PageData.{Frame, page_in, pages_of, body_of}
+use Rattle.mig_canon.specs.Canon.{batch, batches, frame_bodies, records_in_order, static_codes, pv_last_codes, static_bodies, p2m_body, p2m_record, p2m_records, part_record, key_of, vcpu_codes, records_of_vcpu, vcpus_below, all_vcpus, last_records, info_records, headers, canon}
+use Rattle.mig_records_pages.proofs.PageTexts.{words_len}
 use Rattle.mig_canon.proofs.PvRecords.{vcpus_end}
-use Rattle.mig_canon.proofs.Spelling.{spelled_flat, text_one, text_join, canon_is}
+use Rattle.mig_records.proofs.RecordTexts.{spelled_flat, text_one, text_join}
+use Rattle.mig_canon.proofs.Spelling.{canon_is}
 use Rattle.mig_canon.proofs.CanonFrames.{body_len, take_more, all_taken}
 use Rattle.mig_canon.proofs.PvMaps.{vcpus_more}
-use Rattle.mig_libxl.specs.Canon.{is_of_converter, opening_text, text_of_emulators, emulators_in_order, wrapper_opening, wrapper_closing, canon_any}
+use Rattle.mig_canon.specs.CanonStream.{is_of_converter, opening_text, text_of_emulators, emulators_in_order, wrapper_opening, wrapper_closing, canon_any}
 
 -- ---- headers and records
 

@@ -1,7 +1,7 @@
 ghost use Rattle.std.specs.Prelude.{◌≡◌, ◌≤◌, ◌*◌, ℕ, length, None};
 ghost use Rattle.mig_host_view.specs.Sound.{unsoundness};
 ghost use Rattle.mig_host_view.specs.View.{view};
-ghost use Rattle.mig_libxl.specs.Canon.{canon_any};
+ghost use Rattle.mig_canon.specs.CanonStream.{canon_any};
 ghost use Rattle.mig_machine_script.specs.Groups.{ran};
 ghost use Rattle.mig_machine_script.specs.HostLines.{after};
 ghost use Rattle.mig_machine.specs.Paced.{Paced};

@@ -5,7 +5,7 @@
 //! byte order, and the guest that its chunks and its tail mean; the laws that join the judging with the spelling of the
 //! form, and those that say in its words what it means. Left to others: what a single word says (mig_pagetypes), the pages
 //! of a batch (mig_restore), what pairs of texts mean (mig_policy), the device model (mig_libxl_form), contexts (mig_hvm),
-//! and the printed texts of refusals (mig_headers_text).
+//! and how a refusal is printed (mig_tool_guest).
 //!
 //! What the layers above rely on: `read_legacy` answers the guest that the accepted front of the input means, or the first
 //! fault with its place, and has taken just the accepted front, or all up to the end of the faulty part. The tests of chunks

@@ -10,7 +10,7 @@ use Rattle.mig_restore_form.specs.Mean.{mean}
 use Rattle.mig_restore_form.specs.Spelled.{Accepted as ImageAccepted}
 use Rattle.mig_restore_form.specs.Stream.{image_of}
 use Rattle.mig_libxl_form.specs.Carried.{IsCarried}
-use Rattle.mig_libxl.specs.Canon.{canon_any, emulators_in_order, wrapper_opening, wrapper_closing}
+use Rattle.mig_canon.specs.CanonStream.{canon_any, emulators_in_order, wrapper_opening, wrapper_closing}
 use Rattle.mig_libxl_form.specs.Content.LibxlContent.{Nothing}
 use Rattle.mig_libxl_form.specs.Emulators.{emulators_of}
 use Rattle.mig_libxl_form.specs.Spelled.{AcceptedStream}

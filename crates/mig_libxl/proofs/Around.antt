@@ -3,7 +3,7 @@ use Rattle.mig_libxl.proofs.WritingCommon.{◌≡◌, true, false, cond, List, [
 use Rattle.std.specs.Io.KnownBytes.{Appends}
 use Rattle.mig_records.specs.Records.{spelled}
 use Rattle.mig_canon.specs.Canon.{canon}
-use Rattle.mig_libxl.specs.Canon.{canon_any, emulators_in_order, opening_text, wrapper_opening, wrapper_closing}
+use Rattle.mig_canon.specs.CanonStream.{canon_any, emulators_in_order, opening_text, wrapper_opening, wrapper_closing}
 
 module _ (parts : PartMap) where
   pub opening_some : has_emulators parts ≡ true → wrapper_opening parts ≡ opening_text (is_of_converter parts)

@@ -7,7 +7,8 @@ use Rattle.mig_guest.specs.PartKeys.{context_key}
 use Rattle.mig_guest.proofs.Counts.{same_parts}
 use Rattle.mig_canon.proofs.Common.{bodies_by_shape, shape_of}
 use Rattle.mig_pvtables.specs.Blank.{blank, blank_of, IsOfBytes}
-use Rattle.mig_canon.specs.Canon.{Frame, all_vcpus, canon}
+use Rattle.mig_records_pages.specs.PageData.{Frame}
+use Rattle.mig_canon.specs.Canon.{all_vcpus, canon}
 use Rattle.mig_canon.specs.Batched.{batch_records, batched}
 use Rattle.mig_canon.proofs.CanonMaps.{nothing}
 use Rattle.mig_libxl_form.proofs.EmulatorGuests.{plain_policy, hvm_faultless}

@@ -5,7 +5,7 @@ use Rattle.std.specs.FinMap.{FinMap}
 use Rattle.mig_guest.proofs.KeyedMaps.{insert_leaves}
 use Rattle.mig_policy.specs.PairMaps.{pairs_in, map_of}
 use Rattle.mig_policy.proofs.PairMapLaws.{texts_are_canonical}
-use Rattle.mig_libxl.specs.Canon.{emulators_in_order}
+use Rattle.mig_canon.specs.CanonStream.{emulators_in_order}
 use Rattle.mig_libxl_form.specs.Emulators.{emulators_of, emulator_parts}
 use Rattle.mig_libxl.proofs.Canon.{bare_get}
 use Rattle.mig_libxl.proofs.EmulatorParts.{KeysDiffer, in_order_holds, in_order_differ, emulators_found}

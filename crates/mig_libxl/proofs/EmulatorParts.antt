@@ -15,7 +15,7 @@ use Rattle.mig_guest.proofs.Found.{all_found}
 use Rattle.mig_guest.proofs.PartCursor.{both_of, less, true_of}
 use Rattle.mig_canon.proofs.Wholes.{code_next}
 use Rattle.mig_canon.proofs.CanonMaps.{found_holds, mixed}
-use Rattle.mig_libxl.specs.Canon.{AreEmulatorsInOrder, NextEmulator, emulator_cmp, emulators_after, emulators_in_order, in_emulator_order}
+use Rattle.mig_canon.specs.CanonStream.{AreEmulatorsInOrder, NextEmulator, emulator_cmp, emulators_after, emulators_in_order, in_emulator_order}
 
 -- ---- the order
 

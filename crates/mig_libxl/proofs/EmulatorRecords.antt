@@ -7,7 +7,7 @@ use Rattle.mig_policy.specs.PairFaults.{SpellPairs}
 use Rattle.mig_policy.specs.PairMaps.{pairs_in}
 use Rattle.mig_records.specs.Records.{head_of, spelled}
 use Rattle.mig_records.proofs.HeadBytes.{type_in_head, len_in_head}
-use Rattle.mig_libxl.specs.Canon.{emulator_body, emulator_record}
+use Rattle.mig_canon.specs.CanonStream.{emulator_body, emulator_record}
 use Rattle.mig_libxl_form.specs.Spelled.{IsFront, IsLibxlRecord}
 use Rattle.mig_libxl_form.specs.Spelled.HasLibxlContent.{pairs as says_pairs, context as says_context}
 use Rattle.mig_libxl_form.specs.Spelled.IsLibxlRecord.{body as a_body}

@@ -5,7 +5,7 @@ use Rattle.std.specs.FinMap as maps
 use Rattle.mig_guest.proofs.KeyedMaps.{insert_leaves}
 use Rattle.mig_policy.specs.PairMaps.{pairs_in}
 use Rattle.mig_policy.proofs.PairMapLaws.{texts_are_canonical}
-use Rattle.mig_libxl.specs.Canon.{emulator_record}
+use Rattle.mig_canon.specs.CanonStream.{emulator_record}
 use Rattle.mig_libxl_form.specs.Emulators.{emulators_of}
 use Rattle.mig_libxl_form.proofs.Among.{emulators_more, among_more, ended_more}
 use Rattle.mig_libxl.proofs.EmulatorParts.{IsEmulatorPart, KeysDiffer}

@@ -4,7 +4,8 @@ pub use Rattle.mig_bytes.proofs.Texts.{puts_same, puts_stop, puts_then}
 pub use Rattle.mig_bytes.specs.Bytes.{padding_len}
 pub use Rattle.mig_bytes.specs.Sequences.{Spells}
 pub use Rattle.mig_bytes.specs.Sequences.Spells.{no_part, one_more}
-pub use Rattle.mig_canon.specs.Canon.{batches, bodies_of, frame_bodies, frames_in, headers, info_records, key_of, last_codes, last_records, p2m_record, p2m_records, part_record, pv_last_codes, records_in_order, records_of, records_of_vcpu, static_bodies, static_codes, text_of, vcpu_codes, vcpu_record, vcpus_below}
+pub use Rattle.mig_canon.specs.Canon.{batches, bodies_of, frame_bodies, frames_in, headers, info_records, key_of, last_codes, last_records, p2m_record, p2m_records, part_record, pv_last_codes, records_in_order, records_of, records_of_vcpu, static_bodies, static_codes, vcpu_codes, vcpu_record, vcpus_below}
+pub use Rattle.mig_records.specs.Records.{text_of}
 pub use Rattle.mig_canon.specs.Bare.{IsBare}
 pub use Rattle.mig_libxl_form.specs.Content.{LibxlContent, LibxlRecord}
 pub use Rattle.mig_libxl_form.specs.Content.LibxlContent.{Context, Image, Pairs}
@@ -35,7 +36,7 @@ pub use Rattle.mig_policy.specs.PairMaps.{put_pairs, text_of_map}
 pub use Rattle.mig_pvtables.specs.Whole.{IsStreamedBare, IsWhole}
 pub use Rattle.mig_restore_form.specs.Spelled.{IsImage}
 pub use Rattle.mig_restore_form.specs.Stream.{ImageOf}
-pub use Rattle.mig_libxl.specs.Canon.{bare_guest, has_emulators, is_of_converter, text_of_emulators}
+pub use Rattle.mig_canon.specs.CanonStream.{bare_guest, has_emulators, is_of_converter, text_of_emulators}
 pub use Rattle.std.proofs.Common.{Bool, List, None, Option, Some, [], ap, append-nil, append_assoc, arith, cond, false, inl, inr, length, length-append, map, nat_eq, nat_le, nat_lt, not, refl, replicate, rules, subst, sym, true, ℕ, ◌*◌, ◌++◌, ◌+◌, ◌-◌, ◌<◌, ◌^◌, ◌↔◌, ◌∙◌, ◌∷◌, ◌≡◌, ◌≢◌, ◌≤◌}
 pub use Rattle.std.proofs.lemmas.Bool.{and_parts, eq-eqb, eqb-true, leb-true, or_cases}
 pub use Rattle.std.proofs.lemmas.Cmp.{eq_by_cmp_equiv}

@@ -2,7 +2,7 @@ ghost use Rattle.std.specs.Prelude.{◌≡◌, ◌↔◌, ℕ, List, [], ◌++�
 ghost use Rattle.mig_guest.specs.Guests.{GuestOf};
 ghost use Rattle.mig_guest.specs.Parts.{Part, PartMap};
 ghost use Rattle.mig_libxl_form.specs.Carried.{IsCarried};
-ghost use Rattle.mig_libxl.specs.Canon.{AreEmulatorsInOrder, canon_any, emulators_in_order};
+ghost use Rattle.mig_canon.specs.CanonStream.{AreEmulatorsInOrder, canon_any, emulators_in_order};
 ghost use Rattle.mig_libxl_form.specs.Spelled.{AcceptedStream};
 
 /// The canonical stream of a whole guest in its blank form is an accepted stream with this guest, whatever follows it.

@@ -10,7 +10,7 @@ ghost use Rattle.mig_headers.specs.RecordTypes.{most_body};
 ghost use Rattle.mig_guest.specs.Formed.{IsFormed, is_emulator_code};
 ghost use Rattle.mig_pvtables.specs.Whole.{IsWhole};
 ghost use Rattle.mig_records.specs.Records.{spelled};
-ghost use Rattle.mig_libxl.specs.Canon.{has_emulators as some_emulators, is_of_converter as from_converter, emulator_record, emulator_cmp, NextEmulator, emulators_in_order, text_of_emulators, opening_text, wrapper_opening, wrapper_closing, canon_any};
+ghost use Rattle.mig_canon.specs.CanonStream.{has_emulators as some_emulators, is_of_converter as from_converter, emulator_record, emulator_cmp, NextEmulator, emulators_in_order, text_of_emulators, opening_text, wrapper_opening, wrapper_closing, canon_any};
 
 use mig_bytes::{Sink, WriteFailed, put_all, put_u32_le};
 use mig_canon::write_canon;

@@ -6,7 +6,7 @@
 //! which isn't honest: the listed frame numbers never reach its log; and `Paced`, which says of a host and a script in how
 //! many rounds a save ends, at which call it pauses the machine, and which frame numbers it reads and sends again. It passes
 //! on `Script` and `ScriptAnswer`. Left to others: what a line does (mig_machine_script), what may be asked of a machine
-//! (mig_guest), and the saver (mig_dirtysave).
+//! (mig_guest), and the saver (mig_tool_save puts it over a machine).
 //!
 //! What the layers above rely on: contracts see `ScriptMachine` as a value, `MachineSeen`; its host is what the lines run so
 //! far make of the first one, and no line runs behind the pause. A call of `FailingMachine` fails exactly where its number
@@ -29,4 +29,5 @@ pub use forgetful::ForgetfulMachine;
 pub use forgetful_law::forgetful_machine_logs;
 pub use law::script_machine_is_at;
 pub use machine::ScriptMachine;
+pub use mig_machine_script::{Script, ScriptAnswer};
 pub use paced_law::rounds_are_paced;

@@ -1,7 +1,7 @@
 pub mod Common
 pub mod Packing
 pub mod Mapping
-pub mod Cells
+pub mod FrameCells
 pub mod Places
 pub mod Led
 pub mod Seen

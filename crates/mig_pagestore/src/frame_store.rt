@@ -104,7 +104,7 @@ fn read_cell(cell: u64) -> FrameWord
 }
 
 /// The cell of a frame of this type with its page at this place.
-#[tactic(auto, using(crate::proofs::Cells::type_of_cell, crate::proofs::Cells::place_of_cell))]
+#[tactic(auto, using(crate::proofs::FrameCells::type_of_cell, crate::proofs::FrameCells::place_of_cell))]
 fn write_cell(kind: PageType, place: u64) -> u64
     requires { place < 2 ^ 52 }
     ensures kind { cell_type result ≡ kind }

@@ -12,3 +12,4 @@ pub mod BodyBytes
 pub mod Canonical
 pub mod PvLaws
 pub mod P2mFormed
+pub mod RecordTexts

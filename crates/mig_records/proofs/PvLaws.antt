@@ -8,8 +8,12 @@ use Rattle.std.proofs.lemmas.Grind.{common_steps}
 use Rattle.mig_bytes.specs.Fields.{le32}
 use Rattle.mig_headers.specs.declared.fault.Cause.TheVariants.{VcpuId, GdtEnts}
 use Rattle.mig_headers.specs.declared.record_type.RecordType.TheVariants as types
-use Rattle.mig_guest.specs.declared.part_code.PartCode.TheVariants.{VcpuExtended, VcpuXsave}
-use Rattle.mig_records.specs.PvBodies.{IsPvInfo, fault_of_pv_info, p2m_count, IsP2m, fault_of_p2m, is_vcpu, fault_of_vcpu}
+use Rattle.mig_guest.specs.declared.part_code.PartCode.TheVariants.{VcpuBasic, VcpuExtended, VcpuXsave, VcpuMsrs}
+use Rattle.std.proofs.lemmas.Bool.{not-false}
+use Rattle.mig_headers.proofs.FirstFaults.{rows_fine}
+use Rattle.mig_records.specs.Faults.{fault_of_length, length_rows}
+use Rattle.mig_records.proofs.Rows.{has_allowed}
+use Rattle.mig_records.specs.PvBodies.{IsPvInfo, fault_of_pv_info, p2m_count, IsP2m, fault_of_p2m, is_vcpu, fault_of_vcpu, is_vcpu_type, fault_of_vcpu_record}
 
 -- ---- X86_PV_INFO
 
@@ -134,3 +138,22 @@ vcpu_rows VcpuExtended body is has = behind_front body _ _ (leb-true _ _ (has ty
 vcpu_rows VcpuXsave body is has = behind_front body _ _ (leb-true _ _ (has types.X86PvVcpuXsave refl)) ∙ other_codes body
 vcpu_rows VcpuMsrs body is has = behind_front body _ _ (leb-true _ _ (and_parts (nat_le 8 (length body)) ((length body - 8) % 16 == 0) (has types.X86PvVcpuMsrs refl)).0) ∙ other_codes body
 vcpu_rows _ body is has = let no : false ≡ true = is in cc
+
+-- the same by the number of the record's type
+pub basic_rows : (body : List ℕ) → fault_of_length 4 (length body) ≡ None → fault_of_body VcpuBasic body ≡ fault_of_vcpu_record 4 body
+basic_rows body fine = vcpu_rows VcpuBasic body refl (has_allowed VcpuBasic (length body) (not-false _ (rows_fine (length_rows 4 (length body)) fine).0))
+
+pub extended_rows : (body : List ℕ) → fault_of_length 5 (length body) ≡ None → fault_of_body VcpuExtended body ≡ fault_of_vcpu_record 5 body
+extended_rows body fine = vcpu_rows VcpuExtended body refl (has_allowed VcpuExtended (length body) (not-false _ (rows_fine (length_rows 5 (length body)) fine).0))
+
+pub xsave_rows : (body : List ℕ) → fault_of_length 6 (length body) ≡ None → fault_of_body VcpuXsave body ≡ fault_of_vcpu_record 6 body
+xsave_rows body fine = vcpu_rows VcpuXsave body refl (has_allowed VcpuXsave (length body) (not-false _ (rows_fine (length_rows 6 (length body)) fine).0))
+
+pub msrs_rows : (body : List ℕ) → fault_of_length 12 (length body) ≡ None → fault_of_body VcpuMsrs body ≡ fault_of_vcpu_record 12 body
+msrs_rows body fine = vcpu_rows VcpuMsrs body refl (has_allowed VcpuMsrs (length body) (not-false _ (rows_fine (length_rows 12 (length body)) fine).0))
+
+pub other_rows : (type : ℕ) (body : List ℕ) → is_vcpu_type type ≡ false → (type == 4) ≡ false → fault_of_vcpu_record type body ≡ None
+other_rows type body other basic =
+    let rest : List (Bool × Cause) = ((type == 4) && (nat_lt 8 (length body) && nat_lt 7168 (gdt_ents (drop 8 body))), GdtEnts (gdt_ents (drop 8 body))) ∷ [] in
+    ap (λ b. first_fault ((b && nat_le 4096 (le32 body 0), VcpuId (le32 body 0)) ∷ rest)) other
+    ∙ ap (λ b. first_fault ((b && (nat_lt 8 (length body) && nat_lt 7168 (gdt_ents (drop 8 body))), GdtEnts (gdt_ents (drop 8 body))) ∷ [])) basic

@@ -1,5 +1,5 @@
 -- The bodies of X86_PV_INFO, X86_PV_P2M_FRAMES and the records of vCPUs (libxc migration stream, "Records").
-use Rattle.std.specs.Prelude.{◌≡◌, ℕ, ◌+◌, ◌-◌, ◌*◌, ◌/◌, Bool, true, false, List, [], ◌∷◌, ◌++◌, length, drop, slice_index, Option, Some, None, ◌==◌, ◌&&◌, not, nat_le, nat_lt, if◌then◌else◌}
+use Rattle.std.specs.Prelude.{◌≡◌, ℕ, ◌+◌, ◌-◌, ◌*◌, ◌/◌, Bool, true, false, List, [], ◌∷◌, ◌++◌, length, drop, slice_index, Option, Some, None, ◌==◌, ◌&&◌, ◌||◌, not, nat_le, nat_lt, if◌then◌else◌}
 use Rattle.std.specs.FinMap as maps
 use Rattle.mig_bytes.specs.Fields.{le32}
 use Rattle.mig_headers.specs.Rows.{first_fault}
@@ -76,3 +76,15 @@ fault_of_vcpu VcpuBasic body =
     ∷ (nat_lt 8 (length body) && nat_lt 7168 (gdt_ents (drop 8 body)), GdtEnts (gdt_ents (drop 8 body)))
     ∷ [])
 fault_of_vcpu code body = first_fault ((nat_le 4096 (le32 body 0), VcpuId (le32 body 0)) ∷ [])
+
+-- whether records of this type are a vCPU's: X86_PV_VCPU_BASIC, _EXTENDED, _XSAVE and _MSRS
+abbrev pub is_vcpu_type : ℕ → Bool
+is_vcpu_type type = (type == 4) || ((type == 5) || ((type == 6) || (type == 12)))
+
+-- the same of a record by its type; one that is no vCPU's has neither fault
+abbrev pub fault_of_vcpu_record : ℕ → List ℕ → Option Cause
+fault_of_vcpu_record type body =
+    first_fault (
+    (is_vcpu_type type && nat_le 4096 (le32 body 0), VcpuId (le32 body 0))
+    ∷ ((type == 4) && (nat_lt 8 (length body) && nat_lt 7168 (gdt_ents (drop 8 body))), GdtEnts (gdt_ents (drop 8 body)))
+    ∷ [])

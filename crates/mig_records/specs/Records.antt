@@ -1,5 +1,6 @@
 -- A record as bytes (libxc migration stream, "Records").
 use Rattle.std.specs.Prelude.{◌≡◌, ℕ, List, ◌++◌, length, replicate}
+use Rattle.std.specs.List.{flat_map}
 use Rattle.byteorder.specs.Endian.{little_bytes}
 use Rattle.mig_bytes.specs.Bytes.{padding_len}
 use Rattle.mig_bytes.specs.Fields.{le32}
@@ -21,3 +22,11 @@ head_of type len = little_bytes 4 type ++ little_bytes 4 len
 -- the canonical record: head, body, and zero bytes up to a multiple of 8
 unfoldable pub spelled : ℕ → List ℕ → List ℕ
 spelled type body = head_of type (length body) ++ (body ++ replicate (padding_len (length body)) 0)
+
+-- a record by its type and its body
+abbrev pub Record : Type 0
+Record = ℕ × List ℕ
+
+-- records one after another
+abbrev pub text_of : List Record → List ℕ
+text_of bodies = flat_map (λ b. spelled b.0 b.1) bodies

@@ -5,9 +5,9 @@
 //! body with these words is; the bytes of a written record; and the layout of the bodies that set parts, a row for each
 //! code: tables of entries, single values and named parts, the bodies of X86_PV_INFO, X86_PV_P2M_FRAMES and the records of
 //! vCPUs (libxc migration stream, "Records"). The words for the chain of an HVM context stand here too, so that the table is
-//! whole. Left to others: where in a stream a record may stand (mig_order), PAGE_DATA records of frames (mig_records_pages),
-//! the context's reader (mig_hvm), policies and an emulator's pairs (mig_policy), and the pages behind the words
-//! (mig_restore).
+//! whole. Left to others: where in a stream a record may stand (mig_restore_form), PAGE_DATA records of frames
+//! (mig_records_pages), the context's reader (mig_hvm), policies and an emulator's pairs (mig_policy), and the pages behind
+//! the words (mig_restore).
 //!
 //! What the layers above rely on: each test answers the first cause of its rows in specs/Faults, and None exactly where no
 //! row holds; of words it names the least place; a record that is written whole has the canonical spelling of specs/Records;
@@ -46,4 +46,4 @@ pub use read::{GDT_ENTS, MAX_GDT_ENTS, body_fault, read_body, read_single};
 pub use shape::{Shape, shape_of};
 pub use table::SMALL_NUMBERS;
 pub use words::{data_len, words_fault};
-pub use write::{write_head, write_padding, write_record};
+pub use write::{write_count, write_head, write_numbers, write_padding, write_record};

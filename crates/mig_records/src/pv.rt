@@ -1,7 +1,7 @@
 ghost use Rattle.std.specs.Prelude.{◌≡◌, ◌≤◌, true, length, drop, None, OnOk, OnErr};
 ghost use Rattle.mig_bytes.specs.Fields.{le32};
-ghost use Rattle.mig_records.specs.PvBodies.{fault_of_pv_info, fault_of_p2m, set_p2m, is_vcpu, fault_of_vcpu};
-ghost use Rattle.mig_records.specs.Shapes.{HasBodyLength};
+ghost use Rattle.mig_records.specs.PvBodies.{fault_of_pv_info, fault_of_p2m, set_p2m, fault_of_vcpu_record};
+ghost use Rattle.mig_records.specs.Faults.{fault_of_length};
 
 use crate::read::body_fault;
 use mig_bytes::{Memory, u32_le};
@@ -10,6 +10,15 @@ use mig_headers::Cause;
 
 /// A P2M frame holds the machine frames of so many frame numbers.
 const IN_P2M_FRAME: u64 = 512;
+
+/// The types of the records of vCPUs: X86_PV_VCPU_BASIC, _EXTENDED, _XSAVE and _MSRS.
+const VCPU_BASIC: u32 = 4;
+
+const VCPU_EXTENDED: u32 = 5;
+
+const VCPU_XSAVE: u32 = 6;
+
+const VCPU_MSRS: u32 = 12;
 
 /// The list of P2M frames.
 const P2M_KEY: PartKey = PartKey {
@@ -73,13 +82,19 @@ pub fn read_p2m(guest: &mut Guest, body: &[u8]) -> Result<(), Memory>
     Ok(())
 }
 
-/// What is wrong with the body of a vCPU's record, of a length that its type has: `VcpuId` where its id is no vCPU's,
-/// `GdtEnts` where it is a whole context with too many descriptors.
-#[tactic(auto, using(crate::proofs::PvLaws::vcpu_rows))]
-pub fn vcpu_fault(code: PartCode, body: &[u8]) -> Option<Cause>
-    requires vcpu { is_vcpu code ≡ true }
-    requires length { HasBodyLength code (length body.now) }
-    ensures { result ≡ fault_of_vcpu code body.now }
+/// What is wrong with the body of a vCPU's record (libxc migration stream, "X86_PV_VCPU_BASIC, EXTENDED, XSAVE, MSRS"), of a
+/// length that its type has: `VcpuId` where its id is no vCPU's, `GdtEnts` where it is a whole context with too many
+/// descriptors. A record of another type has neither.
+#[tactic(auto, using(crate::proofs::PvLaws::basic_rows, crate::proofs::PvLaws::extended_rows, crate::proofs::PvLaws::xsave_rows, crate::proofs::PvLaws::msrs_rows, crate::proofs::PvLaws::other_rows))]
+pub fn vcpu_fault(kind: u32, body: &[u8]) -> Option<Cause>
+    requires { fault_of_length kind (length body.now) ≡ None }
+    ensures { result ≡ fault_of_vcpu_record kind body.now }
 {
-    body_fault(code, body)
+    match kind {
+        VCPU_BASIC => body_fault(PartCode::VcpuBasic, body),
+        VCPU_EXTENDED => body_fault(PartCode::VcpuExtended, body),
+        VCPU_XSAVE => body_fault(PartCode::VcpuXsave, body),
+        VCPU_MSRS => body_fault(PartCode::VcpuMsrs, body),
+        _ => None,
+    }
 }

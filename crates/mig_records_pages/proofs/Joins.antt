@@ -5,8 +5,7 @@ use Rattle.std.proofs.lemmas.List.{map-append}
 use Rattle.std.proofs.lemmas.List.Sums.{sum_by-append}
 use Rattle.mig_bytes.specs.declared.failure.WriteFailed.{WriteFailed}
 use Rattle.mig_bytes.specs.Bytes.{Puts}
-use Rattle.mig_records.specs.Records.{spelled}
-use Rattle.mig_canon.specs.Canon.{Record}
+use Rattle.mig_records.specs.Records.{spelled, Record}
 use Rattle.mig_records_pages.specs.Told.{FrameTold, telling_record, all_told}
 use Rattle.mig_records_pages.specs.Written.{IsRecordWithin, WroteAll}
 use Rattle.mig_records_pages.specs.Batches.{JoinsBatches, is_short, AreSized, AreFull, IsSent, IsBehind}

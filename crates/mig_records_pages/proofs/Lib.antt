@@ -1,3 +1,5 @@
 mod Places
 pub mod Written
 pub mod Joins
+pub mod ListSteps
+pub mod PageTexts

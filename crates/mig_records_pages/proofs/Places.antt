@@ -3,8 +3,8 @@ use Rattle.std.proofs.Common.{◌≡◌, ℕ, zero, suc, ◌+◌, ◌-◌, ◌*�
 use Rattle.std.proofs.lemmas.List.{length-map, length-drop, take_all}
 use Rattle.byteorder.specs.Endian.{little_bytes}
 use Rattle.mig_records.specs.Records.{head_of, spelled}
-use Rattle.mig_canon.specs.Canon.{Frame, words_of, pages_of, body_of}
-use Rattle.mig_canon.proofs.Batches.{some_text, words_len}
+use Rattle.mig_records_pages.specs.PageData.{Frame, words_of, pages_of, body_of}
+use Rattle.mig_records_pages.proofs.PageTexts.{some_text, words_len}
 use Rattle.mig_records_pages.specs.declared.held_frame.HeldFrame.{HeldFrame}
 use Rattle.mig_records_pages.specs.Told.{told_of, told_held, telling_frame, telling_frames}
 

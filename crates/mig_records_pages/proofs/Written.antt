@@ -5,8 +5,7 @@ use Rattle.std.specs.Io.KnownBytes.{Appends}
 use Rattle.std.proofs.KnownBytes.{Appends-trans, Appends-nil}
 use Rattle.mig_bytes.specs.declared.failure.WriteFailed.{WriteFailed}
 use Rattle.mig_bytes.specs.Bytes.{AppendsPart, Puts}
-use Rattle.mig_records.specs.Records.{head_of, spelled}
-use Rattle.mig_canon.specs.Canon.{Record, text_of}
+use Rattle.mig_records.specs.Records.{head_of, spelled, Record, text_of}
 use Rattle.mig_records_pages.specs.Written.{IsShortRecord, IsRecordWithin, AreRecordsWithin, WroteAll, WroteSome, JoinsRecords, LeavesPart}
 
 -- ---- one record more

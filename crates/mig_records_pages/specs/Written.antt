@@ -4,8 +4,7 @@ use Rattle.std.specs.Prelude.{◌≢◌, ℕ, ◌<◌, ◌≤◌, ◌^◌, List,
 use Rattle.std.specs.List.{AllByRecursion}
 use Rattle.std.specs.Io.KnownBytes.{Appends}
 use Rattle.mig_bytes.specs.declared.failure.WriteFailed.{WriteFailed}
-use Rattle.mig_records.specs.Records.{spelled}
-use Rattle.mig_canon.specs.Canon.{Record, text_of}
+use Rattle.mig_records.specs.Records.{spelled, Record, text_of}
 
 -- a record whose type and length have room in a head, and whose body isn't too long for a reader
 pub record IsShortRecord (r : Record) : Type 0 where

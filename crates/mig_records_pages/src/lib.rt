@@ -12,12 +12,14 @@
 #![tactic(auto)]
 
 mod batch;
+mod gathered;
 mod held_frame;
 mod law;
 mod pages;
 mod stream;
 
 pub use batch::Batch;
+pub use gathered::{no_pages, no_words, pages_with, put_page};
 pub use held_frame::HeldFrame;
 pub use law::{records_stand_behind_records, sent_entries_are_little_behind};
 pub use pages::write_batch;

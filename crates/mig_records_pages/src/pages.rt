@@ -3,15 +3,15 @@ ghost use Rattle.std.specs.Option.{option_copied};
 ghost use Rattle.mig_bytes.specs.Bytes.{Puts};
 ghost use Rattle.mig_bytes.specs.Faults.{HasCause};
 ghost use Rattle.mig_records.specs.Records.{spelled};
-ghost use Rattle.mig_canon.specs.Canon.{frame_word_in, words_of, pages_of, body_of};
+ghost use Rattle.mig_records_pages.specs.PageData.{frame_word_in, words_of, pages_of, body_of};
 ghost use Rattle.mig_records_pages.specs.Told.{told_of, told_held, telling_frame, telling_frames, HasPfn};
 ghost use Rattle.mig_records_pages.specs.Batches.{JoinsBatches};
 
 use crate::HeldFrame;
+use crate::gathered::{no_pages, no_words, pages_with, put_page};
 use mig_bytes::{Sink, WriteFailed, put_all, put_u64_le};
-use mig_canon::{no_pages, no_words, pages_with, put_page, write_count};
 use mig_pagetypes::{FrameWord, PageType, encode_word};
-use mig_records::write_head;
+use mig_records::{write_count, write_head};
 
 /// The type of PAGE_DATA.
 const PAGE_DATA: u32 = 1;

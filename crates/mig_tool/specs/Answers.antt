@@ -4,7 +4,7 @@ use Rattle.std.specs.Io.KnownBytes.{Appends}
 use Rattle.mig_bytes.specs.Bytes.{AppendsPart}
 use Rattle.mig_bytes.specs.Faults.{Rose}
 use Rattle.mig_guest.specs.Guests.{GuestOf}
-use Rattle.mig_libxl.specs.Canon.{canon_any}
+use Rattle.mig_canon.specs.CanonStream.{canon_any}
 use Rattle.mig_libxl_form.specs.Spelled.{AcceptedStream}
 use Rattle.mig_legacy.specs.Spelled.{AcceptedLegacy}
 use Rattle.mig_relay.specs.Relaying.{PassedPart}

@@ -15,6 +15,7 @@ mod run;
 use crate::run::run;
 use mig_bytes::{InSource, OutSink};
 use mig_tool_report::{Outcome, Status, put_line};
+pub use mig_tool_save::{Exercised, exercise};
 use std::alloc::Global;
 use std::io::{BufReader, ErrorKind};
 use std::process::ExitCode;

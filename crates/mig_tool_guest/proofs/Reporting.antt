@@ -22,7 +22,7 @@ use Rattle.mig_legacy.specs.Spelled.{AcceptedLegacy}
 use Rattle.mig_legacy.specs.Stream.{ReadsLegacy, legacy_at}
 use Rattle.mig_libxl.proofs.AnyCanons.{canon_is_accepted, canon_is_one_to_one}
 use Rattle.mig_libxl_form.proofs.Laws.{accepted_is_stream}
-use Rattle.mig_libxl.specs.Canon.{canon_any}
+use Rattle.mig_canon.specs.CanonStream.{canon_any}
 use Rattle.mig_libxl_form.specs.Stream.{StreamOf, stream_at}
 use Rattle.mig_libxl.specs.Reads.{IsStreamReading, ReadsStream}
 use Rattle.mig_pvtables.proofs.HvmGuests.{hvm_complete}

@@ -13,7 +13,7 @@ use Rattle.mig_image.specs.ImageForm.{host_at}
 use Rattle.mig_host_view.specs.Sound.{IsSound}
 use Rattle.mig_host_view.specs.View.{view}
 use Rattle.mig_libxl_form.specs.Carried.{IsCarried}
-use Rattle.mig_libxl.specs.Canon.{canon_any}
+use Rattle.mig_canon.specs.CanonStream.{canon_any}
 use Rattle.mig_libxl_form.specs.Spelled.{AcceptedStream}
 use Rattle.mig_restore_form.specs.Mean.{differs_of}
 use Rattle.mig_tool_report.specs.declared.outcome.Summary.{Summary}

@@ -4,7 +4,7 @@ use Rattle.std.specs.Prelude.{ℕ, List, Option}
 use Rattle.std.specs.Io.KnownBytes.{Appends}
 use Rattle.mig_bytes.specs.Bytes.{AppendsPart}
 use Rattle.mig_legacy.specs.Spelled.{AcceptedLegacy}
-use Rattle.mig_libxl.specs.Canon.{canon_any}
+use Rattle.mig_canon.specs.CanonStream.{canon_any}
 use Rattle.mig_libxl_form.specs.Spelled.{AcceptedStream}
 use Rattle.mig_tool_report.specs.declared.outcome.Outcome.{Outcome}
 use Rattle.mig_tool_report.specs.declared.status.Status.{Status}

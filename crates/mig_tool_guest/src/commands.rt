@@ -3,7 +3,7 @@ ghost use Rattle.std.specs.Io.KnownBytes.{Appends};
 ghost use Rattle.mig_bytes.specs.Bytes.{AppendsPart};
 ghost use Rattle.mig_bytes.specs.Faults.{Rose};
 ghost use Rattle.mig_pvtables.specs.Whole.{IsWhole};
-ghost use Rattle.mig_libxl.specs.Canon.{canon_any};
+ghost use Rattle.mig_canon.specs.CanonStream.{canon_any};
 ghost use Rattle.mig_tool_guest.specs.Fronts.{restored_text};
 ghost use Rattle.mig_tool_guest.specs.Outcomes.{outcome_of};
 ghost use Rattle.mig_tool_guest.specs.Refusals.{HasLegacyRefusal, HasStreamRefusal};

@@ -5,7 +5,7 @@
 //! line on the report, and what a status says of each. Left to others: which command the words name, and the lines
 //! (mig_tool_report), how a stream, a legacy stream or an image is read and written (mig_libxl, mig_legacy, mig_image),
 //! where an address leads (mig_walk), how a stream is judged part by part (mig_relay), its records as a tree (mig_show), and
-//! `save` and `exercise` (mig_tool_save).
+//! which function does which command (mig_tool).
 //!
 //! What the layers above rely on: of an input that tells its bytes each status says of it, of what is left of it and of what
 //! was written what specs/Says and specs/PassingSays tell; what `relay` wrote is what specs/Relays tells, whatever the

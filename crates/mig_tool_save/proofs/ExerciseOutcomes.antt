@@ -19,7 +19,7 @@ use Rattle.mig_tool_report.specs.declared.outcome.Refusal.TheVariants as refusal
 use Rattle.mig_machine_script.specs.ScriptLines.{LineOf}
 use Rattle.std.specs.Prelude.{◌*◌, ◌≤◌}
 use Rattle.mig_host_view.specs.View.{view}
-use Rattle.mig_libxl.specs.Canon.{canon_any}
+use Rattle.mig_canon.specs.CanonStream.{canon_any}
 use Rattle.mig_machine.specs.Paced.{Paced}
 use Rattle.mig_exercise.specs.ExerciseHosts.{IsExerciseSize, host_of_exercise, data_count, exercise_canon_len}
 use Rattle.mig_exercise.specs.ExerciseScripts.{script_of_exercise}

@@ -6,11 +6,12 @@ use Rattle.std.specs.Prelude.{◌+◌, ◌∷◌, map}
 use Rattle.mig_bytes.specs.Faults.{Rose}
 use Rattle.mig_headers.specs.declared.unsound.Unsound.{Unsound}
 use Rattle.mig_guest.specs.Hosts.{HostOf}
-use Rattle.mig_canon.specs.Canon.{headers, text_of}
+use Rattle.mig_canon.specs.Canon.{headers}
+use Rattle.mig_records.specs.Records.{text_of}
 use Rattle.mig_records_pages.specs.Told.{telling_record}
 use Rattle.mig_host_view.specs.Sound.{unsoundness}
 use Rattle.mig_host_view.specs.View.{view}
-use Rattle.mig_libxl.specs.Canon.{wrapper_opening, wrapper_closing}
+use Rattle.mig_canon.specs.CanonStream.{wrapper_opening, wrapper_closing}
 use Rattle.mig_libxl_form.specs.Spelled.{AcceptedStream}
 use Rattle.mig_guest.specs.MachineStates.{IsSameShape}
 use Rattle.mig_guest.specs.Rounds.{Rounds, Tight, all_read}

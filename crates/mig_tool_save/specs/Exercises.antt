@@ -3,7 +3,7 @@ use Rattle.std.specs.Prelude.{◌≡◌, ⊤, ℕ, ◌+◌, ◌*◌, ◌≤◌, 
 use Rattle.std.specs.Io.KnownBytes.{Appends}
 use Rattle.mig_bytes.specs.Bytes.{AppendsPart}
 use Rattle.mig_host_view.specs.View.{view}
-use Rattle.mig_libxl.specs.Canon.{canon_any}
+use Rattle.mig_canon.specs.CanonStream.{canon_any}
 use Rattle.mig_machine.specs.Paced.{Paced}
 use Rattle.mig_exercise.specs.ExerciseHosts.{host_of_exercise, data_count, exercise_canon_len}
 use Rattle.mig_exercise.specs.ExerciseScripts.{script_of_exercise}

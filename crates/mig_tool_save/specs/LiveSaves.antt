@@ -8,12 +8,13 @@ use Rattle.mig_headers.specs.declared.image_fault.ImageCause.{ImageCause}
 use Rattle.mig_headers.specs.declared.image_fault.ImagePlace.{ImagePlace}
 use Rattle.mig_headers.specs.declared.unsound.Unsound.{Unsound}
 use Rattle.mig_guest.specs.Hosts.{HostOf, most_saved_width}
-use Rattle.mig_canon.specs.Canon.{Record, headers, text_of}
+use Rattle.mig_records.specs.Records.{Record, text_of}
+use Rattle.mig_canon.specs.Canon.{headers}
 use Rattle.mig_records_pages.specs.Told.{FrameTold, telling_record, all_told}
 use Rattle.mig_host_view.specs.Sound.{unsoundness}
 use Rattle.mig_host_view.specs.View.{view}
 use Rattle.mig_image.specs.ImageForm.{host_at}
-use Rattle.mig_libxl.specs.Canon.{wrapper_opening, wrapper_closing}
+use Rattle.mig_canon.specs.CanonStream.{wrapper_opening, wrapper_closing}
 use Rattle.mig_libxl_form.specs.Spelled.{AcceptedStream}
 use Rattle.mig_dirtysave_rounds.specs.Entries.{pfns_sent}
 use Rattle.mig_dirtysave_parts.specs.SaveTexts.{IsOtherRecord}

@@ -6,7 +6,7 @@ ghost use Rattle.mig_exercise.specs.ExerciseScripts.{script_of_exercise};
 ghost use Rattle.mig_guest.specs.Guests.{GuestOf};
 ghost use Rattle.mig_host_view.specs.Sound.{unsoundness};
 ghost use Rattle.mig_host_view.specs.View.{view};
-ghost use Rattle.mig_libxl.specs.Canon.{canon_any};
+ghost use Rattle.mig_canon.specs.CanonStream.{canon_any};
 ghost use Rattle.mig_libxl_form.specs.Spelled.{AcceptedStream};
 ghost use Rattle.mig_pvtables.specs.Blank.{blank as blank_form};
 ghost use Rattle.mig_pvtables.specs.Whole.{IsWhole};

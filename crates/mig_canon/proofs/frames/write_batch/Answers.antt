@@ -1,5 +1,5 @@
 use Rattle.mig_canon.proofs.Common.{entries_from, puts_then, puts_stop, puts_same, frames_in}
-use Rattle.mig_canon.proofs.Batches.{some_text}
+use Rattle.mig_records_pages.proofs.PageTexts.{some_text}
 use Rattle.mig_canon.proofs.frames.write_batch.Goals as goal
 
 pub returns-in_err-write_head-clause-bytes : goal.returns-in_err-write_head-clause-bytes

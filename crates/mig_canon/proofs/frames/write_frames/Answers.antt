@@ -2,8 +2,8 @@ use Rattle.mig_canon.proofs.Common.{◌≡◌, ℕ, ◌<◌, List, length, refl,
 use Rattle.std.specs.Int.{div_ceil}
 use Rattle.std.specs.FinMap as maps
 use Rattle.mig_records.specs.Records.{spelled}
-use Rattle.mig_canon.specs.Canon.{body_of}
-use Rattle.mig_canon.proofs.Steps.{walk_on, walk_stop}
+use Rattle.mig_records_pages.specs.PageData.{body_of}
+use Rattle.mig_records_pages.proofs.ListSteps.{walk_on, walk_stop}
 use Rattle.mig_canon.proofs.Batches.{from_zero, counted, batch_next, all_bodies}
 use Rattle.mig_canon.proofs.frames.write_frames.Goals as goal
 

@@ -1,6 +1,6 @@
 use Rattle.std.proofs.Common.{arith, rules, ◌≡◌, length, ap, ◌∙◌}
-use Rattle.mig_canon.specs.Canon.{pages_of}
-use Rattle.mig_canon.proofs.Batches.{pages_put}
+use Rattle.mig_records_pages.specs.PageData.{pages_of}
+use Rattle.mig_records_pages.proofs.PageTexts.{pages_put}
 use Rattle.mig_records_pages.proofs.Places.{at_place, all_taken, no_entry, frames_held}
 use Rattle.mig_records_pages.proofs.pages.fill_pages.Goals as goal
 

@@ -1,6 +1,6 @@
 use Rattle.std.proofs.Common.{List, arith, ◌≡◌, ◌*◌, length, take, ap, sym, ◌∙◌, subst}
-use Rattle.mig_canon.specs.Canon.{Frame, words_of, pages_of}
-use Rattle.mig_canon.proofs.Batches.{pages_next, words_put}
+use Rattle.mig_records_pages.specs.PageData.{Frame, words_of, pages_of}
+use Rattle.mig_records_pages.proofs.PageTexts.{pages_next, words_put}
 use Rattle.mig_records_pages.proofs.Places.{at_place, all_taken, no_entry, frames_held}
 use Rattle.mig_records_pages.proofs.pages.fill_words.Goals as goal
 

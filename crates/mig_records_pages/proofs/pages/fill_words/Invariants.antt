@@ -1,5 +1,5 @@
 use Rattle.std.proofs.Common.{◌≡◌, ◌*◌, ◌≤◌, length, take}
-use Rattle.mig_canon.specs.Canon.{words_of, pages_of}
+use Rattle.mig_records_pages.specs.PageData.{words_of, pages_of}
 use Rattle.mig_records_pages.proofs.Places.{frames_held}
 use Rattle.mig_records_pages.proofs.pages.fill_words.Given as goal
 

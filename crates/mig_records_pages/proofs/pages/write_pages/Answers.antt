@@ -3,7 +3,7 @@ use Rattle.std.specs.Io.KnownBytes.{Appends}
 use Rattle.std.proofs.KnownBytes.{Appends-trans}
 use Rattle.mig_bytes.specs.Bytes.{AppendsPart}
 use Rattle.mig_bytes.proofs.Texts.{puts_then, puts_stop, puts_same, flat_more, all_parted}
-use Rattle.mig_canon.specs.Canon.{page_in, pages_of}
+use Rattle.mig_records_pages.specs.PageData.{page_in, pages_of}
 use Rattle.mig_records_pages.proofs.Places.{all_taken, next_frames, frames_len, frames_held}
 use Rattle.mig_records_pages.proofs.pages.write_pages.Goals as goal
 

@@ -1,6 +1,6 @@
 use Rattle.std.proofs.Common.{◌≡◌, ◌≤◌, ◌-◌, length, take}
 use Rattle.std.specs.Io.KnownBytes.{Appends}
-use Rattle.mig_canon.specs.Canon.{pages_of}
+use Rattle.mig_records_pages.specs.PageData.{pages_of}
 use Rattle.mig_records_pages.proofs.Places.{frames_held}
 use Rattle.mig_records_pages.proofs.pages.write_pages.Given as goal
 
