@@ -54,10 +54,11 @@ def keep_own(program, made, kit, sources):
 
 
 def ship(program, own):
-    """Puts a program that was linked of what was proved here where it's shipped from."""
+    """Puts a program that was linked of what was proved here where it's shipped from. Asks first of which commit it is: the program
+    that is put there is a change."""
+    commit, at = said_by_git('rev-parse', 'HEAD') or 'unknown', revision()
     put_program(program, os.path.join(resolve.SHIPPED, resolve.MACHINE, resolve.NAME))
     put_text(os.path.join(resolve.SHIPPED, 'MANIFEST'), text(
         version=resolve.number(), licence=LICENCE, machine=resolve.MACHINE, program=resolve.sum_of_file(program), object=own['object'],
-        sources=own['sources'], commit=said_by_git('rev-parse', 'HEAD') or 'unknown', kit=own['kit'], linker=linking.linker(),
-        library=linking.library(),
-        origin='built from commit %s, shipped' % revision()))
+        sources=own['sources'], commit=commit, kit=own['kit'], linker=linking.linker(),
+        library=linking.library(), origin='built from commit %s, shipped' % at))
