@@ -3,12 +3,13 @@ import os
 import sys
 
 TOP = os.path.dirname(os.path.dirname(os.path.abspath(__file__)))
+if TOP not in sys.path:
+    sys.path.insert(0, TOP)
+from build.words import USAGE as USAGE_LINE  # noqa: E402,F401  what the program says of words that name no command
 
 
 def fitting():
     """The path of the program that fits these sources, or None, and why there is none."""
-    if TOP not in sys.path:
-        sys.path.insert(0, TOP)
     from front import resolve
     try:
         return resolve.present().path, ''
