@@ -12,31 +12,41 @@ KEPT_FREE = 10                                       # of this many parts of the
 COUNTED = verdict.OK, verdict.REFUSED, verdict.NO_SAVE, verdict.NOT_JUDGED, verdict.FAULT
 
 
-def is_special(path):
-    """Whether this is a pipe, a socket or a device: one in a folder is no save, and opening it might never end."""
-    return os.path.exists(path) and not os.path.isfile(path)
+def entries_of(folder):
+    """What is in a folder, in the order of names."""
+    with os.scandir(folder) as entries:
+        return sorted((entry.path for entry in entries), key=os.path.basename)
 
 
 def files_below(folder):
     """All files below a folder, in the order of their names; a folder that can't be read is answered as itself, and so is a
     link to a folder, which isn't followed."""
-    def failed(fault):
-        unreadable.append(fault.filename)
-    unreadable = []
-    for place, folders, files in os.walk(folder, onerror=failed):
-        folders.sort()
-        yield from (path for path in (os.path.join(place, name) for name in folders) if os.path.islink(path))
-        paths = (os.path.join(place, name) for name in sorted(files))
-        yield from (path for path in paths if not is_special(path))
+    unreadable, left = [], [folder]
+    while left:
+        place = left.pop()
+        try:
+            paths = entries_of(place)
+        except OSError:
+            unreadable.append(place)
+            continue
+        folders = [path for path in paths if os.path.isdir(path)]
+        yield from (path for path in folders if os.path.islink(path))
+        yield from (sources.Found(path) for path in paths if not os.path.isdir(path))
+        left += reversed([path for path in folders if not os.path.islink(path)])
     yield from unreadable
 
 
 def files_of(paths):
     for path in paths:
-        if path != '-' and os.path.isdir(path):
-            yield from files_below(path)
-        else:
+        if path == '-' or not os.path.isdir(path):
             yield path
+            continue
+        none = True
+        for found in files_below(path):
+            none = False
+            yield found
+        if none:                                     # a folder that isn't mounted isn't well
+            yield sources.EmptyFolder(path)
 
 
 def memory_there():

@@ -43,12 +43,12 @@ def starts_like(front, magic):
 
 
 def is_like_legacy(front):
-    """Whether a file may be a legacy stream, whose form has no magic: a number of frame numbers of 8 bytes that is above
-    0 and below 2^32, and a chunk's type."""
+    """Whether a file may be a legacy stream, whose form has no magic: a number of frame numbers of 8 bytes that is below 2^32,
+    and a chunk's type. Where the number is 0, which is ignored too, another chunk than the last one has to follow."""
     if len(front) < 12:
         return False
     count, chunk = struct.unpack('<Qi', front[:12])
-    return 0 < count < 1 << 32 and -20 <= chunk <= 1024
+    return count < 1 << 32 and -20 <= chunk <= 1024 and (count or chunk) != 0
 
 
 def is_text(front):

@@ -4,7 +4,7 @@ import os
 import re
 import sys
 
-from front import program
+from front import guarding, program
 from front.text import Untold, escape_output, put_lines, tell
 
 STATUSES = """\
@@ -18,6 +18,7 @@ exit status:
   4    OUT, or what is told, couldn't be written
   5    no memory was found, or the program was ended from outside, or couldn't begin
   6    `compare`: a file was refused, so nothing was compared
+  7    `mig` itself has a fault, which a line tells; nothing is said of the file, and no OUT has got its name
   125  no program runs here, and none could be built
   128 + N  the signal N (1, 2 or 15) ended `mig`
 
@@ -109,6 +110,10 @@ def address(text):
 
 class Words(argparse.ArgumentParser):
     """What it says is written as all lines are."""
+
+    def _get_option_tuples(self, option_string):
+        """A word that begins with -- is an option only where it is one whole. (python3.6 takes no `-j4` with allow_abbrev=False.)"""
+        return [] if option_string.startswith('--') else super()._get_option_tuples(option_string)
 
     def _print_message(self, message, file=None):
         put_lines(message.splitlines(), file or sys.stderr)
@@ -279,6 +284,7 @@ def open_closed():
 
 
 def main(arguments):
+    guarding.no_core_files()
     if arguments[:1] == ['help']:
         arguments = [*arguments[1:], '--help']
     open_closed()
@@ -295,5 +301,13 @@ def main(arguments):
         return untold()
     except Untold as fault:
         return untold(str(fault))
+    except MemoryError:
+        program.RUNNING.end(program.Stopped(0))
+        tell('no memory was found')
+        return program.NO_MEMORY
     except program.Stopped as stopped:
         os._exit(stopped.status)                     # at once, though a thread may wait for a pipe's other end
+    except Exception as fault:
+        program.RUNNING.end(fault)
+        tell(guarding.told_of(fault))
+        return program.FAULTY

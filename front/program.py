@@ -5,6 +5,7 @@ import subprocess
 from collections import namedtuple
 
 from front import resolve
+from front.guarding import guard
 from front.resolve import NoProgram
 from front.text import shown
 
@@ -12,7 +13,7 @@ BUILDER = os.path.join(resolve.TOP, 'bin', 'build-mig_tool')
 HUGE_PAGES = 'glibc.malloc.hugetlb'                  # of glibc 2.35 and newer; others pass it over
 KEEPS_NO_PAGES = 'relay', 'show'
 SIGNALS = signal.SIGINT, signal.SIGTERM, signal.SIGHUP
-OK, REFUSED, USAGE, READ_FAULT, WRITE_FAULT, NO_MEMORY, NOT_COMPARED, NO_PROGRAM = 0, 1, 2, 3, 4, 5, 6, 125
+OK, REFUSED, USAGE, READ_FAULT, WRITE_FAULT, NO_MEMORY, NOT_COMPARED, FAULTY, NO_PROGRAM = 0, 1, 2, 3, 4, 5, 6, 7, 125
 BY_OTHERS = 126, 127                                 # of a shell, or where a library of the program isn't found, or has no room
 
 
@@ -69,6 +70,7 @@ class Running:
                                        restore_signals=False, **streams)  # a limit of file sizes is a write fault, too
         except OSError as fault:
             raise NoProgram('%s does not start: %s' % (shown(path), fault.strerror)) from None
+        guard(process)
         self.processes.add(process)
         if self.stopped:                             # meanwhile, in another thread
             process.kill()

@@ -4,7 +4,7 @@ import sys
 
 from front import forms, program, sources, verdict
 from front.text import put_lines, shown, tell
-from front.write import Output, Refused, configuration, mode_of, put
+from front.write import Output, Refused, configuration, put
 
 
 def passed_on(words, path, source, output):
@@ -46,7 +46,7 @@ def relay(words):
     except sources.Unreadable as why:
         return unreadable(words, why)
     try:
-        output = Output(words.output, words.force, mode_of(source))
+        output = Output(words.output, words.force)
         try:
             found = passed_on(words, program.find(), source, output)
             if found.status == program.OK:

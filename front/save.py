@@ -9,7 +9,7 @@ import threading
 
 from front import forms, places, program, sources, verdict
 from front.text import put_lines, shown, tell
-from front.write import Output, Refused, mode_of
+from front.write import Output, Refused
 
 MOST_SCRIPT = 1 << 24                                # bytes; the program refuses a script with more
 MOST_SHOWN = 60                                      # so much of a line is shown
@@ -154,7 +154,7 @@ def save(words):
         opened.append(sources.source_of(name))
         script = script_of(opened[1])
         name = words.image
-        output = Output(words.output, words.force, mode_of(opened[0]) & mode_of(opened[1]))
+        output = Output(words.output, words.force)
         try:
             found = saved(words, program.find(), opened[0], script, output)
         finally:

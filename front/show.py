@@ -46,6 +46,9 @@ def status_of_file(words, path, name):
     try:
         source = sources.source_of(name)
         found = listed(words, path, name, source)
+    except sources.Special:
+        tell('%s: %s' % (shown(name), verdict.SPECIAL))
+        return program.REFUSED
     except sources.Unreadable as unreadable:
         tell('%s: fault: read: %s' % (shown(name), unreadable))
         return program.READ_FAULT

@@ -7,9 +7,24 @@ import subprocess
 import threading
 
 from front import forms
+from front.guarding import guard
+from front.text import shown
 
 BLOCK = 1 << 20
 MOST_KEPT = 64 << 20                                 # so much of a pipe is kept, to be looked at
+TOLD_UNPACKERS = 'GZIP', 'XZ_', 'ZSTD_'              # names of variables by which an unpacker may be told to do other things
+
+
+class Found(str):
+    """The name of a file that was found in a folder, and not given by who calls."""
+
+
+class EmptyFolder(str):
+    """The name of a folder in which no file is."""
+
+
+class Special(Exception):
+    """A pipe, a socket or a device that was found in a folder, which is no save."""
 
 
 class Unreadable(Exception):
@@ -119,6 +134,7 @@ class Packed:
     size = None
     TIMES = 16                                       # what is taken for the unpacked size, to share memory out
     MORE = {'zstd': ['--long=31']}                   # else zstd refuses what was packed with `--long=28` and more
+    WARNING = {'gzip': 2, 'xz': 2}                   # all is unpacked, though something follows it
     is_walkable = True
 
     def __init__(self, fd, base, packer):
@@ -127,9 +143,12 @@ class Packed:
 
     def unpack(self):
         os.lseek(self.fd, self.base, os.SEEK_SET)
+        told = {name: value for name, value in os.environ.items() if not name.startswith(TOLD_UNPACKERS)}
         try:
-            return subprocess.Popen([self.packed, '-dc', *self.MORE.get(self.packed, ())], stdin=self.fd,
-                                    stdout=subprocess.PIPE, stderr=subprocess.PIPE)
+            unpacker = subprocess.Popen([self.packed, '-dc', *self.MORE.get(self.packed, ())], stdin=self.fd,
+                                        stdout=subprocess.PIPE, stderr=subprocess.PIPE, env={**told, 'LC_ALL': 'C'})
+            guard(unpacker)
+            return unpacker
         except FileNotFoundError:
             raise Unreadable('it is packed, and the program %s is not installed' % self.packed) from None
         except OSError as fault:
@@ -181,10 +200,10 @@ class Packed:
         said = unpacker.stderr.read().decode(errors='replace').strip().splitlines()
         unpacker.stderr.close()
         status = unpacker.wait()
-        if status > 0:
-            return 'the packed file is damaged: ' + (said or ['%s failed' % self.packed])[-1]
-        if status in (0, -signal.SIGPIPE):           # the program had all that it wanted
+        if status in (0, -signal.SIGPIPE) or status == self.WARNING.get(self.packed):  # the program had all that it wanted
             return None
+        if status > 0:
+            return 'it could not be unpacked: ' + shown((said or ['%s failed' % self.packed])[-1])
         return '%s was ended by signal %d; most often no memory was left' % (self.packed, -status)
 
     def kill(self):
@@ -263,11 +282,31 @@ def source_of_open(fd, name):
     return Piped(fd)
 
 
+def opened(name):
+    """A file that was found in a folder is opened where it's regular alone: a device may do something then, and a pipe wait for
+    ever, also one that took the file's place meanwhile."""
+    if not isinstance(name, Found):
+        return os.open(name, os.O_RDONLY | os.O_CLOEXEC)
+    if is_special(os.stat(name)):
+        raise Special
+    fd = os.open(name, os.O_RDONLY | os.O_CLOEXEC | os.O_NONBLOCK | os.O_NOCTTY)
+    if is_special(os.fstat(fd)):
+        os.close(fd)
+        raise Special
+    return fd
+
+
+def is_special(status):
+    return not stat.S_ISREG(status.st_mode) and not stat.S_ISDIR(status.st_mode)
+
+
 def source_of(name):
     """The source of a file with this name; `-` is standard input. A file that gives none is closed again."""
+    if isinstance(name, EmptyFolder):
+        raise Unreadable('no file is in it')
     fd = source = None
     try:
-        fd = 0 if name == '-' else os.open(name, os.O_RDONLY | os.O_CLOEXEC)
+        fd = 0 if name == '-' else opened(name)
         source = source_of_open(fd, name)
         return source
     except OSError as fault:

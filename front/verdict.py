@@ -2,7 +2,7 @@
 import re
 from collections import namedtuple
 
-from front import advice, forms, places, program, sources
+from front import advice, forms, guarding, places, program, sources
 from front.text import shown
 
 OK, REFUSED, NO_SAVE, NOT_JUDGED, FAULT = 'ok', 'refused', 'no save', 'not judged', 'fault'
@@ -77,6 +77,9 @@ class Verdict(Fields):
         return found
 
 
+SPECIAL = 'not judged: a pipe, a socket or a device is read only where it is given by its name'
+
+
 def fault(name, why):
     return Verdict(name, FAULT, program.READ_FAULT, 'fault: read: ' + why)
 
@@ -126,8 +129,14 @@ def of_file(name, path):
     try:
         source = sources.source_of(name)
         return judged(name, path, source)
+    except sources.Special:
+        return Verdict(name, NOT_JUDGED, program.REFUSED, SPECIAL)
     except sources.Unreadable as unreadable:
         return fault(name, str(unreadable))
+    except (program.NoProgram, MemoryError):
+        raise
+    except Exception as unforeseen:                  # the other files are checked all the same
+        return Verdict(name, FAULT, program.FAULTY, guarding.told_of(unforeseen))
     finally:
         if source:
             source.close()

@@ -1,7 +1,7 @@
 """`mig normalise`, `mig convert`, `mig restore`: one file in, one out. OUT is written beside its place and renamed when
 all is well, so that it's never there half written."""
+import errno
 import os
-import stat
 import sys
 
 from front import forms, headers, program, sources, verdict
@@ -9,6 +9,8 @@ from front.text import put_lines, shown, tell
 
 LIBXL_FRONT = bytes.fromhex('4c6962786c466d74 00000002 00000000 01000000 00000000')
 LIBXL_END = bytes(8)
+MODE = 0o600                                         # a guest's memory is its owner's alone, whoever may read the save
+UNSYNCED = errno.EINVAL, errno.ENOTSUP, errno.EACCES  # of a folder whose file system has no such call, or which can't be read
 
 
 class Refused(Exception):
@@ -22,7 +24,7 @@ class Refused(Exception):
 class Output:
     """A file that gets its name when all is well; `-` is standard output, which gets the bytes as they come."""
 
-    def __init__(self, name, force, mode):
+    def __init__(self, name, force):
         self.name, self.force, self.part = name, force, None
         if name == '-':
             self.fd = self.standard()
@@ -31,10 +33,11 @@ class Output:
             raise Refused(program.USAGE, '%s is there already; --force writes over a file' % shown(name))
         if not os.path.basename(name):
             raise Refused(program.USAGE, "OUT, '%s', names no file" % shown(name))
-        folder, base = os.path.split(os.path.abspath(name))
-        self.part = os.path.join(folder, '.%s.%d.part' % (os.fsdecode(os.fsencode(base)[:200]), os.getpid()))
+        self.target = os.path.realpath(name) if force else os.path.abspath(name)  # a link stays, and its file is written over
+        self.folder, base = os.path.split(self.target)
+        self.part = os.path.join(self.folder, '.%s.%d.part' % (os.fsdecode(os.fsencode(base)[:200]), os.getpid()))
         try:
-            self.fd = os.open(self.part, os.O_RDWR | os.O_CREAT | os.O_EXCL | os.O_CLOEXEC, mode)
+            self.fd = os.open(self.part, os.O_RDWR | os.O_CREAT | os.O_EXCL | os.O_CLOEXEC, MODE)
         except OSError as fault:
             self.part = None
             raise Refused(program.WRITE_FAULT, '%s: %s' % (shown(name), sources.why(fault))) from None
@@ -52,27 +55,40 @@ class Output:
         try:
             os.fsync(self.fd)
             if self.force:
-                os.replace(self.part, self.name)
+                os.replace(self.part, self.target)
             else:
                 self.move()
+            self.part = None
+            self.settle()
         except FileExistsError:
             raise Refused(program.USAGE, '%s is there meanwhile; --force writes over it' % shown(self.name)) from None
         except OSError as fault:
             raise Refused(program.WRITE_FAULT, '%s: %s' % (shown(self.name), sources.why(fault))) from None
-        self.part = None
+
+    def settle(self):
+        """Has the file's name written to the disk too, so that who removes the input behind this loses nothing."""
+        try:
+            folder = os.open(self.folder, os.O_RDONLY | os.O_DIRECTORY | os.O_CLOEXEC)
+            try:
+                os.fsync(folder)
+            finally:
+                os.close(folder)
+        except OSError as fault:
+            if fault.errno not in UNSYNCED:
+                raise
 
     def move(self):
         """Gives the file a name that nobody has. Where there are no hard links an empty file holds it meanwhile."""
         try:
-            os.link(self.part, self.name)
+            os.link(self.part, self.target)
         except FileExistsError:
             raise
         except OSError:
-            os.close(os.open(self.name, os.O_WRONLY | os.O_CREAT | os.O_EXCL | os.O_CLOEXEC))
+            os.close(os.open(self.target, os.O_WRONLY | os.O_CREAT | os.O_EXCL | os.O_CLOEXEC))
             try:
-                os.replace(self.part, self.name)
+                os.replace(self.part, self.target)
             except OSError:
-                os.unlink(self.name)
+                os.unlink(self.target)
                 raise
         else:
             os.unlink(self.part)
@@ -162,12 +178,6 @@ def written(words, path, source, output):
     return verdict.of_answer(words.input, source, form, words.verb, said)
 
 
-def mode_of(source):
-    """Who may read the input may read the output."""
-    status = os.fstat(source.fd)
-    return status.st_mode & 0o666 if stat.S_ISREG(status.st_mode) else 0o600
-
-
 def write(words):
     words.xl = getattr(words, 'xl', False)
     try:
@@ -176,7 +186,7 @@ def write(words):
         tell('%s: fault: read: %s' % (shown(words.input), unreadable))
         return program.READ_FAULT
     try:
-        output = Output(words.output, words.force, mode_of(source))
+        output = Output(words.output, words.force)
         try:
             found = written(words, program.find(), source, output)
             if found.status == program.OK:

@@ -79,7 +79,7 @@ def header_line(line, form='xl save'):
 PV32 = image(1, record(2, bytes([4, 3, 0, 0]) + bytes(4)))
 BAD_TYPE = image(2, record(16), record(1, words(3, 0) + struct.pack('<3Q', 7, 8, 5 << 60 | 9) + bytes(8192)))
 NO_END = image(2, record(16), record(0x80000000, b'note'))
-DAMAGED_GZIP = 'gzip, libxc image: fault: read: the packed file is damaged: gzip: '
+DAMAGED_GZIP = 'gzip, libxc image: fault: read: it could not be unpacked: gzip: '
 
 # name: bytes, and what is to be said of it behind its name; None where the line is told in run
 SAVES = {

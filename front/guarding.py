@@ -1,0 +1,36 @@
+"""What keeps the machine, and a guest's memory, safe from what is started here."""
+import os
+import resource
+
+from front.text import shown
+
+TRACED = 'MIG_TRACEBACK'                             # in the environment: a fault that nobody foresaw is told by a traceback
+FIRST_KILLED = 1000                                  # where memory ends, before what the machine itself needs
+
+
+def no_core_files():
+    """Neither this process nor one that it starts leaves a core file: a guest's memory would stand in it."""
+    try:
+        resource.setrlimit(resource.RLIMIT_CORE, (0, 0))
+    except (OSError, ValueError):                    # there are none here
+        pass
+
+
+def guard(process):
+    """Has the system end this process first where memory ends, and not what the machine needs."""
+    try:
+        with open('/proc/%d/oom_score_adj' % process.pid, 'w', encoding='ascii') as score:
+            score.write(str(FIRST_KILLED))
+    except OSError:                                  # it has ended, or the system has no such file
+        pass
+
+
+def told_of(fault):
+    """A fault that nobody foresaw, in one line; with TRACED it is raised again."""
+    if os.environ.get(TRACED):
+        raise fault
+    last = fault.__traceback__
+    while last.tb_next:
+        last = last.tb_next
+    where = '%s:%d' % (os.path.basename(last.tb_frame.f_code.co_filename), last.tb_lineno)
+    return 'a fault of mig itself: %s at %s: %s; with %s=1 it tells more' % (type(fault).__name__, where, shown(str(fault)), TRACED)
