@@ -8,7 +8,6 @@ from front import forms, program, sources, verdict
 from front.text import put_lines, shown
 
 BESIDE = 64 << 20                                    # what the program takes beside a guest's pages
-KEPT_FREE = 10                                       # of this many parts of the memory, one is kept free
 COUNTED = verdict.OK, verdict.REFUSED, verdict.NO_SAVE, verdict.NOT_JUDGED, verdict.FAULT
 
 
@@ -49,16 +48,6 @@ def files_of(paths):
             yield sources.EmptyFolder(path)
 
 
-def memory_there():
-    """How much memory is available, in bytes; all of it is taken for available where the system doesn't tell."""
-    try:
-        with open('/proc/meminfo', encoding='ascii') as told:
-            lines = dict(line.split(':', 1) for line in told)
-        return int(lines['MemAvailable'].split()[0]) << 10
-    except (OSError, KeyError, ValueError):
-        return sys.maxsize
-
-
 def need_of(name):
     """How much memory a file may take, told by its size."""
     if not os.path.isfile(name):
@@ -73,34 +62,37 @@ def need_of(name):
 
 
 class Memory:
-    """Shares the memory out: a file waits until what it may take is free, but never where it would be alone."""
+    """Shares the memory out: a file waits until what its program may take is free, which is what it seems to need, and its share at
+    least."""
 
-    def __init__(self):
-        there = memory_there()
-        self.free, self.running, self.changed = there - there // KEPT_FREE, 0, threading.Condition()
+    def __init__(self, at_once):
+        self.all = self.free = program.RUNNING.memory
+        self.share, self.running, self.changed = self.all // at_once, 0, threading.Condition()
 
-    def take(self, need):
+    def take(self, most):
         with self.changed:
-            self.changed.wait_for(lambda: self.running == 0 or need <= self.free)
-            self.free, self.running = self.free - need, self.running + 1
+            self.changed.wait_for(lambda: most <= self.free)
+            self.free, self.running = self.free - most, self.running + 1
 
-    def give_back(self, need):
+    def give_back(self, most):
         with self.changed:
-            self.free, self.running = self.free + need, self.running - 1
+            self.free, self.running = self.free + most, self.running - 1
             self.changed.notify_all()
 
     def check(self, name, path):
-        """The verdict of a file; where memory was short, it is checked once more when no other is."""
-        need = need_of(name)
-        self.take(need)
+        """The verdict of a file; where its memory was short, it is checked once more with all, when no other is."""
+        most = min(max(need_of(name), self.share), self.all)
+        self.take(most)
         try:
+            program.RUNNING.of_thread.most = most
             found = verdict.of_file(name, path)
         finally:
-            self.give_back(need)
+            self.give_back(most)
         if found.status != program.NO_MEMORY or name == '-':
             return found
         with self.changed:
             self.changed.wait_for(lambda: self.running == 0)
+            program.RUNNING.of_thread.most = self.all
             return verdict.of_file(name, path)
 
 
@@ -136,7 +128,7 @@ def checks(names, path, at_once):
         yield from ((name, lambda name=name: verdict.of_file(name, path)) for name in names)
         return
     from concurrent.futures import ThreadPoolExecutor
-    memory, begun, pool = Memory(), collections.deque(), ThreadPoolExecutor(at_once)
+    memory, begun, pool = Memory(at_once), collections.deque(), ThreadPoolExecutor(at_once)
     try:
         for name in names:
             begun.append((name, pool.submit(memory.check, name, path)))

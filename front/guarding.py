@@ -1,11 +1,13 @@
 """What keeps the machine, and a guest's memory, safe from what is started here."""
 import os
 import resource
+import sys
 
 from front.text import shown
 
 TRACED = 'MIG_TRACEBACK'                             # in the environment: a fault that nobody foresaw is told by a traceback
 FIRST_KILLED = 1000                                  # where memory ends, before what the machine itself needs
+TENTHS = 8                                           # of what is available, so many are for what is started here
 
 
 def no_core_files():
@@ -16,12 +18,34 @@ def no_core_files():
         pass
 
 
-def guard(process):
-    """Has the system end this process first where memory ends, and not what the machine needs."""
+def memory_there():
+    """How much memory is available, in bytes; all of it is taken for available where the system doesn't tell."""
+    try:
+        with open('/proc/meminfo', encoding='ascii') as told:
+            lines = dict(line.split(':', 1) for line in told)
+        return int(lines['MemAvailable'].split()[0]) << 10
+    except (OSError, KeyError, ValueError):
+        return sys.maxsize
+
+
+def memory_to_take():
+    """How much all that is started here may take together, where nothing else was said."""
+    return memory_there() // 10 * TENTHS
+
+
+def guard(process, most):
+    """Has a process that was just started take so much memory at most, and has the system end it first where memory ends, and not
+    what the machine needs."""
     try:
         with open('/proc/%d/oom_score_adj' % process.pid, 'w', encoding='ascii') as score:
             score.write(str(FIRST_KILLED))
     except OSError:                                  # it has ended, or the system has no such file
+        pass
+    try:
+        _, greatest = resource.prlimit(process.pid, resource.RLIMIT_AS)
+        if greatest == resource.RLIM_INFINITY or most < greatest:
+            resource.prlimit(process.pid, resource.RLIMIT_AS, (most, most))
+    except (OSError, ValueError, OverflowError):     # it has ended
         pass
 
 

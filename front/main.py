@@ -101,6 +101,13 @@ def number(least, most=None):
     return parse
 
 
+def size(text):
+    told = re.fullmatch('([0-9]+)([KMGT]?)', text)
+    if not told or not int(told[1]):
+        raise argparse.ArgumentTypeError('a size is wanted, as 512M or 8G')
+    return int(told[1]) << 10 * ' KMGT'.index(told[2] or ' ')
+
+
 def address(text):
     digits = text[2:] if text[:2] in ('0x', '0X') else text
     if not re.fullmatch('[0-9A-Fa-f]+', digits) or int(digits, 16) >= 1 << 64:
@@ -129,9 +136,12 @@ class Version(argparse.Action):
 
 
 def verb(verbs, name, says, more=''):
-    return verbs.add_parser(name, help=says, description='%s%s.' % (says[0].upper(), says[1:]),
-                            epilog='\n\n'.join(filter(None, (more, STATUSES))),
-                            formatter_class=argparse.RawDescriptionHelpFormatter)
+    words = verbs.add_parser(name, help=says, description='%s%s.' % (says[0].upper(), says[1:]),
+                             epilog='\n\n'.join(filter(None, (more, STATUSES))),
+                             formatter_class=argparse.RawDescriptionHelpFormatter)
+    words.add_argument('--memory', metavar='SIZE', type=size,
+                       help='the most memory that what is started may take, all together (80 %% of what is available)')
+    return words
 
 
 def writing_verb(verbs, name, says, with_xl=True):
@@ -292,6 +302,7 @@ def main(arguments):
     try:
         words = parser().parse_args(arguments)
         program.catch_signals(program.RUNNING.stop)
+        program.RUNNING.memory = words.memory or program.RUNNING.memory
         return words.run(words)
     except program.NoProgram as missing:
         if str(missing):

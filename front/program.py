@@ -2,10 +2,11 @@
 import os
 import signal
 import subprocess
+import threading
 from collections import namedtuple
 
 from front import resolve
-from front.guarding import guard
+from front.guarding import guard, memory_to_take
 from front.resolve import NoProgram
 from front.text import shown
 
@@ -46,6 +47,11 @@ class Running:
 
     def __init__(self):
         self.processes, self.stopped = set(), None
+        self.memory, self.of_thread = memory_to_take(), threading.local()  # all of it, and what a thread's program may take of it
+
+    def most(self):
+        """How much memory the next program may take."""
+        return getattr(self.of_thread, 'most', self.memory)
 
     def end(self, stopped):
         """Ends all programs; none is started any more."""
@@ -70,7 +76,7 @@ class Running:
                                        restore_signals=False, **streams)  # a limit of file sizes is a write fault, too
         except OSError as fault:
             raise NoProgram('%s does not start: %s' % (shown(path), fault.strerror)) from None
-        guard(process)
+        guard(process, self.most())
         self.processes.add(process)
         if self.stopped:                             # meanwhile, in another thread
             process.kill()

@@ -6,7 +6,7 @@ import stat
 import subprocess
 import threading
 
-from front import forms
+from front import forms, program
 from front.guarding import guard
 from front.text import shown
 
@@ -147,7 +147,7 @@ class Packed:
         try:
             unpacker = subprocess.Popen([self.packed, '-dc', *self.MORE.get(self.packed, ())], stdin=self.fd,
                                         stdout=subprocess.PIPE, stderr=subprocess.PIPE, env={**told, 'LC_ALL': 'C'})
-            guard(unpacker)
+            guard(unpacker, program.RUNNING.memory)
             return unpacker
         except FileNotFoundError:
             raise Unreadable('it is packed, and the program %s is not installed' % self.packed) from None

@@ -18,6 +18,7 @@ complete -c mig -n "$none" -f -l version -d 'print revision, date and kit'
 complete -c mig -l help -s h -d 'print how it is used'
 complete -c mig -n "__fish_seen_subcommand_from help; and not __fish_seen_subcommand_from $verbs" -f -a "$verbs"
 
+complete -c mig -n '__fish_seen_subcommand_from check normalise convert restore save relay show compare exercise walk' -l memory -x -d 'the most memory that what is started may take'
 complete -c mig -n '__fish_seen_subcommand_from check' -s j -x -d 'check up to so many files at once'
 complete -c mig -n '__fish_seen_subcommand_from check' -l json -d 'print one JSON object for each file'
 complete -c mig -n '__fish_seen_subcommand_from normalise convert restore save relay' -l force -d 'write over OUT where it is there'

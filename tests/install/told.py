@@ -69,7 +69,7 @@ def written_for_zsh():
     found = {}
     for names, rest in re.findall(r'^ +([\w |]+)\) _arguments (.*);;$', text, re.M):
         options = set(re.findall(r"['\"](--?\w+)\[", rest))
-        options.update('--' + name for name in ('force', 'help') if '$' + name in rest)
+        options.update('--' + name for name in ('force', 'help', 'memory') if '$' + name in rest)
         found.update((verb, options) for verb in names.split(' | '))
     yield from wanted(found, by_verb)
     text = read(COMPLETIONS, 'zsh', '_mig_tool')
@@ -159,7 +159,7 @@ def commands_and_lines():
             yield 'no line ' + form
     if 'differs D' not in lines:
         yield 'no line with differs'
-    for name, least in ('mig_tool', 6), ('xl-stream', 5), ('mig', 8):
+    for name, least in ('mig_tool', 6), ('xl-stream', 5), ('mig', 9):
         statuses = re.findall(r'^\.B (\d+)$', section(page(name), 'EXIT STATUS'), re.M)
         yield from wanted((name, len(statuses)), (name, least))
 
