@@ -12,40 +12,30 @@ const TABLE: u64 = 4;
 
 const SLOT_2: usize = 16;
 
-// Whether it is found that the table has such an entry.
-fn is_found(alloc: Global, host: &mut Host) -> Result<bool, Fail> {
+// Whether a host has room for a frame more, and whether it is found that its table has such an entry.
+fn room_and_fault(alloc: Global, host: &mut Host) -> Result<(bool, bool), Fail> {
+    let room = host.reserve(1).is_ok();
     if host.page(TABLE).is_none() {
         return Err("there is no table".into());
     }
     host.write(TABLE, SLOT_2, &ENTRY);
-    Ok(matches!(
+    let found = matches!(
         host.sound(alloc),
         Err(SoundAnswer::Unsound(Unsound::NoFrame(4, 2)))
-    ))
+    );
+    Ok((room, found))
 }
 
-fn is_found_in_the_worked_host(alloc: Global) -> Result<bool, Fail> {
+fn room_and_fault_of_the_worked_host(alloc: Global) -> Result<(bool, bool), Fail> {
     let mut host = worked(alloc)?;
-    is_found(alloc, &mut host)
-}
-
-fn has_room_for_one(host: &mut Host) -> bool {
-    host.reserve(1).is_ok()
-}
-
-fn worked_host_has_room_for_one(alloc: Global) -> Result<bool, Fail> {
-    let mut host = worked(alloc)?;
-    Ok(has_room_for_one(&mut host))
+    room_and_fault(alloc, &mut host)
 }
 
 #[test]
-fn an_entry_without_a_frame_is_found(rt: HostRuntime) -> Result<(), Fail> {
-    assert!(rt; is_found_in_the_worked_host(rt.alloc())?);
-    Ok(())
-}
-
-#[test]
-fn a_host_has_room_for_a_frame_more(rt: HostRuntime) -> Result<(), Fail> {
-    assert!(rt; worked_host_has_room_for_one(rt.alloc())?);
+fn a_host_has_room_and_its_fault_is_found(rt: HostRuntime) -> Result<(), Fail> {
+    assert_eq!(rt;
+        room_and_fault_of_the_worked_host(rt.alloc())?,
+        (true, true)
+    );
     Ok(())
 }
