@@ -52,7 +52,11 @@ class Feeder(threading.Thread):
                 pass_image(take)
             except Cut:
                 return
-            self.follows = sum(map(len, iter(lambda: image.read(sources.BLOCK), b'')))
+            while self.follows < sources.MOST_BEHIND:
+                block = image.read(sources.BLOCK)
+                self.follows += len(block)
+                if not block:
+                    break
         out.write(b'\n' if self.follows else self.script)
 
 

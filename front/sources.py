@@ -12,6 +12,7 @@ from front.text import shown
 
 BLOCK = 1 << 20
 MOST_KEPT = 64 << 20                                 # so much of a pipe is kept, to be looked at
+MOST_BEHIND = 1 << 30                                # so much of what follows a stream is read, which needn't ever end
 TOLD_UNPACKERS = 'GZIP', 'XZ_', 'ZSTD_'              # names of variables by which an unpacker may be told to do other things
 
 
@@ -71,8 +72,8 @@ def write_all(fd, data):
 
 
 def drain(fd):
-    while read_some(fd, BLOCK):
-        pass
+    """Reads what follows a stream; answers whether that came to an end."""
+    return pass_over(fd, MOST_BEHIND) < MOST_BEHIND
 
 
 class Cursor:
@@ -189,8 +190,9 @@ class Packed:
 
     def ended(self, accepted):
         """Where the program accepted the stream, all is unpacked, so that the packer's own checksum is looked at."""
-        if accepted:
-            drain(self.running.stdout.fileno())
+        if accepted and not drain(self.running.stdout.fileno()):
+            self.kill()
+            return 'more than %d MiB follow the stream, and what packed it has its checksum behind them' % (MOST_BEHIND >> 20)
         return self.stop()
 
     def stop(self):
@@ -253,7 +255,7 @@ class Piped:
             os.close(into)
 
     def ended(self, accepted):
-        """Where the program accepted the stream, what follows it is read too, so that who writes it isn't stopped."""
+        """Where the program accepted the stream, what follows it is read too, so that who writes it isn't stopped by a little."""
         os.close(self.out)
         if accepted:
             self.feeder.join()
