@@ -1,4 +1,6 @@
 """What is to be said of one file: the program's answer, and around it what the front knows."""
+import base64
+import os
 import re
 from collections import namedtuple
 
@@ -6,7 +8,8 @@ from front import advice, forms, guarding, places, program, sources
 from front.text import shown
 
 OK, REFUSED, NO_SAVE, NOT_JUDGED, FAULT = 'ok', 'refused', 'no save', 'not judged', 'fault'
-REFUSAL = re.compile(r'refused: (\w+(?: \d+)?): (\d+) \w+')
+SCHEMA = 1                                           # of what --json prints: docs/verdict.schema.json
+REFUSAL = re.compile(r'refused: (\w+(?: \d+)?): (\d+) (\w+)')
 FACTS = re.compile(r'ok version (\d+) kind (\w+) frames (\d+) records (\d+)(?: differs (\d+))?')
 SAVED = re.compile(r'ok rounds (\d+) entries (\d+)')
 RELAYED = re.compile(r'ok records (\d+) bytes (\d+)')
@@ -60,9 +63,12 @@ class Verdict(Fields):
 
     def facts(self):
         """It as one object, for JSON: what isn't there is left out."""
-        found = {'file': self.name, 'result': self.result, 'status': self.status}
+        found = {'schema': SCHEMA, **of_name(self.name), 'result': self.result, 'status': self.status}
         names = 'form', 'begins', 'line', 'offset', 'packed', 'means', 'do', 'follows', 'text', 'size'
         found.update((name, getattr(self, name)) for name in names if getattr(self, name) is not None)
+        refusal = REFUSAL.match(self.line)
+        if refusal:
+            found.update(place=refusal[1], cause=int(refusal[2]), cause_name=refusal[3])
         said = FACTS.fullmatch(self.line)
         if said:
             found.update(version=int(said[1]), kind=said[2], frames=int(said[3]), records=int(said[4]))
@@ -75,6 +81,15 @@ class Verdict(Fields):
         if said:
             found.update(records=int(said[1]), bytes=int(said[2]))
         return found
+
+
+def of_name(name):
+    """A file's name for JSON, with its bytes where they aren't UTF-8: other programs lose what stands for these."""
+    try:
+        name.encode()
+    except UnicodeEncodeError:
+        return {'file': name, 'file_bytes': base64.b64encode(os.fsencode(name)).decode()}
+    return {'file': name}
 
 
 SPECIAL = 'not judged: a pipe, a socket or a device is read only where it is given by its name'
