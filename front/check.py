@@ -79,13 +79,13 @@ class Memory:
             self.free, self.running = self.free + most, self.running - 1
             self.changed.notify_all()
 
-    def check(self, name, path):
+    def check(self, name, path, judge):
         """The verdict of a file; where its memory was short, it is checked once more with all, when no other is."""
         most = min(max(need_of(name), self.share), self.all)
         self.take(most)
         try:
             program.RUNNING.of_thread.most = most
-            found = verdict.of_file(name, path)
+            found = verdict.of_file(name, path, judge)
         finally:
             self.give_back(most)
         if found.status != program.NO_MEMORY or name == '-':
@@ -93,7 +93,7 @@ class Memory:
         with self.changed:
             self.changed.wait_for(lambda: self.running == 0)
             program.RUNNING.of_thread.most = self.all
-            return verdict.of_file(name, path)
+            return verdict.of_file(name, path, judge)
 
 
 class Progress:
@@ -112,26 +112,26 @@ class Progress:
             print('\r\x1b[K', end='', file=sys.stderr, flush=True)
 
 
-def verdicts(names, path, at_once):
+def verdicts(names, path, at_once, judge=verdict.judged):
     """The verdict of each file, in the order of the names."""
     progress = Progress()
-    for done, (name, check) in enumerate(checks(names, path, at_once)):
+    for done, (name, check) in enumerate(checks(names, path, at_once, judge)):
         progress.tell(done, name)
         found = check()
         progress.clear()
         yield found
 
 
-def checks(names, path, at_once):
+def checks(names, path, at_once, judge):
     """Each name with a function that answers its verdict. Where several are checked at once, a few more are begun."""
     if at_once == 1:
-        yield from ((name, lambda name=name: verdict.of_file(name, path)) for name in names)
+        yield from ((name, lambda name=name: verdict.of_file(name, path, judge)) for name in names)
         return
     from concurrent.futures import ThreadPoolExecutor
     memory, begun, pool = Memory(at_once), collections.deque(), ThreadPoolExecutor(at_once)
     try:
         for name in names:
-            begun.append((name, pool.submit(memory.check, name, path)))
+            begun.append((name, pool.submit(memory.check, name, path, judge)))
             if len(begun) > 4 * at_once:
                 first, found = begun.popleft()
                 yield first, found.result
@@ -162,6 +162,8 @@ def check(words):
     for found in verdicts(files_of(words.paths), path, words.jobs):
         counts[found.result] += 1
         statuses.add(found.status)
+        if words.quiet and found.status == program.OK:
+            continue
         if words.json:
             import json
             put_lines([json.dumps(found.facts())], sys.stdout)

@@ -87,6 +87,15 @@ The stream is judged as `mig relay` does it, so what needs the whole guest isn't
 kept in memory, but what is shown of each record is, until the line is written."""
 
 
+DIGEST = """\
+A line has the SHA-256 of the canonical stream of a file's guest, and the file's name, as sha256sum writes them. It is the
+digest of what `mig normalise`, or of an old save `mig convert`, writes: so two saves of the same guest state have the same,
+whether they are packed or not. What has no digest is told on standard error.
+
+With --check PATH is a list of such lines, or `-`: for each the digest is made again, and OK or FAILED is printed. A line
+that is none, and an empty list, are told and make the status 1."""
+
+
 WALK = """\
 IN is a save, as `mig check` takes it, or a guest image, as `mig restore` writes it. Of a save the frame is named by its number
 (PFN), of an image by its machine frame. VCPU is a number from 0 to 4095, ADDRESS one to base 16, with or without 0x. HVM guests
@@ -180,6 +189,16 @@ def save(words):
         return refused.status
 
 
+def digest(words):
+    from front.digest import digest as run
+    from front.write import Refused
+    try:
+        return run(words)
+    except Refused as refused:
+        tell(str(refused))
+        return refused.status
+
+
 def compare(words):
     from front.compare import compare as run
     return run(words)
@@ -229,6 +248,7 @@ def parser():
     one.add_argument('-j', dest='jobs', metavar='N', type=number(1), default=1,
                      help='check up to N files at once, as far as memory allows')
     one.add_argument('--json', action='store_true', help='print one JSON object for each file, and no count')
+    one.add_argument('-q', dest='quiet', action='store_true', help='print nothing of what was accepted but the count')
     one.set_defaults(run=check)
     says = 'write the canonical stream of %s: two saves of the same guest state become the same bytes'
     writing_verb(verbs, 'normalise', says % 'a guest').set_defaults(run=write)
@@ -254,6 +274,12 @@ def parser():
     listing.add_argument('paths', metavar='PATH', nargs='+')
     listing.add_argument('--names', action='store_true', help='put each text in an object with the name of its file')
     listing.set_defaults(run=show)
+    sums = verb(verbs, 'digest', "print the digest of each guest's canonical stream, or check a list of them", DIGEST)
+    sums.add_argument('paths', metavar='PATH', nargs='+')
+    sums.add_argument('-j', dest='jobs', metavar='N', type=number(1), default=1, help='up to N files at once, as far as memory allows')
+    sums.add_argument('--check', action='store_true', help='PATH is a list of digests: say of each whether it is that of its file')
+    sums.add_argument('-q', dest='quiet', action='store_true', help='with --check: print nothing of what is well')
+    sums.set_defaults(run=digest)
     two = verb(verbs, 'compare', 'say whether two saves are of the same guest state', INPUT)
     two.add_argument('one', metavar='A')
     two.add_argument('two', metavar='B')

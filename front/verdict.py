@@ -15,8 +15,8 @@ SAVED = re.compile(r'ok rounds (\d+) entries (\d+)')
 RELAYED = re.compile(r'ok records (\d+) bytes (\d+)')
 
 
-Fields = namedtuple('Fields', 'name result status line form begins offset packed means do follows text size')
-Fields.__new__.__defaults__ = (None,) * 9            # of the last nine; python3.6 has no better word for it
+Fields = namedtuple('Fields', 'name result status line form begins offset packed means do follows text size digest')
+Fields.__new__.__defaults__ = (None,) * 10           # of the last ten; python3.6 has no better word for it
 
 
 class Verdict(Fields):
@@ -138,12 +138,12 @@ def judged(name, path, source):
     return of_answer(name, source, form, command, answer)
 
 
-def of_file(name, path):
-    """The verdict of a file with this name."""
+def of_file(name, path, judge=None):
+    """The verdict of a file with this name: what `judged` says, or another that looks at a source."""
     source = None
     try:
         source = sources.source_of(name)
-        return judged(name, path, source)
+        return (judge or judged)(name, path, source)
     except sources.Special:
         return Verdict(name, NOT_JUDGED, program.REFUSED, SPECIAL)
     except sources.Unreadable as unreadable:

@@ -1,0 +1,110 @@
+"""`mig digest`: the SHA-256 of the canonical stream of each guest, a line each as sha256sum writes it, and such lines checked. Two
+saves of the same guest state have the same digest, however they are packed, and whoever wrote them."""
+import hashlib
+import os
+import re
+import sys
+
+from front import check, forms, program, sources, verdict
+from front.text import put_lines, shown, tell
+from front.write import put
+
+LINE = re.compile(rb'(\\?)([0-9a-f]{64}) [ *](.+)', re.S)
+ESCAPED = {b'\\': b'\\\\', b'\n': b'\\n', b'\r': b'\\r'}  # as sha256sum does, with a backslash in front of the line
+UNESCAPED = {escaped: letter for letter, escaped in ESCAPED.items()}
+MOST_LINES = 64 << 20                                # bytes of a list
+
+
+def judged(name, path, source):
+    """What `normalise`, or for an old save `convert`, says of a source, and the digest of what it writes."""
+    form = forms.form_of(source)
+    early = verdict.without_program(name, form)
+    if early:
+        return early
+    command = 'convert' if form.kind == forms.LEGACY else 'normalise'
+    process = program.start(path, [command], source, form.begins, program.subprocess.PIPE)
+    made = hashlib.sha256()
+    with process.stdout as pipe:
+        for block in iter(lambda: os.read(pipe.fileno(), sources.BLOCK), b''):
+            made.update(block)
+    said = program.answer_of(process)
+    fault = source.ended(said.status == program.OK)
+    if fault:
+        said = program.Answer(program.READ_FAULT, 'fault: read: ' + fault)
+    found = verdict.of_answer(name, source, form, command, said)
+    return found._replace(digest=made.hexdigest()) if found.status == program.OK else found
+
+
+def line_of(found):
+    """The line of a file, with its name as bytes."""
+    name = os.fsencode(found.name)
+    escaped = re.sub(rb'[\\\n\r]', lambda letter: ESCAPED[letter[0]], name)
+    return b'\\' * (escaped != name) + b'%s  %s\n' % (found.digest.encode(), escaped)
+
+
+def listed(line):
+    """The name and the digest of a line; None where it is no such line."""
+    said = LINE.fullmatch(line)
+    if not said:
+        return None
+    name = re.sub(rb'\\[\\nr]', lambda two: UNESCAPED[two[0]], said[3]) if said[1] else said[3]
+    return os.fsdecode(name), said[2].decode()
+
+
+def tell_of(found):
+    """Tells of what has no digest, or more behind it."""
+    lines = list(found.lines())
+    put_lines(lines if found.status else ['%s: %s' % (shown(found.name), line.strip()) for line in lines[1:]], sys.stderr)
+
+
+def written(words, path):
+    """Writes the digest of each file; the status."""
+    statuses = set()
+    for found in check.verdicts(check.files_of(words.paths), path, words.jobs, judged):
+        if found.digest:
+            put(1, line_of(found))
+        tell_of(found)
+        statuses.add(found.status)
+    return check.status_of(statuses)
+
+
+def lines_of(name):
+    """The lines of a list, without their ends."""
+    source = sources.source_of(name)
+    try:
+        text = sources.read_upto(source.input_from(0), MOST_LINES + 1)
+        fault = source.ended(len(text) <= MOST_LINES)
+    finally:
+        source.close()
+    if fault or len(text) > MOST_LINES:
+        raise sources.Unreadable(fault or 'it has more than %d MiB' % (MOST_LINES >> 20))
+    return text.splitlines()
+
+
+def compared(words, path):
+    """Says of each file of a list whether it has the digest that stands there; the status."""
+    [name] = words.paths
+    try:
+        lines = [listed(line) for line in lines_of(name)]
+    except sources.Unreadable as why:
+        tell('%s: fault: read: %s' % (shown(name), why))
+        return program.READ_FAULT
+    wanted = [line for line in lines if line]
+    statuses = {program.REFUSED} if len(wanted) < len(lines) or not lines else set()
+    for number, line in enumerate(lines, 1):
+        if not line:
+            tell('%s: line %d is no digest and name' % (shown(name), number))
+    if not lines:
+        tell('%s: it has no line' % shown(name))
+    names = (sources.Found(file) for file, _ in wanted)
+    for found, (_, digest) in zip(check.verdicts(names, path, words.jobs, judged), wanted):
+        good = found.digest == digest
+        if not good or not words.quiet:
+            put_lines(['%s: %s' % (shown(found.name), 'OK' if good else 'FAILED')], sys.stdout)
+        tell_of(found)
+        statuses.add(found.status or program.REFUSED * (not good))
+    return check.status_of(statuses)
+
+
+def digest(words):
+    return (compared if words.check else written)(words, program.find())
