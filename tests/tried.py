@@ -1,11 +1,19 @@
 """The program that the tests try, and how they say what they can't try here."""
 import os
+import signal
 import sys
 
 TOP = os.path.dirname(os.path.dirname(os.path.abspath(__file__)))
 if TOP not in sys.path:
     sys.path.insert(0, TOP)
 from build.words import USAGE as USAGE_LINE  # noqa: E402,F401  what the program says of words that name no command
+
+
+def heed_signals():
+    """What the tests start heeds each signal, also where these were ignored for the tests themselves, as under nohup."""
+    for number in signal.SIGHUP, signal.SIGINT, signal.SIGTERM:
+        if signal.getsignal(number) == signal.SIG_IGN:
+            signal.signal(number, signal.SIG_DFL)
 
 
 def fitting():
