@@ -49,7 +49,7 @@ def script(name):
 examples, second = script('examples/run'), script('second_reader/run')
 
 
-NO_COMMAND = Answer(USAGE, b'', examples.USAGE_LINE.encode() + b'\n')
+NO_COMMAND = Answer(USAGE, b'', tried.USAGE_LINE.encode() + b'\n')
 
 
 @functools.cache
