@@ -149,6 +149,7 @@ def compare(words):
         tell('A and B are both standard input')
         return program.USAGE
     path = program.find()
+    program.RUNNING.of_thread.most = program.RUNNING.memory // 2  # both guests are in memory at once
     sides = []
     try:
         for name in words.one, words.two:
