@@ -7,7 +7,7 @@ import sys
 
 from front import check, forms, program, sources, verdict
 from front.text import put_lines, shown, tell
-from front.write import put
+from front.write import Refused, put
 
 LINE = re.compile(rb'(\\?)([0-9a-f]{64}) [ *](.+)', re.S)
 ESCAPED = {b'\\': b'\\\\', b'\n': b'\\n', b'\r': b'\\r'}  # as sha256sum does, with a backslash in front of the line
@@ -81,9 +81,8 @@ def lines_of(name):
     return text.splitlines()
 
 
-def compared(words, path):
+def compared(words, name, path):
     """Says of each file of a list whether it has the digest that stands there; the status."""
-    [name] = words.paths
     try:
         lines = [listed(line) for line in lines_of(name)]
     except sources.Unreadable as why:
@@ -107,4 +106,9 @@ def compared(words, path):
 
 
 def digest(words):
-    return (compared if words.check else written)(words, program.find())
+    if words.quiet and not words.check:
+        raise Refused(program.USAGE, '-q goes with --check')
+    path = program.find()
+    if not words.check:
+        return written(words, path)
+    return check.status_of({compared(words, name, path) for name in words.paths})

@@ -29,7 +29,7 @@ def memory_there():
 
 
 def memory_to_take():
-    """How much all that is started here may take together, where nothing else was said."""
+    """How much the programs that hold guests may take together, where nothing else was said."""
     return memory_there() // 10 * TENTHS
 
 

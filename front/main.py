@@ -92,7 +92,7 @@ A line has the SHA-256 of the canonical stream of a file's guest, and the file's
 digest of what `mig normalise`, or of an old save `mig convert`, writes: so two saves of the same guest state have the same,
 whether they are packed or not. What has no digest is told on standard error.
 
-With --check PATH is a list of such lines, or `-`: for each the digest is made again, and OK or FAILED is printed. A line
+With --check each PATH is a list of such lines, or `-`: for each line the digest is made again, and OK or FAILED is printed. A line
 that is none, and an empty list, are told and make the status 1."""
 
 
@@ -149,7 +149,7 @@ def verb(verbs, name, says, more=''):
                              epilog='\n\n'.join(filter(None, (more, STATUSES))),
                              formatter_class=argparse.RawDescriptionHelpFormatter)
     words.add_argument('--memory', metavar='SIZE', type=size,
-                       help='the most memory that what is started may take, all together (80 %% of what is available)')
+                       help='the most memory that the programs which hold guests may take, all together (80 %% of what is available)')
     return words
 
 
@@ -277,7 +277,7 @@ def parser():
     sums = verb(verbs, 'digest', "print the digest of each guest's canonical stream, or check a list of them", DIGEST)
     sums.add_argument('paths', metavar='PATH', nargs='+')
     sums.add_argument('-j', dest='jobs', metavar='N', type=number(1), default=1, help='up to N files at once, as far as memory allows')
-    sums.add_argument('--check', action='store_true', help='PATH is a list of digests: say of each whether it is that of its file')
+    sums.add_argument('--check', action='store_true', help='each PATH is a list of digests: say of each digest whether it is that of its file')
     sums.add_argument('-q', dest='quiet', action='store_true', help='with --check: print nothing of what is well')
     sums.set_defaults(run=digest)
     two = verb(verbs, 'compare', 'say whether two saves are of the same guest state', INPUT)
