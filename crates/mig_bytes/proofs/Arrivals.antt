@@ -1,14 +1,7 @@
 -- The front that a reader of parts one after another has behind it.
-use Rattle.std.proofs.Common.{◌≡◌, ℕ, Bool, true, false, List, [], ◌∷◌, ◌++◌, Option, Some, None, Result, Ok, Err, refl, sym, subst, ◌∙◌}
+use Rattle.mig_bytes.proofs.Common.{◌≡◌, ℕ, Bool, true, false, List, [], ◌∷◌, ◌++◌, Option, Some, None, Result, Ok, Err, refl, sym, subst, ◌∙◌, IsErrAnd, Judged, Gives, Passes, Front, at_start, sequence_at, Reaches, here, next, Stop, Refused, ReadFault, Memory}
 use Rattle.std.specs.Prelude.{⊤}
-use Rattle.std.specs.Result.{IsErrAnd}
-use Rattle.mig_bytes.specs.Judged.{Judged, Gives}
-use Rattle.mig_bytes.specs.Judged.Judged.{Passes}
-use Rattle.mig_bytes.specs.Sequences.{Front, at_start, grown, sequence_at}
-use Rattle.mig_bytes.specs.Walk.{Reaches}
-use Rattle.mig_bytes.specs.Walk.Reaches.{here, next}
-use Rattle.mig_bytes.specs.declared.stop.Stop.{Stop}
-use Rattle.mig_bytes.specs.declared.stop.Stop.TheVariants.{Refused, ReadFault, Memory}
+use Rattle.mig_bytes.specs.Sequences.{grown}
 use Rattle.mig_bytes.proofs.Sequences.{Found, grows, all_parts, next_refused}
 
 module _ {C E S : Type 0} (is_ended : List E → Bool) (part_at : List E → List ℕ → Judged C E) (Is : S → List E → Type 0) where

@@ -1,7 +1,6 @@
 -- Judging that passes looks at nothing behind what it takes.
-use Rattle.std.proofs.Common.{◌≡◌, ℕ, zero, suc, ◌+◌, List, [], ◌∷◌, ◌++◌, Option, sym, ap, ◌∙◌, append_assoc}
-use Rattle.mig_bytes.specs.Judged.{Judged, ◌>>=◌, part, said_at, each, steps, placed}
-use Rattle.mig_bytes.specs.Judged.Judged.{Passes}
+use Rattle.mig_bytes.proofs.Common.{◌≡◌, ℕ, zero, suc, ◌+◌, List, [], ◌∷◌, ◌++◌, Option, sym, ap, ◌∙◌, append_assoc, Judged, ◌>>=◌, part, said_at, placed, Passes}
+use Rattle.mig_bytes.specs.Judged.{each, steps}
 use Rattle.mig_bytes.proofs.Joins.{both_pass, part_passes, part_whole, same_passes, then_passes, placed_passes}
 use Rattle.mig_bytes.proofs.Said.{said_passes, said_goes}
 

@@ -1,13 +1,10 @@
 -- How judgements, and what readers give, join.
-use Rattle.std.specs.Result.{IsErrAnd}
+use Rattle.mig_bytes.proofs.Common.{IsErrAnd, ◌≡◌, inl, inr, ℕ, suc, ◌+◌, ◌<◌, length, take, drop, get_or, take-append-drop, List, [], ◌∷◌, ◌++◌, Bool, true, false, cond, Option, Some, None, Result, Ok, Err, refl, sym, ap, subst, ◌∙◌, length-append, arith, length-take-le, Stop, Refused, ReadFault, Memory, Judged, ◌>>=◌, part, tried, said_at, plain_at, placed, Gives, Passes, Faulty}
 use Rattle.std.proofs.lemmas.List.{take_more, take_at, drop_at}
 use Rattle.std.proofs.lemmas.Bool.{le-ltb}
 use Rattle.std.proofs.Math.Seq.{drop-cons}
-use Rattle.std.proofs.Common.{◌≡◌, ◌⊎◌, inl, inr, ℕ, suc, ◌+◌, ◌<◌, length, take, drop, get_or, take-append-drop, List, [], ◌∷◌, ◌++◌, Bool, true, false, cond, nat_lt, Option, Some, None, Result, Ok, Err, refl, sym, ap, subst, ◌∙◌, length-append, arith, length-take-le, ltb-false}
-use Rattle.mig_bytes.specs.declared.stop.Stop.{Stop}
-use Rattle.mig_bytes.specs.declared.stop.Stop.TheVariants.{Refused, ReadFault, Memory}
-use Rattle.mig_bytes.specs.Judged.{Judged, ◌>>=◌, part, tried, said_at, plain_at, each, placed, Matches, Gives}
-use Rattle.mig_bytes.specs.Judged.Judged.{Passes, Faulty}
+use Rattle.std.proofs.Common.{◌⊎◌, nat_lt, ltb-false}
+use Rattle.mig_bytes.specs.Judged.{each, Matches}
 
 module _ {C X Y : Type 0} (R : X → Y → Type 0) where
   -- nothing is read

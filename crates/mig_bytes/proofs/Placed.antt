@@ -1,8 +1,6 @@
 -- How readers join that tell the place of a fault.
-use Rattle.std.proofs.Common.{◌≡◌, ℕ, ◌+◌, ◌<◌, List, Option, Some, None, Result, Ok, Err, sym, ap, subst}
-use Rattle.mig_bytes.specs.declared.stop.Stop.{Stop}
-use Rattle.mig_bytes.specs.declared.stop.Stop.TheVariants.{Refused, ReadFault, Memory}
-use Rattle.mig_bytes.specs.Judged.{Judged, ◌>>=◌, placed, steps, stop_at, Gives}
+use Rattle.mig_bytes.proofs.Common.{◌≡◌, ℕ, ◌+◌, ◌<◌, List, Option, Some, None, Result, Ok, Err, sym, ap, subst, Stop, Refused, ReadFault, Memory, Judged, ◌>>=◌, placed, Gives}
+use Rattle.mig_bytes.specs.Judged.{steps, stop_at}
 use Rattle.mig_bytes.proofs.Joins.{any_stop, seq, stop}
 use Rattle.mig_bytes.proofs.Steps.{goes_on, ends}
 

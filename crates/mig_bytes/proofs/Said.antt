@@ -1,8 +1,5 @@
 -- A part of so many bytes, the cause that stands in it, and what it says.
-use Rattle.std.proofs.Common.{◌≡◌, ℕ, List, ◌++◌, length, Option, Some, None, Ok, Err, refl, sym, ap, subst, ◌∙◌}
-use Rattle.mig_bytes.specs.declared.stop.Stop.TheVariants.{Refused}
-use Rattle.mig_bytes.specs.Judged.{◌>>=◌, part, tried, said_at, plain_at, Gives}
-use Rattle.mig_bytes.specs.Judged.Judged.{Passes}
+use Rattle.mig_bytes.proofs.Common.{◌≡◌, ℕ, List, ◌++◌, length, Option, Some, None, Ok, Err, refl, sym, ap, subst, ◌∙◌, Refused, ◌>>=◌, part, tried, said_at, plain_at, Gives, Passes}
 use Rattle.mig_bytes.proofs.Joins.{both_pass, part_passes, part_whole, same_passes, then_passes, tried_none, tried_passes}
 
 -- so many bytes without a cause, which say this

@@ -1,13 +1,10 @@
 -- Parts are accepted exactly where they are spelled one after another, and refused exactly where the part behind such a
 -- front is.
-use Rattle.std.proofs.Common.{◌≡◌, ℕ, ◌<◌, Bool, true, false, cond, List, [], ◌∷◌, ◌++◌, length, Some, None, refl, sym, ap, subst, ◌∙◌, arith, append_assoc, le_refl, length-append}
+use Rattle.mig_bytes.proofs.Common.{◌≡◌, ℕ, ◌<◌, Bool, true, false, cond, List, [], ◌∷◌, ◌++◌, length, Some, None, refl, sym, ap, subst, ◌∙◌, arith, append_assoc, le_refl, length-append, Judged, ◌>>=◌, Passes, Faulty, Front, at_start, sequence_at, Reaches, here, next}
 use Rattle.std.proofs.lemmas.Option.{none-some}
-use Rattle.mig_bytes.specs.Judged.{Judged, ◌>>=◌}
-use Rattle.mig_bytes.specs.Judged.Judged.{Passes, Faulty}
-use Rattle.mig_bytes.specs.Sequences.{Spells, Front, at_start, front_with, grown, front_of, ended_at, sequence_at, onward}
+use Rattle.mig_bytes.specs.Sequences.{Spells, front_with, grown, front_of, ended_at, onward}
 use Rattle.mig_bytes.specs.Sequences.Spells.{no_part, one_more}
-use Rattle.mig_bytes.specs.Walk.{Reaches, walk_end}
-use Rattle.mig_bytes.specs.Walk.Reaches.{here, next}
+use Rattle.mig_bytes.specs.Walk.{walk_end}
 use Rattle.mig_bytes.proofs.Joins.{passes_not, same_passes, only_first}
 use Rattle.mig_bytes.proofs.Walks.{reached_from, walk_stops, walk_end_is, walk_end_ends, walk_end_reached}
 

@@ -1,9 +1,6 @@
 -- Steps one after another, and how readers of them join.
-use Rattle.std.proofs.Common.{◌≡◌, ℕ, zero, suc, ◌+◌, ◌-◌, ◌≤◌, ◌<◌, List, Option, Some, None, Ok, Err, refl, sym, ap, subst, ◌∙◌, arith}
-use Rattle.mig_bytes.specs.declared.stop.Stop.{Stop}
-use Rattle.mig_bytes.specs.declared.stop.Stop.TheVariants.{Refused, ReadFault, Memory}
-use Rattle.mig_bytes.specs.Judged.{Judged, ◌>>=◌, steps, Gives}
-use Rattle.mig_bytes.specs.Judged.Judged.{Passes, Faulty}
+use Rattle.mig_bytes.proofs.Common.{◌≡◌, ℕ, zero, suc, ◌+◌, ◌-◌, ◌≤◌, ◌<◌, List, Option, Some, None, Ok, Err, refl, sym, ap, subst, ◌∙◌, arith, Stop, Refused, ReadFault, Memory, Judged, ◌>>=◌, Gives, Passes, Faulty}
+use Rattle.mig_bytes.specs.Judged.{steps}
 
 module _ {C X : Type 0} (step : ℕ → X → List ℕ → Judged C X) where
   -- the steps behind the first ones

@@ -1,9 +1,6 @@
 -- A vector that grew, and whose new part was written.
-use Rattle.std.proofs.Common.{◌≡◌, ℕ, ◌+◌, ◌-◌, List, [], ◌++◌, length, take, drop, replicate, sym, ap, ◌∙◌, arith, append-nil, length-append, length-drop}
-use Rattle.std.proofs.lemmas.List.{take_all, drop_all}
-use Rattle.std.proofs.Math.Seq.{take-append-add}
-use lib.Seq.{take-append-le, take-append_seam}
-use borrow.Rule.Slice.PartMut.{post_of}
+use Rattle.mig_bytes.proofs.Common.{◌≡◌, ℕ, ◌+◌, ◌-◌, List, [], ◌++◌, length, take, drop, sym, ap, ◌∙◌, arith, append-nil, length-append, length-drop, take_all, drop_all, take-append-add, take-append-le, take-append_seam, post_of}
+use Rattle.std.proofs.Common.{replicate}
 
 front_kept : (items grown : List ℕ) (before n m : ℕ) → length items ≡ before → grown ≡ take (before + n) items ++ replicate m 0 → take before grown ≡ items
 front_kept items grown before n m size is =

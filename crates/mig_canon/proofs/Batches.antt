@@ -1,7 +1,8 @@
 -- Batches of frames one after another.
-use Rattle.mig_canon.proofs.Common.{◌≡◌, ℕ, suc, ◌+◌, ◌-◌, ◌*◌, ◌<◌, min, List, [], ◌∷◌, length, take, drop, true, cond, nat_le, refl, sym, ap, ◌∙◌, arith, drop-drop, drop-cons, common_steps, length-drop, take_all, take_min, drop_min, entries_from, Frame, Record, batch, frame_bodies}
-use Rattle.std.proofs.lemmas.List.FromFn.{length-map-range_with_len, get_or-map-range_with_len}
-use Rattle.mig_records_pages.specs.PageData.{body_of}
+use Rattle.mig_canon.proofs.Common.{◌≡◌, ℕ, suc, ◌+◌, ◌-◌, ◌*◌, ◌<◌, min, List, [], ◌∷◌, length, take, drop, true, cond, refl, sym, ap, ◌∙◌, arith, drop-drop, drop-cons, common_steps, length-drop, take_all, entries_from, Frame, Record, batch, frame_bodies, length-map-range_with_len, body_of}
+use Rattle.std.proofs.Common.{nat_le}
+use Rattle.std.proofs.lemmas.List.{take_min, drop_min}
+use Rattle.std.proofs.lemmas.List.FromFn.{get_or-map-range_with_len}
 
 -- ---- the cursor at the first frame
 

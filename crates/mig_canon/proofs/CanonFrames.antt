@@ -1,24 +1,26 @@
 -- The body of each batch of frames says these frames.
-use Rattle.mig_canon.proofs.LawsCommon.{◌≡◌, ℕ, zero, suc, ◌+◌, ◌-◌, ◌*◌, ◌/◌, ◌%◌, ◌≤◌, ◌<◌, ◌^◌, min, List, [], ◌∷◌, ◌++◌, length, take, drop, map, replicate, Bool, true, false, Option, Some, None, refl, sym, ap, subst, ◌∙◌, arith, length-append, drop-drop, unwrap_or, is_some, All, nat_lt, IsInside, meant_type, range_with_len, nat_cmp-IsAntisymmetric, little_bytes, little_number, Kind, Hvm, Pv, is_type_of, GuestOf, IsFormed, Frame, batch, batches, frame_word_in, page_in, words_of, pages_of, frames_in, IsPage, IsEntry, AreEntries, IsGoodWord, IsBatch, common_steps, All-nil, All-cons, All-head, All-tail, all_found}
+use Rattle.mig_canon.proofs.Common.{◌≡◌, ℕ, zero, suc, ◌+◌, ◌-◌, ◌*◌, ◌≤◌, ◌<◌, ◌^◌, min, List, [], ◌∷◌, ◌++◌, length, take, drop, map, replicate, Bool, true, false, Option, Some, None, refl, sym, ap, subst, ◌∙◌, arith, length-append, drop-drop, is_some, All, nat_lt, meant_type, range_with_len, nat_cmp-IsAntisymmetric, little_bytes, Kind, Hvm, Pv, GuestOf, IsFormed, Frame, batch, batches, page_in, words_of, pages_of, frames_in, common_steps, All-nil, All-cons, All-head, All-tail, length-drop, take_all, nat_cmp_total, little_number-reads_back, PageType, words_len, IsSendable, told}
+use Rattle.std.proofs.Common.{◌/◌, ◌%◌}
+use Rattle.std.specs.Prelude.{unwrap_or}
+use Rattle.mig_guest.specs.Formed.{IsInside}
+use Rattle.byteorder.specs.Endian.{little_number}
+use Rattle.mig_guest.specs.Frames.{is_type_of}
+use Rattle.mig_records_pages.specs.PageData.{frame_word_in, body_of}
+use Rattle.mig_restore_form.specs.Spelled.{IsPage, IsEntry, AreEntries, IsGoodWord, IsBatch}
+use Rattle.mig_guest.proofs.Found.{all_found}
 use Rattle.mig_pagetypes.specs.Limits.{pfn_limit}
-use Rattle.std.proofs.lemmas.List.{length-take, length-drop, take_all}
+use Rattle.std.proofs.lemmas.List.{length-take}
 use Rattle.std.proofs.Math.Seq.{take-add}
-use Rattle.std.specs.Cmp.{nat_cmp_total}
-use Rattle.std.specs.FinMap as maps
-use Rattle.byteorder.specs.Numbers.{little_number-reads_back}
 use Rattle.mig_bytes.specs.Fields.{le32, le64}
 use Rattle.mig_pagetypes.proofs.Numbers.{number_small, type_back}
-use Rattle.mig_pagetypes.specs.declared.page_type.PageType.{PageType}
 use Rattle.mig_pagetypes.specs.declared.page_type.PageType.TheVariants.{Notab, Broken, Xalloc}
 use Rattle.mig_pagetypes.specs.PageTypes.{number_of, type_of, type_or_none, type_has_data}
 use Rattle.mig_pagetypes.specs.FrameWords.{word_type, word_pfn, word_has_data, some_has_data}
 use Rattle.mig_records.specs.Words.{words, has_reserved_type, is_outside}
 use Rattle.mig_guest.specs.Tables.{EachEntry, IsWithin}
-use Rattle.mig_records_pages.specs.PageData.{body_of}
-use Rattle.mig_records_pages.proofs.PageTexts.{words_len}
-use Rattle.mig_canon.specs.Batched.{IsSendable, told}
 use Rattle.mig_canon.proofs.CanonMaps.{IsKept}
 use Rattle.mig_canon.proofs.CanonParts.{le32_first}
+use Rattle.std.specs.FinMap as maps
 
 -- a type of a guest of this kind stays
 stays : (kind : Kind) (t : PageType) → is_type_of kind t ≡ true → meant_type kind t ≡ t

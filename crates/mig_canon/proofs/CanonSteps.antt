@@ -1,21 +1,21 @@
 -- Records of a canonical stream one after another, each in its place.
-use Rattle.mig_canon.proofs.LawsCommon.{◌≡◌, ℕ, zero, suc, ◌+◌, ◌*◌, ◌≤◌, ◌<◌, ◌^◌, List, [], ◌∷◌, ◌++◌, length, map, Bool, true, false, nat_eq, Option, Some, None, refl, sym, ap, subst, ◌∙◌, arith, append_assoc, append-nil, length-append, ◌||◌, ◌&&◌, fold, is_some, AllByRecursion, list_any, flat_map, Kind, FrameMap, GuestOf, PartCode, code_number, PartKey, Part, PartMap, IsFormed, shape_of, set_parts, parts_at, canonical_bodies, contents_by_shape, IsRecordBody, part_body, SayAll, Record, records_of, records_in_order, key_of, part_record, vcpu_codes, vcpu_record, records_of_vcpu, vcpus_below, text_of, StreamRecord, Content, types_of, is_ended, Checks, Frames, Lists, Nothing, Sets, put_content, IsComplete, HasContent, Follows, Spells, one_more_record, flat_map-append, canonical_bodies_say, one_more}
-use Rattle.std.proofs.lemmas.List.{map-append}
+use Rattle.mig_canon.proofs.Common.{◌≡◌, ℕ, zero, suc, ◌+◌, ◌*◌, ◌≤◌, ◌<◌, ◌^◌, List, [], ◌∷◌, ◌++◌, length, map, Bool, true, false, nat_eq, Option, Some, None, refl, sym, ap, subst, ◌∙◌, arith, append_assoc, append-nil, length-append, ◌||◌, ◌&&◌, fold, is_some, AllByRecursion, list_any, flat_map, Kind, FrameMap, GuestOf, PartCode, code_number, PartKey, Part, PartMap, IsFormed, shape_of, set_parts, parts_at, contents_by_shape, IsRecordBody, part_body, SayAll, Record, records_of, records_in_order, key_of, part_record, vcpu_codes, vcpu_record, records_of_vcpu, vcpus_below, text_of, StreamRecord, Content, is_ended, Frames, Lists, Nothing, Sets, IsComplete, HasContent, Follows, Spells, flat_map-append, canonical_bodies_say, map-append, RecordType, type_of_number, spelled, sent}
+use Rattle.mig_records.specs.Shapes.{canonical_bodies}
+use Rattle.mig_restore_form.specs.Record.{types_of, placed_content}
+use Rattle.mig_restore_form.specs.Record.Content.{Checks}
+use Rattle.mig_restore_form.specs.Mean.{put_content}
+use Rattle.mig_restore_form.proofs.Meaning.{one_more_record}
+use Rattle.mig_bytes.specs.Sequences.Spells.{one_more}
 use Rattle.std.proofs.lemmas.List.Folds.{list_any-append}
-use Rattle.std.specs.FinMap as maps
-use Rattle.mig_headers.specs.declared.record_type.RecordType.{RecordType}
 use Rattle.mig_headers.specs.declared.record_type.RecordType.TheVariants.{StaticDataEnd, Verify, X86PvInfo, X86PvP2mFrames}
-use Rattle.mig_headers.specs.RecordTypes.{type_of_number}
-use Rattle.mig_records.specs.Records.{spelled}
 use Rattle.mig_order.specs.Order.{Earlier, some_earlier, earlier_in, among, content_records, vcpu_records as vcpu_types, fault_after, fault_of_type}
 use Rattle.mig_order.proofs.OrderLaw.{faultless_is_in_order}
 use Rattle.mig_restore_form.specs.Judging.{Opening}
-use Rattle.mig_restore_form.specs.Mean.{sent}
-use Rattle.mig_restore_form.specs.Record.{placed_content}
 use Rattle.mig_canon.proofs.CanonMaps.{with_parts}
 use Rattle.mig_canon.proofs.CanonOnce.{AtOnce}
 use Rattle.mig_canon.proofs.CanonParts.{is_record, Fits, fits_of}
 use Rattle.mig_canon.proofs.PvMaps.{set_found, vcpu_set, vcpu_parts, vcpus_more}
+use Rattle.std.specs.FinMap as maps
 
 abbrev pub opening : Kind → Opening
 opening kind = record { version = 3; kind = kind }

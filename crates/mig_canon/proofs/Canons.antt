@@ -1,11 +1,13 @@
 -- The records of an image from its headers to its end, stage by stage.
-use Rattle.mig_canon.proofs.LawsCommon.{◌≡◌, ℕ, ◌+◌, ◌*◌, ◌<◌, ◌^◌, List, [], ◌++◌, false, Option, Some, None, IsSome, refl, sym, subst, ◌∙◌, arith, append_assoc, le_refl, Kind, Hvm, Pv, GuestOf, FrameMap, PartMap, IsFew, IsFormed, IsTop, HasNoEmulators, p2m_key, p2m_body, p2m_record, p2m_records, Record, records_in_order, static_codes, last_codes, pv_last_codes, vcpus_below, info_records, last_records, Nothing, Lists, empty_guest, IsComplete, ends, static_end, IsWhole, no_part}
-use Rattle.std.specs.FinMap as maps
+use Rattle.mig_canon.proofs.Common.{◌≡◌, ℕ, ◌+◌, ◌*◌, ◌<◌, ◌^◌, List, [], ◌++◌, false, Option, Some, None, refl, sym, subst, ◌∙◌, arith, append_assoc, le_refl, Kind, Hvm, Pv, GuestOf, FrameMap, PartMap, IsFew, IsFormed, IsTop, HasNoEmulators, p2m_key, p2m_body, p2m_records, Record, records_in_order, static_codes, last_codes, pv_last_codes, vcpus_below, info_records, last_records, Nothing, Lists, empty_guest, IsComplete}
+use Rattle.std.proofs.Common.{IsSome}
+use Rattle.mig_canon.specs.Canon.{p2m_record, all_vcpus}
+use Rattle.mig_restore_form.specs.Spelled.HasContent.{ends, static_end, info, p2m_frames}
+use Rattle.mig_pvtables.specs.Whole.{IsWhole}
+use Rattle.mig_bytes.specs.Sequences.Spells.{no_part}
 use Rattle.mig_pvtables.proofs.HvmGuests.{hvm_complete}
 use Rattle.mig_pvtables.proofs.PvGuests.{pv_complete}
-use Rattle.mig_canon.specs.Canon.{all_vcpus}
 use Rattle.mig_restore_form.specs.Mean.{sent}
-use Rattle.mig_restore_form.specs.Spelled.HasContent.{info, p2m_frames}
 use Rattle.mig_canon.proofs.CanonMaps.{with_parts, holds_none, holds_codes, holds_all}
 use Rattle.mig_canon.proofs.CanonOnce.{all_at_once}
 use Rattle.mig_canon.proofs.CanonParts.{Fits}
@@ -13,6 +15,7 @@ use Rattle.mig_canon.proofs.CanonSteps.{guest_with, State, looser, unmoved, more
 use Rattle.mig_canon.proofs.CanonStages.{start, begun, settled, listed, framed, info_step, p2m_step, hvm_written, pv_written, vcpus_written}
 use Rattle.mig_canon.proofs.PvMaps.{static_set, list_set, last_set, pv_parts, pv_parts_again, list_is_set}
 use Rattle.mig_canon.proofs.PvSays.{info_body, info_says, p2m_says, p2m_body_len, vcpu_part_says}
+use Rattle.std.specs.FinMap as maps
 
 -- ---- what the records mean
 

@@ -3,7 +3,6 @@ pub mod Wholes
 pub mod Spelling
 pub mod Batches
 pub mod PvRecords
-pub mod LawsCommon
 pub mod CanonMaps
 pub mod CanonParts
 pub mod CanonOnce

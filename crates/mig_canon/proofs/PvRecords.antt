@@ -1,38 +1,15 @@
 -- How the records of a PV guest alone are spelled.
-use Rattle.mig_canon.proofs.Common.{◌≡◌, ℕ, ◌+◌, ◌<◌, ◌≤◌, ◌^◌, List, [], ◌∷◌, ◌++◌, length, take, drop, replicate, Bool, true, false, cond, Option, Some, None, Result, refl, sym, ap, subst, ◌∙◌, arith, append_assoc, append-nil, take-append-drop, flat_map-append, flat_map, All, Appends, AppendsPart, Puts, puts_then, puts_stop, puts_same, padding_len, head_of, Part, parts_of, code_number, shape_of, parts_at, part_body, Record, text_of, key_of, part_record, vcpu_record, records_of_vcpu, vcpus_below, p2m_body, piece, IsShortPart}
-use Rattle.std.specs.Prelude.{◌==◌}
-use Rattle.std.specs.List.{range_with_len}
+use Rattle.mig_canon.proofs.Common.{◌≡◌, ℕ, ◌+◌, ◌<◌, ◌≤◌, ◌^◌, List, [], ◌∷◌, ◌++◌, length, take, drop, replicate, Bool, true, false, cond, Option, Some, None, refl, sym, ap, subst, ◌∙◌, arith, append_assoc, append-nil, take-append-drop, flat_map-append, flat_map, All, Appends, AppendsPart, puts_then, puts_stop, puts_same, padding_len, head_of, Part, parts_of, code_number, shape_of, parts_at, part_body, Record, text_of, key_of, part_record, vcpu_record, records_of_vcpu, vcpus_below, p2m_body, piece, IsShortPart, ◌==◌, range_with_len, eq_by_cmp, find, find-where_key, Appends-trans, eqb-true, eq-eqb, map-id, All-head, All-tail, map-range_with_len_more, little_bytes, Pv, top_limit, GuestOf, IsFormed, IsTop, width_of, part_cmp, row_of, p2m_key, PartCode, P2mFrames, VcpuBasic, VcpuExtended, VcpuXsave, VcpuMsrs, PartKey, tied, part_exact, numbered, spelled, vcpu_codes, text_one, text_join, record_text}
+use Rattle.std.proofs.Common.{Result}
+use Rattle.mig_bytes.specs.Bytes.{Puts}
 use Rattle.std.specs.Result.{IsErrAnd}
-use Rattle.std.specs.Ordering.{eq_by_cmp}
-use Rattle.std.specs.FinMap as maps
-use Rattle.std.specs.FinMap.{find}
-use Rattle.std.specs.FinMap.Entries.{find-where_key}
-use Rattle.std.proofs.KnownBytes.{Appends-trans}
-use Rattle.std.proofs.lemmas.Bool.{eqb-true, eq-eqb}
-use Rattle.std.proofs.lemmas.List.{map-id}
-use Rattle.std.proofs.lemmas.List.Elements.{All-head, All-tail}
-use Rattle.std.proofs.lemmas.List.FromFn.{map-range_with_len_more, take-map-range_with_len}
-use Rattle.byteorder.specs.Endian.{little_bytes}
+use Rattle.std.proofs.lemmas.List.FromFn.{take-map-range_with_len}
 use Rattle.mig_bytes.specs.declared.failure.WriteFailed.{WriteFailed}
-use Rattle.mig_headers.specs.declared.kind.Kind.TheVariants.{Pv}
-use Rattle.mig_pagetypes.specs.Limits.{top_limit}
-use Rattle.mig_guest.specs.Guests.{GuestOf}
-use Rattle.mig_guest.specs.Formed.{IsFormed, IsTop, width_of}
-use Rattle.mig_guest.specs.Order.{part_cmp}
-use Rattle.mig_guest.specs.PartCodes.{row_of}
-use Rattle.mig_guest.specs.PartKeys.{p2m_key}
-use Rattle.mig_guest.specs.declared.part_code.PartCode.{PartCode}
-use Rattle.mig_guest.specs.declared.part_code.PartCode.TheVariants.{P2mFrames, VcpuBasic, VcpuExtended, VcpuXsave, VcpuMsrs}
-use Rattle.mig_guest.specs.declared.part_key.PartKey.{PartKey}
-use Rattle.mig_guest.proofs.KeyedMaps.{tied}
-use Rattle.mig_guest.proofs.PartOrder.{part_exact}
-use Rattle.mig_guest.proofs.PartRows.{numbered}
 use Rattle.mig_records.specs.Shapes.{of_vcpu}
-use Rattle.mig_records.specs.Records.{spelled}
-use Rattle.mig_canon.specs.Canon.{vcpu_codes, all_vcpus}
-use Rattle.mig_records.proofs.RecordTexts.{text_one, text_join, record_text}
+use Rattle.mig_canon.specs.Canon.{all_vcpus}
 use Rattle.mig_canon.proofs.Spelling.{texts_of}
 use Rattle.mig_canon.proofs.Wholes.{short_parts}
+use Rattle.std.specs.FinMap as maps
 
 -- ---- the P2M frames
 

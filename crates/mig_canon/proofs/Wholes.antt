@@ -1,21 +1,10 @@
 -- What a well formed guest says of its parts, code by code.
-use Rattle.mig_canon.proofs.Common.{◌≡◌, ℕ, zero, suc, ◌+◌, ◌*◌, ◌<◌, ◌≤◌, ◌^◌, List, [], ◌∷◌, length, map, true, Option, Some, None, refl, sym, ap, subst, ◌∙◌, arith, All, Part, parts_of, parts_after, shape_of, parts_at, part_body, bodies_by_shape, contents_by_shape, IsRow, IsShaped, SayAll, IsShortPart}
-use Rattle.std.specs.Prelude.{◌==◌}
-use Rattle.std.proofs.lemmas.Bool.{eqb-true}
-use Rattle.std.proofs.lemmas.List.Elements.{All-nil, All-cons, All-head, All-filter, filter_passes}
-use Rattle.std.specs.Ordering.{is_lt}
-use Rattle.mig_guest.specs.declared.part_code.PartCode.{PartCode}
-use Rattle.mig_guest.specs.declared.part_key.PartKey.{PartKey}
-use Rattle.mig_guest.specs.Order.{part_cmp}
-use Rattle.mig_guest.specs.Guests.{GuestOf}
-use Rattle.mig_records.specs.declared.layout.Layout.{Layout}
-use Rattle.mig_records.specs.declared.shape.Shape.{Shape}
-use Rattle.mig_records.specs.declared.shape.Shape.TheVariants.{Table, Single, Named, Chain, Other}
-use Rattle.mig_records.specs.Layouts.{AreWidths, entry_width, front_width, table_text}
-use Rattle.mig_records.proofs.Canonical.{canonical_bodies_say}
+use Rattle.mig_canon.proofs.Common.{◌≡◌, ℕ, zero, suc, ◌+◌, ◌*◌, ◌<◌, ◌≤◌, ◌^◌, List, [], ◌∷◌, length, map, true, Option, Some, None, refl, sym, ap, subst, ◌∙◌, arith, All, Part, parts_of, parts_after, shape_of, parts_at, part_body, bodies_by_shape, contents_by_shape, IsShaped, SayAll, IsShortPart, ◌==◌, eqb-true, All-nil, All-cons, All-head, is_lt, PartCode, PartKey, part_cmp, GuestOf, Layout, Shape, Table, Single, Named, Chain, Other, table_text, canonical_bodies_say, IsFormed}
+use Rattle.mig_records.specs.Shapes.{IsRow}
+use Rattle.std.proofs.lemmas.List.Elements.{All-filter, filter_passes}
+use Rattle.mig_records.specs.Layouts.{AreWidths, entry_width, front_width}
 use Rattle.mig_records.proofs.Rows.{all_rows}
 use Rattle.mig_records.proofs.TableSpelled.{table_len}
-use Rattle.mig_guest.specs.Formed.{IsFormed}
 
 -- ---- a walk over a code
 

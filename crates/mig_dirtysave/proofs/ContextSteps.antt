@@ -1,27 +1,18 @@
 -- A context whose fields are judged and renamed one by one, each at its own place; and contexts one after another.
-use Rattle.std.proofs.Common.{arith, ◌≡◌, ℕ, ◌<◌, List, [], ◌∷◌, map, filter, Bool, true, false, cond, Option, Some, None, refl, sym, ap, subst, ◌∙◌}
-use Rattle.std.specs.Prelude.{◌==◌, IfSome, find}
-use Rattle.std.specs.Option.{option_map, option_or}
+use Rattle.mig_dirtysave.proofs.Common.{arith, ◌≡◌, ℕ, ◌<◌, List, [], ◌∷◌, map, Bool, true, false, cond, Option, Some, None, refl, sym, ap, subst, ◌∙◌, ◌==◌, IfSome, find, option_map, option_or, PartKey, gdt_ents, part_cmp, Part, PartMap, parts_after, part_exact, part_total, each_value, only, first_some, field_numbers, field_value, frame_of_field, in_fields, FieldsRenamed}
+use Rattle.std.proofs.Common.{filter}
 use Rattle.std.specs.Ordering.{is_lt, eq_by_cmp}
-use Rattle.std.specs.FinMap as maps
 use Rattle.std.proofs.lemmas.Bool.{le-ltb}
-use Rattle.mig_guest.specs.declared.part_key.PartKey.{PartKey}
-use Rattle.mig_guest.specs.Formed.{gdt_ents}
-use Rattle.mig_guest.specs.Order.{part_cmp}
-use Rattle.mig_guest.specs.Parts.{Part, PartMap, parts_of, parts_after}
+use Rattle.mig_guest.specs.Parts.{parts_of}
 use Rattle.mig_guest.proofs.KeyedMaps.{shown, tied, kept_shown}
 use Rattle.mig_guest.proofs.PartCursor.{not_itself}
-use Rattle.mig_guest.proofs.PartOrder.{part_exact, part_total}
-use Rattle.mig_pvtables.specs.Blank.{each_value}
-use Rattle.mig_pvtables.specs.BlankSteps.{only}
-use Rattle.mig_pvtables.specs.Faults.{first_some, field_numbers}
-use Rattle.mig_pvtables.specs.VcpuContexts.{Usage, field_place, field_value, frame_of_field}
+use Rattle.mig_pvtables.specs.VcpuContexts.{Usage, field_place}
 use Rattle.mig_pvtables.proofs.BlankSays.{field_there}
 use Rattle.mig_pvtables.proofs.EachValue.{entries_each}
 use Rattle.mig_pvtables.proofs.LongSteps.{still}
-use Rattle.mig_pvtables.proofs.Walks.{in_fields, context_there}
+use Rattle.mig_pvtables.proofs.Walks.{context_there}
 use Rattle.mig_host_view.specs.LocaliseSteps.{is_field_below}
-use Rattle.mig_host_view.proofs.LocaliseContexts.{FieldsRenamed}
+use Rattle.std.specs.FinMap as maps
 
 -- ---- one context
 

@@ -1,34 +1,16 @@
 -- What a save has written where it stopped early.
-use Rattle.std.proofs.Common.{◌≡◌, ℕ, ◌+◌, ◌≤◌, Bool, true, false, List, [], ◌∷◌, ◌++◌, length, take, map, Option, refl, sym, ap, subst, ◌∙◌, arith, append_assoc, append-nil, inl, inr}
-use Rattle.std.specs.List.{AllByRecursion}
-use Rattle.std.specs.Io.KnownBytes.{Appends, append_known}
-use Rattle.std.proofs.KnownBytes.{Appends-trans}
-use Rattle.mig_bytes.specs.Bytes.{AppendsPart}
-use Rattle.mig_headers.specs.declared.kind.Kind.{Kind}
-use Rattle.mig_headers.specs.declared.unsound.Unsound.{Unsound}
-use Rattle.mig_guest.specs.Formed.{IsFormed}
-use Rattle.mig_guest.specs.Guests.{GuestOf}
-use Rattle.mig_guest.specs.Parts.{PartMap}
-use Rattle.mig_records.specs.Records.{spelled, Record, text_of}
-use Rattle.mig_canon.specs.Canon.{headers}
-use Rattle.mig_records.proofs.RecordTexts.{text_join, text_one}
-use Rattle.mig_canon.specs.CanonStream.{has_emulators, is_of_converter, opening_text, wrapper_opening, wrapper_closing}
+use Rattle.mig_dirtysave.proofs.Common.{◌≡◌, ℕ, ◌+◌, ◌≤◌, Bool, true, false, List, [], ◌∷◌, ◌++◌, length, take, map, Option, refl, sym, ap, subst, ◌∙◌, arith, append_assoc, append-nil, inl, inr, AllByRecursion, Appends, append_known, Appends-trans, AppendsPart, Kind, Unsound, IsFormed, GuestOf, PartMap, spelled, Record, text_of, headers, text_join, text_one, has_emulators, opening_text, wrapper_opening, wrapper_closing, FrameTold, telling_record, all_told, WroteAll, WroteSome, IsRecordWithin, AreRecordsWithin, History, MachineState, total, FramesSaved, text_before, ClosesStream, WroteNoStream, first_records, first_within, some_records, part_behind, IsLittleBehind}
+use Rattle.mig_canon.specs.CanonStream.{is_of_converter}
 use Rattle.mig_libxl.proofs.Around.{opening_none, opening_some}
-use Rattle.mig_records_pages.specs.Told.{FrameTold, telling_record, all_told}
-use Rattle.mig_records_pages.specs.Written.{WroteAll, WroteSome, IsRecordWithin, AreRecordsWithin}
 use Rattle.mig_records_pages.specs.Batches.{IsBehind}
 use Rattle.mig_records_pages.proofs.Written.{all_behind, some_behind}
-use Rattle.mig_guest.specs.History.{History, no_history}
-use Rattle.mig_guest.specs.MachineStates.{MachineState}
-use Rattle.mig_dirtysave_rounds.specs.Parts.{total}
-use Rattle.mig_dirtysave_rounds.specs.Live.{FramesSaved}
+use Rattle.mig_guest.specs.History.{no_history}
 use Rattle.mig_dirtysave_rounds.proofs.Saves.{size_none}
-use Rattle.mig_dirtysave_parts.specs.SaveTexts.{text_before, StopsBehind, ClosesStream}
-use Rattle.mig_dirtysave.specs.Unread.{WroteNoStream}
+use Rattle.mig_dirtysave_parts.specs.SaveTexts.{StopsBehind}
 use Rattle.mig_dirtysave.proofs.Written.{bare_headers, bare_some, wrapped_behind, wrapped_headers, wrapped_opening, wrapped_some}
-use Rattle.mig_dirtysave_parts.proofs.Codes.{first_records, first_within, are_within}
-use Rattle.mig_dirtysave_parts.proofs.Texts.{some_records, appends_first, part_behind}
-use Rattle.mig_dirtysave.specs.SaveAnswers.{WroteMost, IsLittleBehind}
+use Rattle.mig_dirtysave_parts.proofs.Codes.{are_within}
+use Rattle.mig_dirtysave_parts.proofs.Texts.{appends_first}
+use Rattle.mig_dirtysave.specs.SaveAnswers.{WroteMost}
 use Rattle.mig_dirtysave.proofs.Wrappers.{closing_cut}
 
 -- the headers of an image were written, records, some of which are those of batches, and a part of one more, perhaps none; of

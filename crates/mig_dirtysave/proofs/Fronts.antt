@@ -1,16 +1,14 @@
 -- The first 8 bytes of a record fix its type and its length, so records read one after another can be told in one way.
-use Rattle.std.proofs.Common.{◌≡◌, ◌≢◌, ℕ, ◌+◌, List, [], ◌∷◌, ◌++◌, length, take, drop, true, false, refl, sym, ap, ◌∙◌, arith, append_assoc, append-nil, length-append, take-append-drop, ◌==◌}
-use Rattle.std.proofs.lemmas.List.{length-take, length-drop, drop-append-le}
+use Rattle.mig_dirtysave.proofs.Common.{◌≡◌, ℕ, ◌+◌, List, [], ◌∷◌, ◌++◌, length, take, drop, true, false, refl, sym, ap, ◌∙◌, arith, append_assoc, append-nil, length-append, take-append-drop, length-take, AllByRecursion, list_any, or_parts, padding_len, IsRecord, Record, AreRecords, HaveNoEnd}
+use Rattle.std.proofs.Common.{◌≢◌, ◌==◌}
+use Rattle.std.proofs.lemmas.List.{length-drop, drop-append-le}
 use Rattle.std.proofs.Math.Seq.{take-append_seam, drop-append_seam}
 use Rattle.std.proofs.lemmas.Grind.{common_steps}
-use Rattle.std.specs.List.{AllByRecursion, list_any}
-use Rattle.std.proofs.lemmas.Bool.{eqb-false, or_parts}
+use Rattle.std.proofs.lemmas.Bool.{eqb-false}
 use Rattle.byteorder.specs.Endian.{little_number}
 use Rattle.byteorder.specs.Numbers.{little_from-append}
-use Rattle.mig_bytes.specs.Bytes.{padding_len}
 use Rattle.mig_bytes.specs.Fields.{le32}
-use Rattle.mig_records.specs.Records.{IsRecord, Record}
-use Rattle.mig_dirtysave.specs.Unended.{AreRecords, HaveNoEnd, IsCutRecord}
+use Rattle.mig_dirtysave.specs.Unended.{IsCutRecord}
 
 pub type_front : (head more : List ℕ) → length head ≡ 8 → le32 (head ++ more) 0 ≡ le32 head 0
 unfolding le32

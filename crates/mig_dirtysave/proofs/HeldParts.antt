@@ -1,32 +1,15 @@
 -- The parts that a guest holds of a host, brought to those of the guest that the host is seen as.
-use Rattle.std.proofs.Common.{◌≡◌, ℕ, List, length, Bool, true, false, cond, Option, Some, None, refl, sym, ap, subst, ◌∙◌}
-use Rattle.std.specs.Prelude.{◌==◌, IsSome, IfSome, is_some}
-use Rattle.std.specs.Option.{option_map}
-use Rattle.std.specs.FinMap as maps
-use Rattle.std.proofs.lemmas.Bool.{and_parts, eqb-true}
-use Rattle.mig_headers.specs.declared.kind.Kind.{Kind}
-use Rattle.mig_headers.specs.declared.kind.Kind.TheVariants.{Pv}
-use Rattle.mig_guest.specs.declared.part_key.PartKey.{PartKey}
+use Rattle.mig_dirtysave.proofs.Common.{◌≡◌, ℕ, List, length, Bool, true, false, cond, Option, Some, None, refl, sym, ap, subst, ◌∙◌, ◌==◌, IsSome, IfSome, is_some, option_map, and_parts, eqb-true, Kind, Pv, PartKey, GuestOf, HostOf, IsValid, pfn_in, part_cmp, row_of, PartMap, length_longs, part_exact, part_total, one_code, each_value, blanked_part, only, is_used_somewhere, get_each, stays_each, normalised_of, guest_in, view, with_view}
 use Rattle.mig_guest.specs.declared.part_code.PartCode.TheVariants.{SharedInfo}
-use Rattle.mig_guest.specs.Guests.{GuestOf}
-use Rattle.mig_guest.specs.Hosts.{HostOf, IsValid, pfn_in}
-use Rattle.mig_guest.specs.Order.{part_cmp}
-use Rattle.mig_guest.specs.PartCodes.{row_of}
 use Rattle.mig_guest.specs.PartKeys.{shared_key}
-use Rattle.mig_guest.specs.Parts.{PartMap}
-use Rattle.mig_guest.proofs.Longs.{length_longs}
-use Rattle.mig_guest.proofs.PartOrder.{part_exact, part_total}
-use Rattle.mig_guest.proofs.PartRows.{one_code}
-use Rattle.mig_pvtables.specs.Blank.{each_value, blanked_part}
-use Rattle.mig_pvtables.specs.BlankSteps.{only, blanked_code}
-use Rattle.mig_pvtables.specs.VcpuContexts.{is_used_somewhere, blanked_context, blanked_shared}
+use Rattle.mig_pvtables.specs.BlankSteps.{blanked_code}
+use Rattle.mig_pvtables.specs.VcpuContexts.{blanked_context, blanked_shared}
 use Rattle.mig_pvtables.proofs.BlankGuests.{HasSolePage, HasLongPage, page_still, parts_blanked}
-use Rattle.mig_pvtables.proofs.EachValue.{get_each, some_each, stays_each}
+use Rattle.mig_pvtables.proofs.EachValue.{some_each}
 use Rattle.mig_host_view.specs.Localised.{renamed_part}
-use Rattle.mig_host_view.specs.Normalised.{normalised_of}
-use Rattle.mig_host_view.specs.View.{guest_in, view}
 use Rattle.mig_host_view.proofs.LocalisedGuests.{from_context}
-use Rattle.mig_dirtysave.specs.Paused.{HoldsOf, with_names, with_view}
+use Rattle.mig_dirtysave.specs.Paused.{HoldsOf, with_names}
+use Rattle.std.specs.FinMap as maps
 
 -- ---- a host's shared page
 

@@ -1,16 +1,5 @@
 -- The frames of an HVM host are sent as they are, and are those of its view.
-use Rattle.std.proofs.Common.{◌≡◌, true, None, ap, subst}
-use Rattle.std.specs.Cmp.{nat_cmp_total}
-use Rattle.std.specs.FinMap.{nat_cmp-IsAntisymmetric}
-use Rattle.mig_headers.specs.declared.kind.Kind.TheVariants.{Hvm}
-use Rattle.mig_pagetypes.specs.PageTypes.{level_of}
-use Rattle.mig_guest.specs.Frames.{FrameOf, is_type_of}
-use Rattle.mig_guest.specs.Hosts.{HostOf, HostFrame, IsValid}
-use Rattle.mig_pvtables.proofs.EachValue.{same_each}
-use Rattle.mig_host_view.specs.View.{hvm_view, without_machine}
-use Rattle.mig_guest.specs.Footprints.{footprint_of, names_in, table_in}
-use Rattle.mig_dirtysave_rounds.specs.Forms.{form_page, form_of_print}
-use Rattle.mig_dirtysave_rounds.specs.Live.{forms}
+use Rattle.mig_dirtysave.proofs.Common.{◌≡◌, true, None, ap, subst, nat_cmp_total, nat_cmp-IsAntisymmetric, Hvm, level_of, FrameOf, is_type_of, HostOf, HostFrame, IsValid, same_each, hvm_view, without_machine, footprint_of, names_in, table_in, form_page, form_of_print, forms}
 use Rattle.mig_dirtysave.proofs.Told.{no_level}
 
 module _ (h : HostOf) (valid : IsValid h) (hvm : h.kind ≡ Hvm) where

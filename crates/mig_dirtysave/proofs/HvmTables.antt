@@ -1,13 +1,9 @@
 -- What is found in the tables of a valid HVM host while it is read: nothing, since it has none.
+use Rattle.mig_dirtysave.proofs.Common.{Unsound, HostOf, HostFrame, IsValid, footprint_of, footprint, table_in, superpage_in, superpage_slot, lost_in, lost_slot, IsUnsound}
 use Rattle.mig_host_view.proofs.Common.{◌≡◌, ℕ, Option, Some, None, refl, sym, ap, ◌∙◌, option_map, Hvm}
-use Rattle.std.specs.FinMap as maps
-use Rattle.mig_headers.specs.declared.unsound.Unsound.{Unsound}
-use Rattle.mig_headers.specs.declared.unsound.Unsound.TheVariants as unsounds
-use Rattle.mig_guest.specs.Hosts.{HostOf, HostFrame, IsValid}
-use Rattle.mig_guest.specs.Footprints.{footprint_of, footprint, table_in}
-use Rattle.mig_dirtysave_rounds.specs.Forms.{superpage_in, superpage_slot, lost_in, lost_slot}
-use Rattle.mig_dirtysave_rounds.specs.Live.{IsUnsound}
 use Rattle.mig_dirtysave_parts.proofs.Rows.{no_level, hvm_type}
+use Rattle.std.specs.FinMap as maps
+use Rattle.mig_headers.specs.declared.unsound.Unsound.TheVariants as unsounds
 
 module _ (h : HostOf) (valid : IsValid h) (hvm : h.kind ≡ Hvm) where
   no_superpage : (pfn : ℕ) → superpage_slot (footprint h.frames pfn) ≡ None

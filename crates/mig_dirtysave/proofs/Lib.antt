@@ -1,3 +1,4 @@
+pub mod Common
 pub mod Wrappers
 pub mod Ends
 pub mod Streams

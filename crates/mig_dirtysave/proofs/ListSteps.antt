@@ -1,25 +1,17 @@
 -- The list of the P2M frames walked with a mark for each frame number.
-use Rattle.std.proofs.Common.{arith, ◌≡◌, ℕ, ◌+◌, ◌*◌, ◌/◌, ◌<◌, ◌≤◌, List, length, get_or, Bool, true, false, cond, not, Option, Some, None, refl, sym, ap, subst, inl, inr, ◌∙◌}
-use Rattle.std.specs.Prelude.{◌==◌, ◌&&◌, ◌||◌, IsSome, is_some, find}
-use Rattle.std.specs.List.{list_any, range_with_len}
-use Rattle.std.specs.FinMap as maps
-use Rattle.std.proofs.Math.ListN.{set}
-use Rattle.std.proofs.lemmas.Bool.{cases_eq, eq-eqb, ne_eqb, lt-ltb, or_parts}
-use Rattle.std.proofs.lemmas.List.{get_or_past, get_or-set_same, get_or-set_other}
+use Rattle.mig_dirtysave.proofs.Common.{arith, ◌≡◌, ℕ, ◌+◌, ◌*◌, ◌<◌, ◌≤◌, List, length, get_or, Bool, true, false, cond, Option, Some, None, refl, sym, ap, subst, inl, inr, ◌∙◌, ◌==◌, ◌&&◌, ◌||◌, IsSome, is_some, find, list_any, range_with_len, set, or_parts, get_or_past, PageType, long_at, p2m_key, PartMap, find_ill_listed, Standing, types_seen}
+use Rattle.std.proofs.Common.{◌/◌, not}
+use Rattle.std.proofs.lemmas.Bool.{cases_eq, eq-eqb, ne_eqb, lt-ltb}
+use Rattle.std.proofs.lemmas.List.{get_or-set_same, get_or-set_other}
 use Rattle.std.proofs.lemmas.List.Folds.{list_any_at}
 use Rattle.std.proofs.lemmas.List.FromFn.{length-range_with_len, get_or-range_with_len}
-use Rattle.mig_pagetypes.specs.declared.page_type.PageType.{PageType}
-use Rattle.mig_guest.specs.Longs.{long_at}
-use Rattle.mig_guest.specs.PartKeys.{p2m_key}
-use Rattle.mig_guest.specs.Parts.{PartMap}
 use Rattle.mig_pvtables.specs.Faults.{slots, is_notab, is_this}
 use Rattle.mig_pvtables.specs.P2mFrames.{count_in, listed, listed_in}
 use Rattle.mig_pvtables.proofs.Searches.{any_in_range, any_more, find_in_range}
 use Rattle.mig_pvtables.proofs.Slots.{first_in_range}
-use Rattle.mig_host_laws.specs.FirstRow.{has_some, is_ill_listed, find_ill_listed}
-use Rattle.mig_host_laws.specs.Standing.{Standing}
+use Rattle.mig_host_laws.specs.FirstRow.{has_some, is_ill_listed}
 use Rattle.mig_dirtysave.specs.Marks.{is_once_too_often}
-use Rattle.mig_dirtysave.specs.Paused.{types_seen}
+use Rattle.std.specs.FinMap as maps
 
 -- ---- a range
 

@@ -1,29 +1,16 @@
 -- What stays of a paused machine while machine frames are looked up: its host, and what a history says of rounds and reads.
-use Rattle.std.proofs.Common.{◌≡◌, ℕ, ◌+◌, ◌≤◌, List, [], ◌∷◌, ◌++◌, length, take, get_or, Option, Some, None, map, min, refl, sym, ap, subst, ◌∙◌, arith, ◌⊎◌, inl, inr}
-use Rattle.std.specs.Prelude.{Result, Ok, Err, IsErrAnd}
+use Rattle.mig_dirtysave.proofs.Common.{◌≡◌, ℕ, ◌+◌, ◌≤◌, List, [], ◌∷◌, ◌++◌, length, take, get_or, Option, Some, None, map, refl, sym, ap, subst, ◌∙◌, arith, ◌⊎◌, inl, inr, Result, Ok, Err, get_or_past, length-take, option_map, Kind, PageType, HostOf, HostFrame, IsValid, headers, text_of, telling_record, view, wrapper_opening, wrapper_closing, AcceptedStream, History, MachineState, total, OnlyLooksUp, HasTypes, Unsound, SaveWritten, IsTrusted}
+use Rattle.std.proofs.Common.{min}
+use Rattle.std.specs.Prelude.{IsErrAnd}
 use Rattle.std.proofs.lemmas.Bool.{cases_lt}
-use Rattle.std.proofs.lemmas.List.{get_or-take, get_or_past, length-take}
-use Rattle.std.specs.Option.{option_map}
-use Rattle.std.specs.FinMap as maps
-use Rattle.mig_headers.specs.declared.kind.Kind.{Kind}
-use Rattle.mig_pagetypes.specs.declared.page_type.PageType.{PageType}
-use Rattle.mig_guest.specs.Hosts.{HostOf, HostFrame, IsValid}
-use Rattle.mig_canon.specs.Canon.{headers}
-use Rattle.mig_records.specs.Records.{text_of}
-use Rattle.mig_records_pages.specs.Told.{telling_record}
-use Rattle.mig_host_view.specs.View.{view}
-use Rattle.mig_canon.specs.CanonStream.{wrapper_opening, wrapper_closing}
-use Rattle.mig_libxl_form.specs.Spelled.{AcceptedStream}
-use Rattle.mig_guest.specs.History.{History}
-use Rattle.mig_guest.specs.MachineStates.{MachineState}
+use Rattle.std.proofs.lemmas.List.{get_or-take}
 use Rattle.mig_guest.specs.Pfns.{Pfns, members, size}
 use Rattle.mig_guest.specs.Rounds.{Rounds, Tight, all_read, rounds_read}
-use Rattle.mig_dirtysave_rounds.specs.Parts.{total, total_taken}
+use Rattle.mig_dirtysave_rounds.specs.Parts.{total_taken}
 use Rattle.mig_dirtysave_rounds.specs.Live.{IsTight, type_in}
-use Rattle.mig_dirtysave.specs.Paused.{OnlyLooksUp, HasTypes}
-use Rattle.mig_headers.specs.declared.unsound.Unsound.{Unsound}
-use Rattle.mig_dirtysave.specs.SaveAnswers.{SaveWritten, IsTrusted, IfUnsound}
+use Rattle.mig_dirtysave.specs.SaveAnswers.{IfUnsound}
 use Rattle.mig_dirtysave.specs.declared.answer.SaveAnswer.{SaveAnswer}
+use Rattle.std.specs.FinMap as maps
 use Rattle.mig_dirtysave.specs.declared.answer.SaveAnswer.TheVariants as answers
 
 -- ---- histories

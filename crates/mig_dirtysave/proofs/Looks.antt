@@ -1,7 +1,6 @@
 -- Look-ups in a paused machine, one after another.
-use Rattle.std.proofs.Common.{◌≡◌, refl, ◌∙◌}
-use Rattle.mig_guest.specs.MachineStates.{MachineState, Ran}
-use Rattle.mig_dirtysave.specs.Paused.{OnlyLooksUp}
+use Rattle.mig_dirtysave.proofs.Common.{◌≡◌, refl, ◌∙◌, MachineState, OnlyLooksUp}
+use Rattle.mig_guest.specs.MachineStates.{Ran}
 
 ran_none : (s : MachineState) → Ran s s s.log
 ran_none s = record {

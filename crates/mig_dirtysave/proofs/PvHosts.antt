@@ -1,41 +1,19 @@
 -- The guest that is sent of a PV host: the view's parts with the frames as they are sent. Its blank form is the view, and it
 -- is complete.
-use Rattle.std.proofs.Common.{◌≡◌, ℕ, List, length, Option, Some, refl, sym, ap, subst, ◌∙◌, arith}
-use Rattle.std.specs.Prelude.{is_some, IsSome}
-use Rattle.std.specs.Cmp.{nat_cmp_total}
-use Rattle.std.specs.FinMap as maps
-use Rattle.std.specs.FinMap.{nat_cmp-IsAntisymmetric}
-use Rattle.mig_headers.specs.declared.kind.Kind.{Kind}
-use Rattle.mig_headers.specs.declared.kind.Kind.TheVariants.{Pv}
-use Rattle.mig_pagetypes.specs.PageTypes.{level_of}
-use Rattle.mig_guest.proofs.PartOrder.{part_exact, part_total}
-use Rattle.mig_guest.specs.declared.table.Entry.{Entry}
-use Rattle.mig_guest.specs.declared.table.Entry.TheVariants.{Frame}
-use Rattle.mig_guest.specs.Formed.{HasNoEmulators, IsFormed, IsGuestFrame}
-use Rattle.mig_guest.specs.Frames.{FrameOf, FrameMap}
-use Rattle.mig_guest.specs.Guests.{GuestOf}
-use Rattle.mig_guest.specs.Hosts.{HostOf, HostFrame, IsValid, pfn_in}
-use Rattle.mig_guest.specs.PartKeys.{p2m_key}
-use Rattle.mig_pvtables.specs.Blank.{each_value, blanked_frame, blanked_page, blanked_part, blank, blank_of}
-use Rattle.mig_pvtables.specs.Faults.{type_at, fits_field}
+use Rattle.mig_dirtysave.proofs.Common.{◌≡◌, ℕ, List, length, Option, Some, refl, sym, ap, subst, ◌∙◌, arith, is_some, IsSome, nat_cmp_total, nat_cmp-IsAntisymmetric, Kind, Pv, level_of, part_exact, part_total, Entry, Frame, IsFormed, IsGuestFrame, FrameOf, FrameMap, GuestOf, HostOf, HostFrame, IsValid, pfn_in, p2m_key, each_value, blanked_page, blanked_part, blank, type_at, fits_field, is_used_somewhere, field_value, frame_of_field, IsWhole, same_each, stays_each, normalised_of, IsSound, view, guest_in, top_of, without_machine, viewed_whole, footprint_of, form_of_print, forms}
+use Rattle.mig_guest.specs.Formed.{HasNoEmulators}
+use Rattle.mig_pvtables.specs.Blank.{blanked_frame, blank_of}
 use Rattle.mig_pvtables.specs.P2mFrames.{place_in, place_of}
-use Rattle.mig_pvtables.specs.VcpuContexts.{is_used_somewhere, field_value, frame_of_field}
-use Rattle.mig_pvtables.specs.Whole.{IsWhole}
 use Rattle.mig_pvtables.specs.WholePv.{AreP2mFrames, IsCompletePv}
 use Rattle.mig_pvtables.proofs.BlankShape.{table_unlisted, entries_back, type_there, frame_there}
-use Rattle.mig_pvtables.proofs.EachValue.{to_each, len_each, each_each, same_each, stays_each}
+use Rattle.mig_pvtables.proofs.EachValue.{to_each, len_each, each_each}
 use Rattle.mig_pvtables.proofs.PvGuests.{pv_complete}
 use Rattle.mig_pvtables.proofs.SameShape.{kept_p2m}
 use Rattle.mig_host_view.specs.Localised.{renamed, renamed_frame}
-use Rattle.mig_host_view.specs.Normalised.{normalised_of}
-use Rattle.mig_host_view.specs.Sound.{IsSound}
-use Rattle.mig_host_view.specs.View.{view, guest_in, top_of, without_machine}
-use Rattle.mig_host_view.proofs.ViewedGuests.{viewed_whole, viewed_blank}
+use Rattle.mig_host_view.proofs.ViewedGuests.{viewed_blank}
 use Rattle.mig_libxl.proofs.Canon.{pv_plain}
-use Rattle.mig_guest.specs.Footprints.{footprint_of}
-use Rattle.mig_dirtysave_rounds.specs.Forms.{form_of_print}
-use Rattle.mig_dirtysave_rounds.specs.Live.{forms}
 use Rattle.mig_dirtysave.proofs.Tables.{same_page}
+use Rattle.std.specs.FinMap as maps
 
 module _ (h : HostOf) where
   -- the host's guest with PFNs in it, not yet blank

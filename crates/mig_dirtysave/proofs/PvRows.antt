@@ -1,34 +1,18 @@
 -- What is found in a PV host at the pause and doesn't speak of types stands in the host, over any machine.
+use Rattle.mig_dirtysave.proofs.Common.{◌⊎◌, inl, inr, get_or, scan, Unsound, HostOf, HostFrame, IsValid, pfn_in, Kind, HvmContext, row_of, long_at, one_code, is_unknown, get_each, fault_in, find_gdt, unsoundness, without_machine, footprint, footprint_of, table_in, names_in, named_by, superpage_in, superpage_slot, is_lost, lost_in, lost_slot, IsUnsound, Standing, is_of_no_type, said_in, said_of, row_1, row_2, row_5, row_6, row_7, UnsoundHas, standing_seen, first_around}
 use Rattle.mig_pvtables.proofs.Common.{◌≡◌, ℕ, zero, suc, ◌+◌, ◌*◌, ◌<◌, ◌≤◌, List, [], ◌∷◌, Bool, true, false, cond, Option, Some, None, is_none, refl, sym, ap, subst, ◌∙◌, arith, ◌==◌, ◌&&◌, find, range_with_len, option_map, option_or, option_and_then, nat_lt, nat_cmp_total, nat_cmp-IsAntisymmetric, eq-eqb, part_total, part_exact, PageType, level_of, gdt_ents, PartKey, Entry, Blank, NotPresent, Superpage, Frame, entry, Pv, context_key, first_cause, is_superpage}
-use Rattle.std.proofs.Common.{◌⊎◌, inl, inr, get_or}
 use Rattle.std.proofs.lemmas.Bool.{ltb-false}
-use Rattle.std.specs.FinMap as maps
-use Rattle.mig_headers.specs.Contexts.{scan}
-use Rattle.mig_headers.specs.declared.unsound.Unsound.{Unsound}
-use Rattle.mig_headers.specs.declared.unsound.Unsound.TheVariants as causes
-use Rattle.mig_guest.specs.Hosts.{HostOf, HostFrame, IsValid, pfn_in}
-use Rattle.mig_headers.specs.declared.kind.Kind.{Kind}
-use Rattle.mig_guest.specs.declared.part_code.PartCode.TheVariants.{HvmContext}
-use Rattle.mig_guest.specs.PartCodes.{row_of}
-use Rattle.mig_guest.specs.Longs.{long_at}
-use Rattle.mig_guest.proofs.PartRows.{one_code}
-use Rattle.mig_pvtables.specs.BadEntries.{is_unknown}
 use Rattle.mig_pvtables.specs.Faults.{slots}
-use Rattle.mig_pvtables.proofs.EachValue.{get_each}
 use Rattle.mig_pvtables.proofs.Searches.{first_found}
-use Rattle.mig_host_view.specs.Sound.{fault_in, find_gdt, unsoundness}
-use Rattle.mig_host_view.specs.View.{without_machine}
-use Rattle.mig_guest.specs.Footprints.{footprint, footprint_of, table_in, names_in, named_by}
-use Rattle.mig_dirtysave_rounds.specs.Forms.{superpage_in, superpage_slot, is_lost, lost_in, lost_slot}
-use Rattle.mig_dirtysave_rounds.specs.Live.{IsUnsound}
-use Rattle.mig_host_laws.specs.Standing.{Standing, in_host, is_of_no_type, said_in, said_of}
-use Rattle.mig_host_laws.specs.FirstRow.{row_1, row_2, row_5, row_6, row_7, first_row}
-use Rattle.mig_host_laws.specs.Unsoundness.{IsWrong, UnsoundHas, NamesFirstRow}
+use Rattle.mig_host_laws.specs.Standing.{in_host}
+use Rattle.mig_host_laws.specs.FirstRow.{first_row}
+use Rattle.mig_host_laws.specs.Unsoundness.{IsWrong, NamesFirstRow}
 use Rattle.mig_host_laws.specs.Unsoundness.IsWrong.{no_context, no_p2m, no_shared, no_vcpu, other_type, listed_twice, large, nameless, many_descriptors, field_ill, bad_context}
 use Rattle.mig_host_laws.proofs.Instances.{unsoundness_named}
 use Rattle.mig_host_laws.proofs.Rows.{first_row_named}
 use Rattle.mig_host_laws.proofs.Savers.{row_stands}
-use Rattle.mig_dirtysave.specs.Paused.{standing_seen, first_around}
+use Rattle.std.specs.FinMap as maps
+use Rattle.mig_headers.specs.declared.unsound.Unsound.TheVariants as causes
 
 -- ---- searches
 

@@ -1,36 +1,16 @@
 -- The rows of a PV host as a saver finds them: those that speak of contexts need no other parts, and the last stands in none.
-use Rattle.std.proofs.Common.{◌≡◌, ℕ, List, [], ◌∷◌, length, Bool, true, false, cond, Option, Some, None, refl, sym, ap, subst, ◌∙◌}
-use Rattle.std.specs.Prelude.{◌==◌, ◌&&◌, nat_lt, is_some, option_and_then, Result, Ok, Err, IfOk}
-use Rattle.std.specs.Option.{option_map, option_or}
-use Rattle.std.specs.Cmp.{nat_cmp_total}
-use Rattle.std.specs.FinMap as maps
-use Rattle.std.specs.FinMap.{nat_cmp-IsAntisymmetric}
-use Rattle.std.proofs.lemmas.Bool.{eqb-true}
-use Rattle.mig_headers.specs.declared.kind.Kind.{Kind}
-use Rattle.mig_headers.specs.declared.kind.Kind.TheVariants.{Pv}
-use Rattle.mig_headers.specs.declared.unsound.Unsound.{Unsound}
+use Rattle.mig_dirtysave.proofs.Common.{◌≡◌, ℕ, List, [], ◌∷◌, length, Bool, true, false, cond, Option, Some, None, refl, sym, ap, subst, ◌∙◌, ◌==◌, ◌&&◌, is_some, option_and_then, Result, Ok, Err, option_map, option_or, nat_cmp_total, nat_cmp-IsAntisymmetric, eqb-true, Kind, Pv, Unsound, PageType, PartKey, HvmContext, gdt_ents, HostOf, HostFrame, IsValid, row_of, p2m_key, Part, PartMap, one_code, first_some, first_cause, type_at, get_each, in_fields, in_contexts, contexts_start, find_gdt, fault_in, unsoundness, guest_in, without_machine, scan, find_ill_listed, row_1, row_2, row_5, row_6, row_7, Standing, types_seen, standing_seen, HasTypes, first_in_tables, first_around}
+use Rattle.std.specs.Prelude.{nat_lt, IfOk}
 use Rattle.mig_headers.specs.declared.unsound.Unsound.TheVariants.{P2mFrame, BadContext}
-use Rattle.mig_pagetypes.specs.declared.page_type.PageType.{PageType}
-use Rattle.mig_guest.specs.declared.part_key.PartKey.{PartKey}
-use Rattle.mig_guest.specs.declared.part_code.PartCode.TheVariants.{VcpuBasic, HvmContext}
-use Rattle.mig_guest.specs.Formed.{gdt_ents}
-use Rattle.mig_guest.specs.Hosts.{HostOf, HostFrame, IsValid}
-use Rattle.mig_guest.specs.PartCodes.{row_of}
-use Rattle.mig_guest.specs.PartKeys.{context_key, p2m_key}
-use Rattle.mig_guest.specs.Parts.{Part, PartMap}
+use Rattle.mig_guest.specs.declared.part_code.PartCode.TheVariants.{VcpuBasic}
+use Rattle.mig_guest.specs.PartKeys.{context_key}
 use Rattle.mig_guest.proofs.Counts.{same_parts}
-use Rattle.mig_guest.proofs.PartRows.{one_code}
-use Rattle.mig_pvtables.specs.Faults.{first_some, first_cause, type_at, find_in_contexts}
-use Rattle.mig_pvtables.proofs.EachValue.{get_each}
-use Rattle.mig_pvtables.proofs.Walks.{in_fields, in_contexts, large_in, contexts_start}
-use Rattle.mig_host_view.specs.Sound.{find_gdt, fault_in, unsoundness}
-use Rattle.mig_host_view.specs.View.{guest_in, without_machine}
-use Rattle.mig_headers.specs.Contexts.{scan}
-use Rattle.mig_host_laws.specs.FirstRow.{find_ill_listed, row_1, row_2, row_3, row_4, row_5, row_6, row_7}
-use Rattle.mig_host_laws.specs.Standing.{Standing}
+use Rattle.mig_pvtables.specs.Faults.{find_in_contexts}
+use Rattle.mig_pvtables.proofs.Walks.{large_in}
+use Rattle.mig_host_laws.specs.FirstRow.{row_3, row_4}
 use Rattle.mig_host_laws.proofs.Instances.{host_wide}
 use Rattle.mig_host_laws.proofs.Savers.{saver_finds}
-use Rattle.mig_dirtysave.specs.Paused.{types_seen, standing_seen, HasTypes, first_in_tables, first_around}
+use Rattle.std.specs.FinMap as maps
 
 -- ---- parts that are alike at the contexts
 

@@ -1,41 +1,15 @@
 -- What a save wrote is a stream, and over an honest machine the stream of the host's view.
-use Rattle.std.specs.Prelude.{◌==◌, not, is_some}
-use Rattle.std.proofs.lemmas.Bool.{and_parts}
-use Rattle.std.proofs.Common.{◌≡◌, ℕ, Bool, List, [], ◌∷◌, ◌++◌, map, true, Option, None, refl, sym, ap, subst, ◌∙◌, arith, append_assoc}
-use Rattle.std.specs.Io.KnownBytes.{Appends}
-use Rattle.std.proofs.KnownBytes.{Appends-trans}
-use Rattle.mig_headers.specs.declared.kind.Kind.{Kind}
-use Rattle.mig_headers.specs.declared.unsound.Unsound.{Unsound}
-use Rattle.mig_guest.specs.Formed.{IsFormed}
-use Rattle.mig_guest.specs.Guests.{GuestOf}
-use Rattle.mig_guest.specs.Hosts.{IsValid}
+use Rattle.mig_dirtysave.proofs.Common.{◌==◌, is_some, and_parts, ◌≡◌, ℕ, Bool, List, [], ◌∷◌, ◌++◌, map, true, Option, None, refl, sym, ap, subst, ◌∙◌, arith, append_assoc, Appends, Appends-trans, Kind, Unsound, IsFormed, GuestOf, IsValid, PartMap, PartKey, Record, text_of, headers, info_records, static_bodies, p2m_records, text_join, batch_records, batched, unsoundness, view, top_of, viewed_whole, bare_guest, wrapper_opening, wrapper_closing, AcceptedStream, opening_alike, closing_alike, MachineState, FrameTold, telling_frames, telling_record, Accepted, StaysSame, FramesSaved, text_before, ClosesStream, HoldsParts, is_early, emulators_seen, first_records, first_within, SaverOf, IsFor, SaveWritten}
+use Rattle.std.specs.Prelude.{not}
 use Rattle.mig_guest.specs.PartCodes.{is_fixed}
-use Rattle.mig_guest.specs.Parts.{PartMap}
-use Rattle.mig_guest.specs.declared.part_key.PartKey.{PartKey}
-use Rattle.std.specs.FinMap as maps
-use Rattle.mig_records.specs.Records.{Record, text_of}
-use Rattle.mig_canon.specs.Canon.{headers, info_records, static_bodies, p2m_records, last_records}
-use Rattle.mig_records.proofs.RecordTexts.{text_join}
-use Rattle.mig_canon.specs.Batched.{batch_records, batched}
-use Rattle.mig_host_view.specs.Sound.{unsoundness}
-use Rattle.mig_host_view.specs.View.{view, top_of}
+use Rattle.mig_canon.specs.Canon.{last_records}
 use Rattle.mig_host_view.proofs.SoundRows.{sound_is_faultless}
-use Rattle.mig_host_view.proofs.ViewedGuests.{viewed_whole}
-use Rattle.mig_canon.specs.CanonStream.{bare_guest, wrapper_opening, wrapper_closing}
-use Rattle.mig_libxl_form.specs.Spelled.{AcceptedStream}
-use Rattle.mig_libxl.proofs.Alike.{opening_alike, closing_alike}
 use Rattle.mig_libxl.proofs.AnyCanons.{around_is_accepted}
-use Rattle.mig_guest.specs.MachineStates.{MachineState}
-use Rattle.mig_records_pages.specs.Told.{FrameTold, telling_frames, telling_record}
-use Rattle.mig_restore_form.specs.Spelled.{Accepted}
-use Rattle.mig_dirtysave_rounds.specs.Live.{StaysSame, FramesSaved}
 use Rattle.mig_dirtysave.proofs.Viewed.{saved_is_viewed}
-use Rattle.mig_dirtysave_parts.specs.SaveTexts.{IsOtherRecord, text_before, ClosesStream}
-use Rattle.mig_dirtysave_parts.specs.KeptParts.{HoldsParts, is_early}
-use Rattle.mig_dirtysave_parts.proofs.Codes.{both_all, emulators_seen, first_records, first_seen, first_within, viewed_kind}
+use Rattle.mig_dirtysave_parts.specs.SaveTexts.{IsOtherRecord}
+use Rattle.mig_dirtysave_parts.proofs.Codes.{both_all, first_seen, viewed_kind}
 use Rattle.mig_dirtysave_parts.proofs.Closings.{others_are}
-use Rattle.mig_dirtysave.specs.Saver.{SaverOf, IsFor}
-use Rattle.mig_dirtysave.specs.SaveAnswers.{SaveWritten}
+use Rattle.std.specs.FinMap as maps
 
 records_are : (batches : List (List FrameTold)) → batch_records (map telling_frames batches) ≡ map telling_record batches
 records_are [] = refl

@@ -1,31 +1,15 @@
 -- What the rounds of a save answer of the tables of a host is what is found in them row by row.
-use Rattle.std.proofs.Common.{arith, ◌≡◌, ℕ, zero, suc, ◌+◌, List, [], ◌∷◌, false, Option, Some, None, refl, sym, ap, ◌∙◌}
-use Rattle.std.specs.Prelude.{find, option_and_then}
-use Rattle.std.specs.List.{range_with_len}
-use Rattle.std.specs.Option.{option_map, option_or}
-use Rattle.std.specs.Cmp.{nat_cmp_total}
-use Rattle.std.specs.FinMap as maps
-use Rattle.std.specs.FinMap.{nat_cmp-IsAntisymmetric}
-use Rattle.mig_headers.specs.declared.unsound.Unsound.TheVariants as unsounds
-use Rattle.mig_pagetypes.specs.PageTypes.{level_of}
-use Rattle.mig_guest.specs.declared.table.Entry.{Entry}
-use Rattle.mig_guest.specs.declared.table.Entry.TheVariants.{Blank, NotPresent, Superpage, Frame}
-use Rattle.mig_guest.specs.Hosts.{HostOf, HostFrame, HostFrames, pfn_in}
-use Rattle.mig_guest.specs.Longs.{long_at}
-use Rattle.mig_guest.specs.Tables.{entry}
-use Rattle.mig_guest.specs.Footprints.{footprint, footprint_of, names_in, named_by, table_in}
-use Rattle.mig_pvtables.specs.BadEntries.{is_unknown}
-use Rattle.mig_pvtables.specs.Faults.{first_some, first_cause, slots}
+use Rattle.mig_dirtysave.proofs.Common.{arith, ◌≡◌, ℕ, ◌+◌, List, [], ◌∷◌, false, Option, Some, None, refl, sym, ap, ◌∙◌, find, option_and_then, range_with_len, option_map, option_or, nat_cmp_total, nat_cmp-IsAntisymmetric, level_of, Entry, Blank, NotPresent, Superpage, Frame, HostOf, HostFrame, HostFrames, pfn_in, long_at, entry, footprint, footprint_of, names_in, named_by, table_in, is_unknown, first_some, first_cause, get_each, guest_in, without_machine, superpage_in, superpage_slot, lost_in, lost_slot, is_lost, said_in, said_of, first_in_tables}
+use Rattle.std.proofs.Common.{zero, suc}
+use Rattle.mig_pvtables.specs.Faults.{slots}
 use Rattle.mig_pvtables.specs.Tables.{is_superpage}
-use Rattle.mig_pvtables.proofs.EachValue.{get_each}
 use Rattle.mig_pvtables.proofs.Slots.{no_slot}
-use Rattle.mig_host_view.specs.View.{guest_in, without_machine}
-use Rattle.mig_dirtysave_rounds.specs.Forms.{superpage_in, superpage_slot, lost_in, lost_slot, is_lost}
 use Rattle.mig_dirtysave_rounds.specs.Live.{table_fault, tables_unsound}
 use Rattle.mig_dirtysave_rounds.specs.Sends.{first_pfn, or_first, place}
 use Rattle.mig_host_laws.specs.FirstRow.{find_said}
-use Rattle.mig_host_laws.specs.Standing.{said_in, said_of, says_in}
-use Rattle.mig_dirtysave.specs.Paused.{first_in_tables}
+use Rattle.mig_host_laws.specs.Standing.{says_in}
+use Rattle.std.specs.FinMap as maps
+use Rattle.mig_headers.specs.declared.unsound.Unsound.TheVariants as unsounds
 
 -- ---- frame numbers one after another
 

@@ -1,34 +1,17 @@
 -- The image of a host whose frames were sent in any records.
-use Rattle.std.proofs.Common.{◌≡◌, ℕ, ◌≤◌, ◌^◌, List, ◌++◌, length, map, refl, sym, ap, subst, ◌∙◌, arith}
-use Rattle.std.specs.List.{All}
-use Rattle.std.proofs.lemmas.List.{length-map}
-use Rattle.std.specs.FinMap as maps
-use Rattle.mig_headers.specs.declared.kind.Kind.{Kind}
-use Rattle.mig_headers.specs.declared.kind.Kind.TheVariants.{Pv, Hvm}
-use Rattle.mig_guest.specs.Frames.{FrameMap}
-use Rattle.mig_guest.specs.Guests.{GuestOf}
-use Rattle.mig_guest.specs.Hosts.{HostOf, IsValid}
-use Rattle.mig_pvtables.specs.Blank.{blank}
-use Rattle.mig_pvtables.specs.Whole.{IsWhole}
+use Rattle.mig_dirtysave.proofs.Common.{◌≡◌, ℕ, ◌≤◌, ◌^◌, List, ◌++◌, length, map, refl, sym, ap, subst, ◌∙◌, arith, All, length-map, Kind, Pv, Hvm, FrameMap, GuestOf, HostOf, IsValid, blank, IsWhole, IsSound, view, hvm_view, top_of, viewed_whole, Accepted, IsSendableBatch, frames_told, batched, bare_guest, FrameTold, telling_frames, all_told, AreSized, AreTold, meant, forms}
 use Rattle.mig_pvtables.proofs.HvmGuests.{hvm_blank, hvm_complete}
-use Rattle.mig_host_view.specs.Sound.{IsSound}
-use Rattle.mig_host_view.specs.View.{view, hvm_view, top_of}
 use Rattle.mig_host_view.proofs.HostViews.{hvm_viewed}
-use Rattle.mig_host_view.proofs.ViewedGuests.{viewed_whole}
 use Rattle.mig_records_pages.specs.PageData.{Frame}
-use Rattle.mig_restore_form.specs.Spelled.{Accepted, IsComplete}
-use Rattle.mig_canon.specs.Batched.{IsSendableBatch, TellFrames, frames_told, batched}
+use Rattle.mig_restore_form.specs.Spelled.{IsComplete}
+use Rattle.mig_canon.specs.Batched.{TellFrames}
 use Rattle.mig_canon.proofs.Batched.{batched_is_accepted}
-use Rattle.mig_canon.specs.CanonStream.{bare_guest}
 use Rattle.mig_libxl.proofs.Canon.{bare_is, bare_plain, bare_whole, batched_bare}
-use Rattle.mig_records_pages.specs.Told.{FrameTold, telling_frames, all_told}
-use Rattle.mig_records_pages.specs.Batches.{AreSized}
-use Rattle.mig_dirtysave_rounds.specs.Entries.{AreTold, meant}
-use Rattle.mig_dirtysave_rounds.specs.Live.{forms}
 use Rattle.mig_dirtysave.proofs.Told.{batches_sendable, told_is_meant, left_is_formed}
 use Rattle.mig_dirtysave.proofs.Reframed.{batched_alike}
 use Rattle.mig_dirtysave.proofs.HvmHosts.{forms_are}
 use Rattle.mig_dirtysave.proofs.PvHosts.{pv_view, pv_sent, plain, pv_seen, sent_blank, sent_formed, sent_complete}
+use Rattle.std.specs.FinMap as maps
 
 module _ (h : HostOf) (valid : IsValid h) (sound : IsSound h) (batches : List (List FrameTold)) (sized : AreSized batches) (are_told : AreTold h.kind h.width (all_told batches))
     (few : length batches ≤ 2 ^ 27) (means : meant (all_told batches) ≡ forms h.frames) (rest : List ℕ) where

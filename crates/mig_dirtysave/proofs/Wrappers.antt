@@ -1,35 +1,18 @@
 -- What is written around the image where the write stops: whole records of emulators, and a part of one more.
-use Rattle.std.proofs.Common.{◌≡◌, ℕ, ◌+◌, ◌-◌, ◌<◌, Bool, true, false, List, [], ◌∷◌, ◌++◌, length, map, take, Option, Some, None, refl, sym, ap, subst, ◌∙◌, arith, length-append, ◌⊎◌, inl, inr}
-use Rattle.std.specs.Prelude.{◌==◌, is_some}
-use Rattle.std.specs.List.{All}
-use Rattle.std.specs.Option.{option_map}
-use Rattle.std.proofs.lemmas.Bool.{eqb-true, or_cases}
+use Rattle.mig_dirtysave.proofs.Common.{◌≡◌, ℕ, ◌+◌, ◌-◌, ◌<◌, Bool, true, false, List, [], ◌∷◌, ◌++◌, length, map, take, Option, Some, None, refl, sym, ap, subst, ◌∙◌, arith, length-append, ◌⊎◌, inl, inr, ◌==◌, is_some, All, option_map, eqb-true, Appends, append_known, Appends-trans, AppendsPart, PartKey, IsFormed, GuestOf, HostOf, Part, PartMap, spelled, Record, text_of, text_one, has_emulators, wrapper_opening, wrapper_closing, opening_alike, IsRecordWithin, AreRecordsWithin, WroteSome, MachineState, StaysSame, part_behind, some_records, SaverOf, IsFor}
+use Rattle.std.proofs.lemmas.Bool.{or_cases}
 use Rattle.std.proofs.lemmas.List.Elements.{All-head, All-tail}
-use Rattle.std.specs.FinMap as maps
-use Rattle.std.specs.Io.KnownBytes.{Appends, append_known}
-use Rattle.std.proofs.KnownBytes.{Appends-trans}
 use Rattle.byteorder.specs.Endian.{little_bytes}
 use Rattle.byteorder.specs.Numbers.{length-bytes_low_first}
-use Rattle.mig_bytes.specs.Bytes.{AppendsPart}
-use Rattle.mig_guest.specs.declared.part_key.PartKey.{PartKey}
-use Rattle.mig_guest.specs.Formed.{IsFormed, is_emulator_code}
-use Rattle.mig_guest.specs.Guests.{GuestOf}
-use Rattle.mig_guest.specs.Hosts.{HostOf}
-use Rattle.mig_guest.specs.Parts.{Part, PartMap}
-use Rattle.mig_records.specs.Records.{spelled, Record, text_of}
-use Rattle.mig_records.proofs.RecordTexts.{text_one}
-use Rattle.mig_canon.specs.CanonStream.{emulator_body, emulator_record, emulators_in_order, has_emulators, text_of_emulators, wrapper_opening, wrapper_closing}
-use Rattle.mig_libxl.proofs.Alike.{opening_alike, some_alike}
+use Rattle.mig_guest.specs.Formed.{is_emulator_code}
+use Rattle.mig_canon.specs.CanonStream.{emulator_body, emulator_record, emulators_in_order, text_of_emulators}
+use Rattle.mig_libxl.proofs.Alike.{some_alike}
 use Rattle.mig_libxl.proofs.Around.{closing_none, closing_some}
 use Rattle.mig_libxl.proofs.EmulatorParts.{IsEmulatorPart, in_order_holds}
 use Rattle.mig_libxl.proofs.EmulatorTexts.{short_emulator}
-use Rattle.mig_records_pages.specs.Written.{IsRecordWithin, AreRecordsWithin, WroteSome}
-use Rattle.mig_guest.specs.MachineStates.{MachineState}
-use Rattle.mig_dirtysave_rounds.specs.Live.{StaysSame}
 use Rattle.mig_dirtysave_parts.specs.KeptParts.{SameEmulators}
 use Rattle.mig_dirtysave_parts.proofs.Codes.{emulator_setting}
-use Rattle.mig_dirtysave_parts.proofs.Texts.{part_behind, some_records}
-use Rattle.mig_dirtysave.specs.Saver.{SaverOf, IsFor}
+use Rattle.std.specs.FinMap as maps
 
 -- ---- the records of emulators
 

@@ -1,16 +1,10 @@
 -- What stands behind the frames closes a stream, and is what the view of a sound host has there.
-use Rattle.std.proofs.Common.{◌≡◌, ℕ, List, [], ◌∷◌, ◌++◌, Option, refl, sym, ap, subst, ◌∙◌}
-use Rattle.std.specs.List.{AllByRecursion}
-use Rattle.std.specs.Io.KnownBytes.{Appends}
+use Rattle.mig_dirtysave_parts.proofs.Common.{◌≡◌, ◌++◌, refl, sym, ap, subst, ◌∙◌, AllByRecursion, Appends, GuestOf, HostOf, IsValid, Record, text_of, last_records, is_setting, kept_parts, parts_alone, IsContextFront, closing_records, settings_seen}
+use Rattle.std.proofs.Common.{ℕ, List, [], ◌∷◌, Option}
 use Rattle.mig_headers.specs.declared.kind.Kind.TheVariants.{Pv, Hvm}
 use Rattle.mig_guest.specs.Formed.{IsFormed}
-use Rattle.mig_guest.specs.Guests.{GuestOf}
-use Rattle.mig_guest.specs.Hosts.{HostOf, IsValid}
-use Rattle.mig_records.specs.Records.{Record, text_of}
-use Rattle.mig_canon.specs.Canon.{last_records}
 use Rattle.mig_host_view.proofs.HostViews.{hvm_viewed}
-use Rattle.mig_dirtysave_parts.specs.KeptParts.{is_setting, kept_parts, parts_alone}
-use Rattle.mig_dirtysave_parts.specs.SaveTexts.{IsContextFront, IsOtherRecord, closing_records, settings_seen, ClosesStream}
+use Rattle.mig_dirtysave_parts.specs.SaveTexts.{IsOtherRecord, ClosesStream}
 use Rattle.mig_dirtysave_parts.proofs.Codes.{IsOther, are_within, closing_within, front_short, kept_formed, last_seen, no_pv}
 use Rattle.mig_dirtysave_parts.proofs.PvSettings.{pv_last_seen, pv_last_within}
 

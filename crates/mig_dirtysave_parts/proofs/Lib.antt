@@ -1,3 +1,4 @@
+pub mod Common
 pub mod Walks
 pub mod Rows
 pub mod Codes

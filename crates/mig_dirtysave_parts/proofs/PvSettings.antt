@@ -1,34 +1,17 @@
 -- The settings of the guest that a PV host is seen as: they make a well formed guest, whose records are those of the view.
-use Rattle.mig_host_view.proofs.Common.{◌≡◌, ℕ, ◌+◌, ◌-◌, ◌<◌, ◌≤◌, ◌^◌, ◌++◌, Bool, true, false, cond, List, [], ◌∷◌, length, Option, Some, None, refl, sym, ap, subst, ◌∙◌, arith, ◌==◌, nat_cmp, eqb-true, eq-eqb, part_total, part_exact, part_cmp, Pv, Hvm, PartKey, FrameOf, GuestOf, IsFormed, IsPart, gdt_ents, each_value, blanked_part, length_longs}
-use Rattle.std.specs.Prelude.{◌≢◌}
-use Rattle.std.specs.List.{AllByRecursion, flat_map, range_with_len}
-use Rattle.std.specs.FinMap as maps
-use Rattle.mig_headers.specs.declared.kind.Kind.{Kind}
-use Rattle.mig_records.specs.Shapes.{part_body, shape_of}
-use Rattle.mig_guest.specs.declared.part_code.PartCode.{PartCode}
-use Rattle.mig_guest.specs.declared.part_code.PartCode.TheVariants.{VcpuBasic, VcpuExtended, VcpuXsave, SharedInfo, Tsc, VcpuMsrs}
-use Rattle.mig_guest.specs.Formed.{is_policy}
-use Rattle.mig_guest.specs.Hosts.{HostOf, IsHostPart, IsValid, pfn_in}
-use Rattle.mig_guest.specs.PartCodes.{code_number}
-use Rattle.mig_guest.specs.Parts.{Part, FitsPolicy}
-use Rattle.mig_guest.proofs.Counts.{same_parts}
-use Rattle.mig_guest.proofs.Kept.{empty_formed}
-use Rattle.mig_canon.specs.Canon.{records_of, records_in_order, last_records, all_vcpus, key_of, part_record, pv_last_codes, records_of_vcpu, vcpu_record, vcpus_below}
+use Rattle.mig_dirtysave_parts.proofs.Common.{ℕ, ◌+◌, ◌-◌, ◌<◌, ◌≤◌, ◌^◌, Bool, true, false, cond, List, [], ◌∷◌, length, Option, Some, None, arith, ◌==◌, eqb-true, part_total, part_exact, part_cmp, Pv, Hvm, PartKey, FrameOf, IsFormed, IsPart, gdt_ents, ◌≢◌, AllByRecursion, flat_map, Kind, shape_of, PartCode, VcpuBasic, Tsc, is_policy, HostOf, IsHostPart, IsValid, pfn_in, code_number, Part, FitsPolicy, same_parts, empty_formed, records_of, records_in_order, last_records, blanked_context, blanked_shared, is_used_somewhere, from_each, renamed_part, renamed_context, view, top_of, each_policy, top_is, pv_part, is_setting, settings_seen}
+use Rattle.mig_host_view.proofs.Common.{◌≡◌, ◌++◌, refl, sym, ap, subst, ◌∙◌, nat_cmp, eq-eqb, GuestOf, each_value, blanked_part, length_longs}
+use Rattle.std.specs.List.{range_with_len}
+use Rattle.mig_records.specs.Shapes.{part_body}
+use Rattle.mig_guest.specs.declared.part_code.PartCode.TheVariants.{VcpuExtended, VcpuXsave, SharedInfo, VcpuMsrs}
+use Rattle.mig_canon.specs.Canon.{all_vcpus, key_of, part_record, pv_last_codes, records_of_vcpu, vcpu_record, vcpus_below}
 use Rattle.mig_canon.proofs.PvRecords.{short_part}
-use Rattle.mig_pvtables.specs.VcpuContexts.{blanked_context, blanked_shared, is_used_somewhere}
 use Rattle.mig_pvtables.proofs.BlankSays.{blanked_ents}
-use Rattle.mig_pvtables.proofs.EachValue.{from_each}
 use Rattle.mig_pvtables.proofs.SameShape.{to_guest}
-use Rattle.mig_host_view.specs.Localised.{renamed_part}
-use Rattle.mig_host_view.specs.RenamedContexts.{renamed_context}
-use Rattle.mig_host_view.specs.View.{view, top_of}
-use Rattle.mig_host_view.proofs.ViewedFrames.{each_policy, top_is}
-use Rattle.mig_host_view.proofs.ViewedParts.{pv_part}
 use Rattle.mig_host_view.proofs.ViewedSays.{ents_there}
-use Rattle.mig_dirtysave_parts.specs.KeptParts.{is_setting}
-use Rattle.mig_dirtysave_parts.specs.SaveTexts.{settings_seen}
 use Rattle.mig_dirtysave_parts.proofs.Codes.{IsOther, IsOtherType, both_all, code_within, from_kept, same_records, seen_as}
 use Rattle.mig_dirtysave_parts.proofs.Walks.{kept_at}
+use Rattle.std.specs.FinMap as maps
 
 module _ (h : HostOf) where
   -- a setting is as the view has it

@@ -1,21 +1,19 @@
 -- Parts of what a save writes: of the headers and records, of records, and of records before END.
-use Rattle.std.proofs.Common.{◌≡◌, ℕ, ◌+◌, ◌-◌, ◌<◌, List, [], ◌∷◌, ◌++◌, length, take, Option, Some, None, Result, Ok, Err, OnOk, OnErr, refl, sym, ap, subst, ◌∙◌, arith, append_assoc, append-nil, length-append, ◌⊎◌, inl, inr}
+use Rattle.mig_dirtysave_parts.proofs.Common.{◌≡◌, ◌++◌, refl, sym, ap, subst, ◌∙◌, append_assoc, inl, inr, flat_map, Appends, Kind, GuestOf, Record, text_of, info_records, static_bodies, p2m_records, records_of, records_in_order, context_record, closing_records, AreRecordsWithin}
+use Rattle.std.proofs.Common.{ℕ, ◌+◌, ◌-◌, ◌<◌, List, [], ◌∷◌, length, take, Option, Some, None, Result, Ok, Err, OnOk, OnErr, arith, append-nil, length-append, ◌⊎◌}
 use Rattle.std.proofs.lemmas.Bool.{cases_lt}
 use Rattle.std.proofs.Math.Seq.{take-append-add}
 use Rattle.std.proofs.lemmas.List.{take-append-le}
-use Rattle.std.specs.List.{flat_map}
-use Rattle.std.specs.Io.KnownBytes.{Appends, append_known}
+use Rattle.std.specs.Io.KnownBytes.{append_known}
 use Rattle.std.proofs.KnownBytes.{Appends-trans}
 use Rattle.mig_bytes.specs.declared.failure.WriteFailed.{WriteFailed}
 use Rattle.mig_bytes.specs.Bytes.{AppendsPart, Puts}
-use Rattle.mig_headers.specs.declared.kind.Kind.{Kind}
-use Rattle.mig_guest.specs.Guests.{GuestOf}
-use Rattle.mig_records.specs.Records.{spelled, Record, text_of}
-use Rattle.mig_canon.specs.Canon.{headers, info_records, static_bodies, p2m_records, records_of, records_in_order}
-use Rattle.mig_dirtysave_parts.specs.SaveTexts.{text_before, StopsBehind, context_record, setting_codes, closing_records}
+use Rattle.mig_records.specs.Records.{spelled}
+use Rattle.mig_canon.specs.Canon.{headers}
+use Rattle.mig_dirtysave_parts.specs.SaveTexts.{text_before, StopsBehind, setting_codes}
 use Rattle.mig_records.proofs.RecordTexts.{text_join, text_one}
 use Rattle.mig_canon.proofs.Spelling.{codes_alone}
-use Rattle.mig_records_pages.specs.Written.{IsShortRecord, AreRecordsWithin, WroteSome, LeavesPart}
+use Rattle.mig_records_pages.specs.Written.{IsShortRecord, WroteSome, LeavesPart}
 use Rattle.mig_records_pages.proofs.Written.{all_behind, some_behind, none_of_next}
 
 -- a text that is some whole records, none of them END, and a part of one more

@@ -1,37 +1,18 @@
 -- From the pause to the end, and the start.
-use Rattle.std.proofs.Common.{arith, ◌≡◌, ℕ, ◌+◌, ◌<◌, ◌≤◌, List, [], ◌∷◌, ◌++◌, length, Bool, true, false, cond, Option, Some, None, refl, sym, ap, subst, ◌∙◌, inl, inr, append-nil}
-use Rattle.std.specs.Prelude.{◌||◌, ◌⊎◌}
+use Rattle.mig_dirtysave_rounds.proofs.Common.{arith, ◌≡◌, ℕ, ◌+◌, ◌<◌, ◌≤◌, List, [], ◌∷◌, ◌++◌, length, Bool, true, false, cond, Option, Some, None, refl, sym, ap, subst, ◌∙◌, inl, inr, append-nil, ◌||◌, ◌⊎◌, option_map, nat_cmp_total, cases_lt, nat_tests, fun_ext, HostOf, HostFrame, HostFrames, FrameTold, Pfns, no_pfns, joined, members, size, all_below, footprint, footprint_of, Since, History, nothing_asked, no_history, one_more, and_call, MachineState, IsValidState, LogTaken, Rounds, to_read, rounds_read, all_read, Worst, form_of_print, type_of_print, superpage_slot, lost_slot, judged, frame_sent, is_deferred, IsBelow, rest, total, total_taken, meant, Notes, no_notes, Current, ReadsFront, SendsFront, IsWorst, within_set, super_of, lost_of, LiveSent, SavedSent, table_fault, worst_fault}
 use Rattle.std.specs.Ordering.{nat_cmp}
-use Rattle.std.specs.Option.{option_map}
-use Rattle.std.specs.Cmp.{nat_cmp_total}
-use Rattle.std.specs.FinMap as fin
 use Rattle.std.specs.FinMap.{nat_cmp-IsAntisymmetric}
-use Rattle.std.proofs.lemmas.Bool.{cases_lt}
-use Rattle.std.proofs.lemmas.Bool.Decides.{nat_tests}
-use Rattle.std.proofs.Math.Path.{fun_ext}
-use Rattle.mig_guest.specs.Hosts as hosts
-use Rattle.mig_guest.specs.Hosts.{HostOf, HostFrame, HostFrames}
 use Rattle.mig_pvtables.proofs.EachValue.{get_each}
-use Rattle.mig_records_pages.specs.Told.{FrameTold}
-use Rattle.mig_guest.specs.Pfns.{Pfns, no_pfns, joined, members, size, all_below}
-use Rattle.mig_guest.specs.Footprints.{footprint, footprint_of}
-use Rattle.mig_guest.specs.History.{Since, History, nothing_asked, no_history, one_more, and_call}
-use Rattle.mig_guest.specs.MachineStates.{MachineState, IsValidState}
-use Rattle.mig_guest.specs.MachineCalls.{LogTaken, Paused}
-use Rattle.mig_guest.specs.Rounds.{Rounds, Tight, to_read, rounds_read, all_read}
-use Rattle.mig_dirtysave_rounds.specs.declared.found.Worst.{Worst}
-use Rattle.mig_dirtysave_rounds.specs.Forms.{form_of_print, type_of_print, superpage_slot, lost_slot}
-use Rattle.mig_dirtysave_rounds.specs.Findings.{judged, frame_sent, is_deferred}
-use Rattle.mig_guest.specs.Changes.{IsBelow}
-use Rattle.mig_dirtysave_rounds.specs.Parts.{rest, total, total_taken}
-use Rattle.mig_dirtysave_rounds.specs.Entries.{meant}
-use Rattle.mig_dirtysave_rounds.specs.Current.{Notes, no_notes, Current}
-use Rattle.mig_dirtysave_rounds.specs.Sends.{ReadsFront, SendsFront, IsWorst, first_pfn, within_set, super_of, lost_of}
-use Rattle.mig_dirtysave_rounds.specs.Live.{LiveSent, Ended, Saved, SavedSent, forms, type_in, table_fault, worst_fault, tables_unsound}
+use Rattle.mig_guest.specs.MachineCalls.{Paused}
+use Rattle.mig_guest.specs.Rounds.{Tight}
+use Rattle.mig_dirtysave_rounds.specs.Sends.{first_pfn}
+use Rattle.mig_dirtysave_rounds.specs.Live.{Ended, Saved, forms, type_in, tables_unsound}
 use Rattle.mig_dirtysave_rounds.proofs.Firsts.{first_none, first_same, super_is, lost_is, good_when, good_super, good_lost, good_form, no_fault, same_fault}
 use Rattle.mig_dirtysave_rounds.proofs.Parts.{members_below, joined_below}
 use Rattle.mig_dirtysave_rounds.proofs.Steps.{current_on, told_alike}
 use Rattle.mig_dirtysave_rounds.proofs.Saves.{front_all, rest_gone, taken_after, even, no_members, size_none}
+use Rattle.std.specs.FinMap as fin
+use Rattle.mig_guest.specs.Hosts as hosts
 
 differ : false ≡ true → ⊥
 differ e = cc

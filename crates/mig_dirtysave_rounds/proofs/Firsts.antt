@@ -1,19 +1,9 @@
 -- The first tables that no stream can have, and what a finding says of them.
-use Rattle.std.proofs.Common.{arith, ◌≡◌, ℕ, zero, suc, ◌<◌, Bool, true, false, cond, Option, Some, None, refl, sym, ap, subst, ◌∙◌, inl, inr, ⊎_elim}
-use Rattle.std.specs.Prelude.{◌⊎◌, ◌==◌}
-use Rattle.std.proofs.lemmas.Bool.{eqb-true}
-use Rattle.std.proofs.lemmas.Bool.Decides.{nat_tests}
+use Rattle.mig_dirtysave_rounds.proofs.Common.{arith, ◌≡◌, ℕ, zero, suc, ◌<◌, Bool, true, false, cond, Option, Some, None, refl, sym, ap, subst, ◌∙◌, inl, inr, ⊎_elim, ◌⊎◌, ◌==◌, eqb-true, nat_tests, FrameOf, HostFrames, Pfns, Footprint, footprint, Worst, table_of, superpage_in, superpage_slot, lost_in, lost_slot, form_of_print, Finding, judge, judged, frame_sent, is_deferred, IsWorst, or_first, place, within_set, super_of, lost_of, table_fault, worst_fault}
 use Rattle.mig_headers.specs.declared.unsound.Unsound.{Unsound}
+use Rattle.mig_dirtysave_rounds.specs.Sends.{first_pfn}
+use Rattle.mig_dirtysave_rounds.specs.Live.{IsUnsound}
 use Rattle.mig_headers.specs.declared.unsound.Unsound.TheVariants as unsounds
-use Rattle.mig_guest.specs.Frames.{FrameOf}
-use Rattle.mig_guest.specs.Hosts.{HostFrames}
-use Rattle.mig_guest.specs.Pfns.{Pfns}
-use Rattle.mig_guest.specs.Footprints.{Footprint, footprint}
-use Rattle.mig_dirtysave_rounds.specs.declared.found.Worst.{Worst}
-use Rattle.mig_dirtysave_rounds.specs.Forms.{table_of, superpage_in, superpage_slot, lost_in, lost_slot, form_of_print}
-use Rattle.mig_dirtysave_rounds.specs.Findings.{Finding, judge, judged, frame_sent, is_deferred}
-use Rattle.mig_dirtysave_rounds.specs.Sends.{IsWorst, first_pfn, or_first, place, within_set, super_of, lost_of}
-use Rattle.mig_dirtysave_rounds.specs.Live.{table_fault, worst_fault, IsUnsound}
 
 not_none : {A : Type 0} (x : A) → ◌≡◌ {A = Option A} None (Some x) → ⊥
 not_none x e = cc

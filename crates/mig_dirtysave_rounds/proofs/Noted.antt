@@ -1,15 +1,7 @@
 -- What is noted of one number more.
-use Rattle.std.proofs.Common.{arith, ◌≡◌, ◌≢◌, ℕ, ◌<◌, List, length, get_or, slice_set, Bool, true, false, cond, Option, None, refl, sym, ap, subst, ◌∙◌}
-use Rattle.std.specs.Prelude.{◌==◌}
-use Rattle.std.proofs.lemmas.Bool.{eqb-true}
-use Rattle.std.proofs.lemmas.Bool.Decides.{nat_tests}
+use Rattle.mig_dirtysave_rounds.proofs.Common.{arith, ◌≡◌, ℕ, ◌<◌, List, length, get_or, Bool, true, false, cond, Option, None, refl, sym, ap, subst, ◌∙◌, ◌==◌, eqb-true, nat_tests, fun_ext, PageType, Pfns, pfns_of_words, IsBelow, put_pfn, Finding, is_deferred, type_found, Notes, notes_of, noted}
+use Rattle.std.proofs.Common.{◌≢◌, slice_set}
 use Rattle.std.proofs.lemmas.Grind.{common_steps}
-use Rattle.std.proofs.Math.Path.{fun_ext}
-use Rattle.mig_pagetypes.specs.declared.page_type.PageType.{PageType}
-use Rattle.mig_guest.specs.Pfns.{Pfns, pfns_of_words}
-use Rattle.mig_guest.specs.Changes.{IsBelow, put_pfn}
-use Rattle.mig_dirtysave_rounds.specs.Findings.{Finding, is_deferred, type_found}
-use Rattle.mig_dirtysave_rounds.specs.Current.{Notes, notes_of, noted}
 use Rattle.mig_dirtysave_rounds.proofs.Parts.{put_below}
 
 here : (types : List (Option PageType)) (p q : ℕ) (kind : Option PageType) → p < length types → q ≡ p → get_or (slice_set types p kind) q None ≡ kind

@@ -1,12 +1,5 @@
 -- Parts of a set.
-use Rattle.std.proofs.Common.{arith, ◌≡◌, ℕ, zero, suc, ◌+◌, ◌-◌, ◌<◌, ◌≤◌, Bool, true, false, cond, nat_lt, sym, ap, subst, ◌∙◌, inl, inr}
-use Rattle.std.specs.Prelude.{◌&&◌, ◌||◌, ◌==◌, ◌⊎◌}
-use Rattle.std.proofs.lemmas.Bool.{cases_lt}
-use Rattle.std.proofs.lemmas.Bool.Decides.{nat_tests}
-use Rattle.std.proofs.Math.Path.{fun_ext}
-use Rattle.mig_guest.specs.Pfns.{Pfns, no_pfns, joined, with_pfn}
-use Rattle.mig_guest.specs.Changes.{IsBelow, put_pfn}
-use Rattle.mig_dirtysave_rounds.specs.Parts.{front, rest}
+use Rattle.mig_dirtysave_rounds.proofs.Common.{arith, ◌≡◌, ℕ, zero, suc, ◌+◌, ◌-◌, ◌<◌, ◌≤◌, Bool, true, false, cond, nat_lt, sym, ap, subst, ◌∙◌, inl, inr, ◌&&◌, ◌||◌, ◌==◌, ◌⊎◌, cases_lt, nat_tests, fun_ext, Pfns, no_pfns, joined, with_pfn, IsBelow, put_pfn, front, rest}
 
 -- ---- those below a number, and those from it on
 

@@ -1,29 +1,17 @@
 -- What is read of one number.
-use Rattle.std.proofs.Common.{arith, ◌≡◌, ℕ, ◌-◌, ◌≤◌, List, length, Bool, true, false, cond, Option, Some, None, Result, Ok, Err, refl, sym, ap, subst, ◌∙◌}
-use Rattle.std.specs.Prelude.{unwrap_or, is_some, IfOk}
-use Rattle.std.specs.Option.{option_map}
-use Rattle.std.specs.FinMap as maps
-use Rattle.mig_headers.specs.declared.kind.Kind.{Kind}
-use Rattle.mig_headers.specs.declared.kind.Kind.TheVariants.{Pv, Hvm}
-use Rattle.mig_pagetypes.specs.declared.page_type.PageType.{PageType}
-use Rattle.mig_pagetypes.specs.declared.page_type.PageType.TheVariants.{Notab, L1Tab, L2Tab, L3Tab, L4Tab, L1Pinned, L2Pinned, L3Pinned, L4Pinned, Broken, Xalloc, Xtab}
-use Rattle.mig_pagetypes.specs.PageTypes.{level_of, type_has_data}
-use Rattle.mig_guest.specs.Frames.{FrameOf, is_type_of}
-use Rattle.mig_guest.specs.Hosts.{HostFrame, HostFrames, HostOf, IsHostFrame}
-use Rattle.mig_guest.specs.Tables.{EachEntry, IsWithin}
+use Rattle.mig_dirtysave_rounds.proofs.Common.{arith, ◌≡◌, ℕ, ◌-◌, ◌≤◌, List, length, Bool, true, false, cond, Option, Some, None, Result, Ok, Err, refl, sym, ap, subst, ◌∙◌, IfOk, option_map, Kind, Pv, Hvm, PageType, Notab, L1Tab, L2Tab, L3Tab, L4Tab, L1Pinned, L2Pinned, L3Pinned, L4Pinned, Broken, Xalloc, Xtab, level_of, type_has_data, FrameOf, HostFrame, HostFrames, HostOf, EachEntry, IsWithin, History, MachineState, IsValidState, Peeked, footprint, footprint_of, table_in, names_in, superpage_in, lost_in, form_page, Finding, judge, judged, found_as, frame_sent, NamesWithin, CanBeTold, Shows, Looks, IsRaw, IsRight, ReadsOne, most_calls}
+use Rattle.std.specs.Prelude.{unwrap_or, is_some}
+use Rattle.mig_guest.specs.Frames.{is_type_of}
+use Rattle.mig_guest.specs.Hosts.{IsHostFrame}
 use Rattle.mig_guest.specs.declared.mig_machine_api.Seen.{Seen}
+use Rattle.mig_guest.specs.MachineCalls.{seen_of, seen_at, page_of, page_peeked}
+use Rattle.mig_dirtysave_rounds.specs.Findings.{IsToldFrame, ShowsOnly}
+use Rattle.mig_dirtysave_rounds.specs.Findings.Finding.{Gone}
+use Rattle.mig_dirtysave_rounds.proofs.Tables.{print_here, ran_on, data_of}
+use Rattle.std.specs.FinMap as maps
 use Rattle.mig_guest.specs.declared.mig_machine_api.Seen.TheVariants as seen
-use Rattle.mig_guest.specs.History.{History}
-use Rattle.mig_guest.specs.MachineStates.{MachineState, IsValidState}
-use Rattle.mig_guest.specs.MachineCalls.{Peeked, seen_of, seen_at, page_of, page_peeked}
-use Rattle.mig_guest.specs.Footprints.{footprint, footprint_of, table_in, names_in}
-use Rattle.mig_dirtysave_rounds.specs.Forms.{superpage_in, lost_in, form_page}
-use Rattle.mig_dirtysave_rounds.specs.Findings.{Finding, judge, judged, found_as, frame_sent, NamesWithin, IsToldFrame, CanBeTold, ShowsOnly}
 use Rattle.mig_dirtysave_rounds.specs.declared.found.Found as finds
 use Rattle.mig_dirtysave_rounds.specs.declared.found.Found.TheVariants as find
-use Rattle.mig_dirtysave_rounds.specs.Findings.Finding.{Gone, Shows}
-use Rattle.mig_dirtysave_rounds.specs.Step.{Looks, IsRaw, IsRight, ReadsOne, most_calls}
-use Rattle.mig_dirtysave_rounds.proofs.Tables.{print_here, ran_on, data_of}
 
 -- what is known of a frame that is there
 record Held (kind : PageType) (page : List ℕ) (held : HostFrame) : Type 0 where

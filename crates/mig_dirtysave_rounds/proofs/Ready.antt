@@ -1,13 +1,6 @@
 -- Room that was made is unused.
-use Rattle.std.proofs.Common.{arith, ◌≡◌, ℕ, ◌+◌, ◌/◌, ◌^◌, ◌≤◌, ◌<◌, List, [], length, get_or, Option, None, sym, ap, ◌∙◌, inl, inr}
-use Rattle.std.proofs.lemmas.Bool.{cases_lt}
+use Rattle.mig_dirtysave_rounds.proofs.Common.{arith, ◌≡◌, ℕ, ◌+◌, ◌/◌, ◌^◌, ◌≤◌, ◌<◌, List, [], length, get_or, Option, None, sym, ap, ◌∙◌, inl, inr, cases_lt, fun_ext, PageType, FrameTold, Pfns, no_pfns, all_below, pfns_of_words, Notes, notes_of, no_notes, IsUnused}
 use Rattle.std.proofs.lemmas.List.{get_or_past}
-use Rattle.std.proofs.Math.Path.{fun_ext}
-use Rattle.mig_pagetypes.specs.declared.page_type.PageType.{PageType}
-use Rattle.mig_records_pages.specs.Told.{FrameTold}
-use Rattle.mig_guest.specs.Pfns.{Pfns, no_pfns, all_below, pfns_of_words}
-use Rattle.mig_dirtysave_rounds.specs.Current.{Notes, notes_of, no_notes}
-use Rattle.mig_dirtysave_rounds.specs.Unused.{IsUnused}
 
 none_seen : (types : List (Option PageType)) → ((p : ℕ) → p < length types → get_or types p None ≡ None) → (p : ℕ) → get_or types p None ≡ None
 none_seen types none p = elim (cases_lt p (length types)) [ inl less ↦ none p less | inr past ↦ get_or_past types p None past ]

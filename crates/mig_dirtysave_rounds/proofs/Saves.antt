@@ -1,27 +1,10 @@
 -- From round to round, and to the pause.
-use Rattle.std.proofs.Common.{arith, ◌≡◌, ℕ, ◌+◌, ◌*◌, ◌^◌, ◌≤◌, ◌<◌, List, [], ◌∷◌, ◌++◌, length, Bool, true, false, cond, filter, Option, Result, Ok, Err, refl, sym, ap, subst, ◌∙◌, length-append}
-use Rattle.std.specs.Prelude.{◌&&◌, nat_lt, OnErr, OnOk, IfOk}
+use Rattle.mig_dirtysave_rounds.proofs.Common.{arith, ◌≡◌, ℕ, ◌+◌, ◌*◌, ◌^◌, ◌≤◌, ◌<◌, List, [], ◌∷◌, ◌++◌, length, Bool, true, false, cond, Option, Result, Ok, Err, refl, sym, ap, subst, ◌∙◌, length-append, ◌&&◌, OnErr, IfOk, nat_tests, length-map, fun_ext, Kind, Pv, Hvm, FrameTold, IsSent, IsBehind, behind_anyway, Pfns, no_pfns, members, size, LogTook, History, one_more, and_call, MachineState, LogTaken, GoesOn, to_read, rounds_read, most_calls, IsBelow, front, rest, total, total_taken, Notes, ReadsFront, SendsFront, StaysSame, Live, LiveSent, size-le}
+use Rattle.std.proofs.Common.{filter}
+use Rattle.std.specs.Prelude.{nat_lt, OnOk}
 use Rattle.std.specs.List.{range_with_len}
-use Rattle.std.proofs.lemmas.Bool.Decides.{nat_tests}
-use Rattle.std.proofs.lemmas.List.{length-map}
-use Rattle.std.proofs.Math.Path.{fun_ext}
-use Rattle.mig_headers.specs.declared.kind.Kind.{Kind}
-use Rattle.mig_headers.specs.declared.kind.Kind.TheVariants.{Pv, Hvm}
-use Rattle.mig_records_pages.specs.Told.{FrameTold}
-use Rattle.mig_records_pages.specs.Batches.{IsSent, IsBehind}
-use Rattle.mig_records_pages.proofs.Joins.{behind_anyway}
-use Rattle.mig_guest.specs.Pfns.{Pfns, no_pfns, members, size}
-use Rattle.mig_guest.specs.History.{LogTook, History, one_more, and_call}
-use Rattle.mig_guest.specs.MachineStates.{MachineState}
-use Rattle.mig_guest.specs.MachineCalls.{LogTaken}
-use Rattle.mig_guest.specs.Rounds.{GoesOn, AreCalls, to_read, rounds_read}
-use Rattle.mig_dirtysave_rounds.specs.Step.{most_calls}
-use Rattle.mig_guest.specs.Changes.{IsBelow}
-use Rattle.mig_dirtysave_rounds.specs.Parts.{front, rest, total, total_taken}
-use Rattle.mig_dirtysave_rounds.specs.Current.{Notes}
-use Rattle.mig_dirtysave_rounds.specs.Sends.{ReadsFront, SendsFront}
-use Rattle.mig_dirtysave_rounds.specs.Live.{StaysSame, AreRounds, Live, LiveSent}
-use Rattle.mig_guest.proofs.Sizes.{size-le}
+use Rattle.mig_guest.specs.Rounds.{AreCalls}
+use Rattle.mig_dirtysave_rounds.specs.Live.{AreRounds}
 use Rattle.mig_dirtysave_rounds.proofs.Shapes.{stays_on, ran_stays, reads_stay}
 use Rattle.mig_dirtysave_rounds.proofs.Steps.{current_on, told_alike, total_even, behind_less}
 

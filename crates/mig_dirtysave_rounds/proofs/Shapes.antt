@@ -1,10 +1,6 @@
 -- What stays the same of a machine, from call to call.
-use Rattle.std.proofs.Common.{◌∙◌, ℕ}
-use Rattle.mig_guest.specs.Hosts.{HostOf}
-use Rattle.mig_guest.specs.Pfns.{Pfns}
-use Rattle.mig_guest.specs.MachineStates.{MachineState, IsSameShape, Ran}
-use Rattle.mig_dirtysave_rounds.specs.Sends.{ReadsFront}
-use Rattle.mig_dirtysave_rounds.specs.Live.{StaysSame}
+use Rattle.mig_dirtysave_rounds.proofs.Common.{◌∙◌, ℕ, HostOf, Pfns, MachineState, Ran, ReadsFront, StaysSame}
+use Rattle.mig_guest.specs.MachineStates.{IsSameShape}
 
 shape_on : (g h k : HostOf) → IsSameShape g h → IsSameShape h k → IsSameShape g k
 shape_on g h k a b = record {

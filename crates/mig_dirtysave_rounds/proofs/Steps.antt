@@ -1,36 +1,19 @@
 -- What one more number does to the saver's invariant, and to a round.
-use Rattle.std.proofs.Common.{arith, ◌≡◌, ℕ, suc, ◌+◌, ◌*◌, ◌^◌, ◌≤◌, ◌<◌, List, [], ◌∷◌, ◌++◌, length, map, Bool, true, false, cond, Option, Some, None, Result, Ok, Err, refl, sym, ap, subst, ◌∙◌, inl, inr, ⊎_elim, length-append, append_assoc, append-nil}
-use Rattle.std.specs.Prelude.{◌||◌, ◌==◌, ◌⊎◌, OnErr}
-use Rattle.std.specs.Cmp.{nat_cmp_total, unsigned_tied}
-use Rattle.std.specs.FinMap as fin
-use Rattle.std.proofs.lemmas.Bool.{eqb-true}
-use Rattle.std.proofs.lemmas.Bool.Decides.{nat_tests}
-use Rattle.std.proofs.lemmas.List.{map-append, length-map}
+use Rattle.mig_dirtysave_rounds.proofs.Common.{arith, ◌≡◌, ℕ, suc, ◌+◌, ◌*◌, ◌^◌, ◌≤◌, ◌<◌, List, [], ◌∷◌, ◌++◌, length, Bool, true, false, cond, Option, Some, None, Result, Ok, Err, refl, sym, ap, subst, ◌∙◌, inl, inr, ⊎_elim, length-append, append-nil, ◌||◌, ◌==◌, ◌⊎◌, OnErr, nat_cmp_total, eqb-true, nat_tests, length-map, Kind, Pv, Hvm, FrameOf, HostOf, HostFrames, Pfns, no_pfns, members, size, with_pfn, Footprint, footprint, History, Since, nothing_asked, MachineState, Ran, table_of, superpage_in, lost_in, form_of_print, type_of_print, Worst, Finding, judge, judged, found_as, frame_sent, is_deferred, type_found, CanBeTold, ReadsOne, Strays, most_calls, rest, total, total_taken, meant, AreTold, IsBehind, FrameTold, Notes, Current, noted, behind_anyway, ReadsFront, SendsFront, IsWorst, or_first, within_set, place, super_of, lost_of, size-le, size_more, size_stays}
+use Rattle.std.proofs.Common.{map, append_assoc}
+use Rattle.std.specs.Cmp.{unsigned_tied}
+use Rattle.std.proofs.lemmas.List.{map-append}
 use Rattle.std.proofs.lemmas.List.Sums.{fold-append}
-use Rattle.mig_headers.specs.declared.kind.Kind.{Kind}
-use Rattle.mig_headers.specs.declared.kind.Kind.TheVariants.{Pv, Hvm}
-use Rattle.mig_guest.specs.Frames.{FrameOf, FrameMap}
-use Rattle.mig_guest.specs.Hosts.{HostOf, HostFrames}
-use Rattle.mig_guest.specs.Pfns.{Pfns, no_pfns, members, size, with_pfn}
-use Rattle.mig_guest.specs.Footprints.{Footprint, footprint}
-use Rattle.mig_guest.specs.History.{History, Since, nothing_asked}
-use Rattle.mig_guest.specs.MachineStates.{MachineState, Ran}
-use Rattle.mig_dirtysave_rounds.specs.Forms.{table_of, superpage_in, lost_in, form_of_print, type_of_print}
+use Rattle.mig_guest.specs.Frames.{FrameMap}
 use Rattle.mig_dirtysave_rounds.specs.declared.found.Found.{Found}
-use Rattle.mig_dirtysave_rounds.specs.declared.found.Found.TheVariants as found
-use Rattle.mig_dirtysave_rounds.specs.declared.found.Worst.{Worst}
-use Rattle.mig_dirtysave_rounds.specs.Findings.{Finding, judge, judged, found_as, frame_sent, is_deferred, type_found, CanBeTold}
-use Rattle.mig_dirtysave_rounds.specs.Step.{ReadsOne, Strays, most_calls}
-use Rattle.mig_dirtysave_rounds.specs.Parts.{rest, total, total_taken}
-use Rattle.mig_dirtysave_rounds.specs.Entries.{entry_for, put_at, put_told, meant, AreTold, IsToldEntry}
-use Rattle.mig_records_pages.specs.Batches.{IsBehind, FallsBehind}
-use Rattle.mig_records_pages.specs.Told.{FrameTold}
-use Rattle.mig_dirtysave_rounds.specs.Current.{Notes, Current, noted}
-use Rattle.mig_records_pages.proofs.Joins.{behind_anyway}
-use Rattle.mig_dirtysave_rounds.specs.Sends.{ReadsFront, SendsFront, IsWorst, first_pfn, or_first, within_set, place, found_super, found_lost, super_of, lost_of}
+use Rattle.mig_dirtysave_rounds.specs.Entries.{entry_for, put_at, put_told, IsToldEntry}
+use Rattle.mig_records_pages.specs.Batches.{FallsBehind}
+use Rattle.mig_dirtysave_rounds.specs.Sends.{first_pfn, found_super, found_lost}
 use Rattle.mig_dirtysave_rounds.proofs.Parts.{nothing_before, front_more, front_skip, not_itself, rest_more, rest_skip, rest_all, skip_to}
-use Rattle.mig_guest.proofs.Sizes.{size-le, size_more, size_stays, members_yes, members_no}
+use Rattle.mig_guest.proofs.Sizes.{members_yes, members_no}
 use Rattle.mig_dirtysave_rounds.proofs.Sizes.{size_front, one_more_at_most}
+use Rattle.std.specs.FinMap as fin
+use Rattle.mig_dirtysave_rounds.specs.declared.found.Found.TheVariants as found
 
 -- ---- what a list of entries means
 

@@ -1,11 +1,5 @@
 -- Which numbers were read.
-use Rattle.std.proofs.Common.{arith, ◌≡◌, ℕ, Bool, true, false, sym, ap, ◌∙◌}
-use Rattle.std.proofs.lemmas.Bool.Decides.{nat_tests}
-use Rattle.mig_guest.specs.Pfns.{Pfns, with_pfn}
-use Rattle.mig_guest.specs.History.{History}
-use Rattle.mig_guest.specs.MachineStates.{MachineState}
-use Rattle.mig_guest.specs.MachineCalls.{Peeked}
-use Rattle.mig_dirtysave_rounds.specs.Step.{Looks, Strays}
+use Rattle.mig_dirtysave_rounds.proofs.Common.{arith, ◌≡◌, ℕ, Bool, true, false, sym, ap, ◌∙◌, nat_tests, Pfns, with_pfn, History, MachineState, Peeked, Looks, Strays}
 
 both : (a b : Bool) → a ≡ false → b ≡ true → a ≡ b → ⊥
 both a b f t e = let no : false ≡ true = sym f ∙ e ∙ t in cc

@@ -1,30 +1,16 @@
 -- A table that is settled has kept its footprint, so names looked up at different moments belong together.
-use Rattle.std.proofs.Common.{arith, ◌≡◌, ℕ, ◌+◌, ◌-◌, ◌≤◌, ◌<◌, ◌==◌, List, length, Bool, true, false, Option, Some, None, cond, refl, sym, ap, subst, ◌∙◌, inl, inr, eq-eqb, ne_eqb, below_more}
-use Rattle.std.specs.Prelude.{option_and_then}
-use Rattle.std.specs.Option.{option_map}
-use Rattle.std.specs.FinMap as maps
-use Rattle.mig_pagetypes.specs.declared.page_type.PageType.{PageType}
-use Rattle.mig_pagetypes.specs.declared.page_type.PageType.TheVariants.{Notab, L1Tab, L2Tab, L3Tab, L4Tab, L1Pinned, L2Pinned, L3Pinned, L4Pinned, Broken, Xalloc, Xtab}
-use Rattle.mig_pagetypes.specs.PageTypes.{level_of, type_has_data}
-use Rattle.mig_guest.specs.Hosts.{HostFrame, HostFrames, pfn_in}
-use Rattle.mig_guest.specs.MachineStates.{MachineState, Ran}
-use Rattle.std.specs.Prelude.{get_or}
-use Rattle.mig_guest.specs.declared.table.Entry.TheVariants.{Frame}
-use Rattle.mig_guest.specs.Frames.{FrameOf}
-use Rattle.mig_guest.specs.Longs.{long_at}
-use Rattle.mig_guest.specs.Tables.{entry, entry_of, blanked_table, EachEntry, IsWithin}
-use Rattle.mig_pvtables.specs.Renaming.{renamed_by}
-use Rattle.mig_pvtables.specs.Tables.{first_superpage}
-use Rattle.mig_pvtables.proofs.LongSteps.{ChangedBelow, walk_start}
-use Rattle.mig_pvtables.proofs.Slots.{no_slot}
-use Rattle.mig_pvtables.proofs.Slots as searches
-use Rattle.mig_guest.specs.Footprints.{Footprint, footprint, footprint_of, names_in, named_by, table_in}
-use Rattle.mig_dirtysave_rounds.specs.Forms.{lost_at, is_lost, superpage_in, lost_in, form_page}
-use Rattle.mig_dirtysave_rounds.specs.Findings.{judge, judged, found_as, frame_sent, NamesWithin}
-use Rattle.mig_dirtysave_rounds.specs.Findings.Finding.{Shows}
-use Rattle.mig_dirtysave_rounds.specs.declared.found.Found.TheVariants as found
-use Rattle.mig_dirtysave_rounds.specs.Step.{Settled, Looks, raw_print, IsRaw, IsRenamed, IsRight, NameIsInside, put_slot}
+use Rattle.mig_dirtysave_rounds.proofs.Common.{arith, ◌≡◌, ℕ, ◌+◌, ◌-◌, ◌≤◌, ◌<◌, List, length, Bool, true, false, Option, Some, None, cond, refl, sym, ap, subst, ◌∙◌, inl, inr, option_map, PageType, Notab, L1Tab, L2Tab, L3Tab, L4Tab, L1Pinned, L2Pinned, L3Pinned, L4Pinned, Broken, Xalloc, Xtab, level_of, type_has_data, HostFrame, HostFrames, MachineState, Ran, Frame, FrameOf, long_at, entry, blanked_table, EachEntry, IsWithin, renamed_by, first_superpage, ChangedBelow, no_slot, Footprint, footprint, footprint_of, names_in, table_in, lost_at, is_lost, superpage_in, lost_in, form_page, judge, judged, found_as, frame_sent, NamesWithin, Shows, Looks, IsRaw, IsRenamed, IsRight, put_slot}
+use Rattle.std.proofs.Common.{◌==◌, eq-eqb, ne_eqb, below_more}
+use Rattle.std.specs.Prelude.{option_and_then, get_or}
+use Rattle.mig_guest.specs.Hosts.{pfn_in}
+use Rattle.mig_guest.specs.Tables.{entry_of}
+use Rattle.mig_pvtables.proofs.LongSteps.{walk_start}
+use Rattle.mig_guest.specs.Footprints.{named_by}
+use Rattle.mig_dirtysave_rounds.specs.Step.{Settled, raw_print, NameIsInside}
 use Rattle.mig_dirtysave_rounds.proofs.Slots.{formed_long, same_long, names_alike, same_names, put_step, table_formed, entries_within}
+use Rattle.std.specs.FinMap as maps
+use Rattle.mig_pvtables.proofs.Slots as searches
+use Rattle.mig_dirtysave_rounds.specs.declared.found.Found.TheVariants as found
 
 -- ---- what is settled at the end was so before
 

@@ -1,26 +1,11 @@
 -- How much is read in all, and how many records that makes.
-use Rattle.std.proofs.Common.{arith, ◌≡◌, ℕ, zero, suc, ◌+◌, ◌*◌, ◌≤◌, ◌^◌, List, [], ◌∷◌, length, Option, false, sym, ap, subst, ◌∙◌, append-nil, length-append}
+use Rattle.mig_dirtysave_rounds.proofs.Common.{arith, ◌≡◌, ℕ, zero, suc, ◌+◌, ◌*◌, ◌≤◌, ◌^◌, List, [], ◌∷◌, length, Option, false, sym, ap, subst, ◌∙◌, append-nil, length-append, nat_tests, length-map, Kind, PageType, FrameTold, IsSent, nothing_sent, Pfns, size, members, all_below, pfns_of_words, History, LogTook, no_history, MachineState, IsValidState, Rounds, rounds_read, all_read, Worst, IsBelow, total, total_taken, AreTold, meant, Notes, notes_of, LiveSent, SendsRounds, SavedSent, worst_fault, FramesSaved, IsUnused, size-le}
 use Rattle.std.proofs.Math.Nat.{suc-mul}
-use Rattle.std.proofs.lemmas.Bool.Decides.{nat_tests}
-use Rattle.std.proofs.lemmas.List.{length-map}
-use Rattle.mig_headers.specs.declared.kind.Kind.{Kind}
-use Rattle.mig_pagetypes.specs.declared.page_type.PageType.{PageType}
-use Rattle.mig_records_pages.specs.Told.{FrameTold, all_told}
-use Rattle.mig_records_pages.specs.Batches.{IsSent, AreSized, AreFull}
-use Rattle.mig_records_pages.proofs.Joins.{few_batches, nothing_sent}
-use Rattle.mig_guest.specs.Pfns.{Pfns, size, members, all_below, pfns_of_words}
-use Rattle.mig_guest.specs.History.{History, LogTook, no_history}
-use Rattle.mig_guest.specs.MachineStates.{MachineState, IsValidState}
-use Rattle.mig_guest.specs.Rounds.{Rounds, rounds_read, all_read}
-use Rattle.mig_dirtysave_rounds.specs.declared.found.Worst.{Worst}
-use Rattle.mig_guest.specs.Changes.{IsBelow}
-use Rattle.mig_dirtysave_rounds.specs.Parts.{total, total_taken}
-use Rattle.mig_dirtysave_rounds.specs.Entries.{AreTold, meant, pfns_sent}
-use Rattle.mig_dirtysave_rounds.specs.Current.{Notes, notes_of}
-use Rattle.mig_dirtysave_rounds.specs.Live.{LiveSent, SendsRounds, SavedSent, worst_fault, FramesSaved}
-use Rattle.mig_dirtysave_rounds.specs.Unused.{IsUnused}
+use Rattle.mig_records_pages.specs.Told.{all_told}
+use Rattle.mig_records_pages.specs.Batches.{AreSized, AreFull}
+use Rattle.mig_records_pages.proofs.Joins.{few_batches}
+use Rattle.mig_dirtysave_rounds.specs.Entries.{pfns_sent}
 use Rattle.mig_dirtysave_rounds.proofs.Ends.{sent_start}
-use Rattle.mig_guest.proofs.Sizes.{size-le}
 use Rattle.mig_dirtysave_rounds.proofs.Saves.{length_rounds, size_none}
 
 taken_small : (width : ℕ) (l : List LogTook) → total_taken width l ≤ length l * width

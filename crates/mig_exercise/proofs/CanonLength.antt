@@ -1,39 +1,20 @@
 -- How many bytes the canonical stream has of the guest that the host of the exercise is seen as.
-use Rattle.std.proofs.Common.{◌≡◌, ℕ, zero, suc, ◌+◌, ◌-◌, ◌*◌, ◌/◌, List, [], length, map, Bool, true, false, cond, Option, Some, None, sym, ap, subst, ◌∙◌, inl, inr, is_some, arith, nat_lt}
-use Rattle.std.proofs.lemmas.Bool.{cases_lt}
+use Rattle.mig_exercise.proofs.Common.{◌≡◌, ℕ, zero, suc, ◌+◌, ◌-◌, ◌*◌, ◌/◌, List, [], length, map, Bool, true, false, cond, Option, Some, None, sym, ap, subst, ◌∙◌, inl, inr, is_some, arith, nat_lt, cases_lt, nat_cmp_total, nat_cmp-IsAntisymmetric, All, nat_cmp, ◌==◌, unwrap_or, level_of, FrameOf, FrameMap, HostFrame, HostFrames, pfn_in, longs, part_cmp, p2m_key, vcpu_key, shared_key, PartMap, length_longs, part_total, part_exact, each_value, is_used_somewhere, from_each, without_machine, view, Frame, batches, canon_any, IsExerciseSize, ArePages, p2m_frame_count, first_data, exercise_page, exercise_frame, exercise_p2m_list, exercise_context, page_of_zeros, host_with}
 use Rattle.std.proofs.lemmas.List.{length-replicate}
-use Rattle.std.specs.Cmp.{nat_cmp_total}
-use Rattle.std.specs.FinMap as maps
-use Rattle.std.specs.FinMap.{nat_cmp-IsAntisymmetric}
 use Rattle.std.specs.FinMap.Entries.{put}
 use Rattle.std.specs.Int.{div_ceil}
-use Rattle.std.specs.List.{All}
-use Rattle.std.specs.Ordering.{nat_cmp}
-use Rattle.std.specs.Prelude.{◌==◌, unwrap_or}
-use Rattle.mig_pagetypes.specs.PageTypes.{level_of}
-use Rattle.mig_guest.specs.Frames.{FrameOf, FrameMap}
-use Rattle.mig_guest.specs.Hosts.{HostFrame, HostFrames, pfn_in}
-use Rattle.mig_guest.specs.Longs.{longs}
-use Rattle.mig_guest.specs.Order.{part_cmp}
-use Rattle.mig_guest.specs.PartKeys.{p2m_key, vcpu_key, shared_key}
-use Rattle.mig_guest.specs.Parts.{PartMap}
 use Rattle.mig_guest.proofs.Found.{all_found}
-use Rattle.mig_guest.proofs.Longs.{length_longs}
-use Rattle.mig_guest.proofs.PartOrder.{part_total, part_exact}
-use Rattle.mig_pvtables.specs.Blank.{zero_page as blank_page, each_value, blanked_page, blanked_frame, blanked_part}
+use Rattle.mig_pvtables.specs.Blank.{zero_page as blank_page, blanked_page, blanked_frame, blanked_part}
 use Rattle.mig_pvtables.specs.P2mFrames.{place_of}
-use Rattle.mig_pvtables.specs.VcpuContexts.{is_used_somewhere, blanked_context, blanked_shared}
-use Rattle.mig_pvtables.proofs.EachValue.{shown, from_each, entries_each, len_each}
+use Rattle.mig_pvtables.specs.VcpuContexts.{blanked_context, blanked_shared}
+use Rattle.mig_pvtables.proofs.EachValue.{shown, entries_each, len_each}
 use Rattle.mig_host_view.specs.Localised.{renamed_page, renamed_frame, renamed_part}
 use Rattle.mig_host_view.specs.RenamedContexts.{renamed_context}
-use Rattle.mig_host_view.specs.View.{without_machine, view}
-use Rattle.mig_records_pages.specs.PageData.{Frame}
-use Rattle.mig_canon.specs.Canon.{batches}
-use Rattle.mig_canon.specs.CanonStream.{canon_any}
 use Rattle.mig_host.proofs.InOrder.{no_entries}
-use Rattle.mig_exercise.specs.ExerciseHosts.{IsExerciseSize, ArePages, p2m_frame_count, first_data, exercise_page, exercise_frame, frames_up_to, exercise_parts, exercise_p2m_list, exercise_context, page_of_zeros, host_with, exercise_canon_len}
+use Rattle.mig_exercise.specs.ExerciseHosts.{frames_up_to, exercise_parts, exercise_canon_len}
 use Rattle.mig_exercise.proofs.Frames.{frame_there, frame_none}
 use Rattle.mig_exercise.proofs.CanonSizes.{IsPaged, three_parts, canon_size}
+use Rattle.std.specs.FinMap as maps
 
 -- ---- parts
 

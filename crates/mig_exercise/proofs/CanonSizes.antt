@@ -1,32 +1,24 @@
 -- How many bytes the canonical stream has of a PV guest that has no parts but a list of P2M frames, the context of one vCPU
 -- and the shared page, and of which each frame has a page.
-use Rattle.std.proofs.Common.{◌≡◌, ◌≢◌, ℕ, zero, suc, ◌+◌, ◌*◌, List, [], ◌∷◌, ◌++◌, length, take, drop, map, replicate, Some, None, true, false, cond, refl, sym, ap, ◌∙◌, arith, append-nil, length-append}
+use Rattle.mig_exercise.proofs.Common.{◌≡◌, ◌≢◌, ℕ, zero, suc, ◌+◌, ◌*◌, List, [], ◌∷◌, ◌++◌, length, take, drop, map, Some, None, true, false, cond, refl, sym, ap, ◌∙◌, arith, All, little_bytes, Pv, FrameMap, part_cmp, p2m_key, vcpu_key, shared_key, PartMap, VcpuBasic, PartKey, part_exact, Frame, batches}
+use Rattle.std.proofs.Common.{replicate, append-nil, length-append}
 use Rattle.std.proofs.lemmas.List.Elements.{All-head, All-tail, All-take, All-drop}
 use Rattle.std.proofs.lemmas.List.FromFn.{map-range_with_len_more}
-use Rattle.std.specs.FinMap as maps
 use Rattle.std.specs.FinMap.{find}
-use Rattle.std.specs.List.{All, flat_map, list_any}
+use Rattle.std.specs.List.{flat_map, list_any}
 use Rattle.std.specs.Ordering.{eq_by_cmp}
 use Rattle.std.specs.Prelude.{if◌then◌else◌}
-use Rattle.byteorder.specs.Endian.{little_bytes}
 use Rattle.mig_headers.specs.Headers.{image_header_of, domain_header_of}
-use Rattle.mig_headers.specs.declared.kind.Kind.TheVariants.{Pv}
 use Rattle.mig_guest.specs.Formed.{is_emulator_code}
-use Rattle.mig_guest.specs.Frames.{FrameMap}
 use Rattle.mig_guest.specs.Guests.{GuestOf}
-use Rattle.mig_guest.specs.Order.{part_cmp}
 use Rattle.mig_guest.specs.PartCodes.{code_number}
-use Rattle.mig_guest.specs.PartKeys.{p2m_key, vcpu_key, shared_key}
-use Rattle.mig_guest.specs.Parts.{Part, PartMap, parts_of}
+use Rattle.mig_guest.specs.Parts.{Part, parts_of}
 use Rattle.mig_guest.specs.declared.part_code.PartCode.{PartCode}
-use Rattle.mig_guest.specs.declared.part_code.PartCode.TheVariants.{VcpuBasic}
-use Rattle.mig_guest.specs.declared.part_key.PartKey.{PartKey}
 use Rattle.mig_guest.proofs.KeyedMaps.{tied}
-use Rattle.mig_guest.proofs.PartOrder.{part_exact}
 use Rattle.mig_records.specs.Shapes.{canonical_bodies}
 use Rattle.mig_records.specs.Records.{head_of, spelled, Record, text_of}
-use Rattle.mig_records_pages.specs.PageData.{Frame, page_in, pages_of, body_of}
-use Rattle.mig_canon.specs.Canon.{batch, batches, frame_bodies, records_in_order, static_codes, pv_last_codes, static_bodies, p2m_body, p2m_record, p2m_records, part_record, key_of, vcpu_codes, records_of_vcpu, vcpus_below, all_vcpus, last_records, info_records, headers, canon}
+use Rattle.mig_records_pages.specs.PageData.{page_in, pages_of, body_of}
+use Rattle.mig_canon.specs.Canon.{batch, frame_bodies, records_in_order, static_codes, pv_last_codes, static_bodies, p2m_body, p2m_record, p2m_records, part_record, key_of, vcpu_codes, records_of_vcpu, vcpus_below, all_vcpus, last_records, info_records, headers, canon}
 use Rattle.mig_records_pages.proofs.PageTexts.{words_len}
 use Rattle.mig_canon.proofs.PvRecords.{vcpus_end}
 use Rattle.mig_records.proofs.RecordTexts.{spelled_flat, text_one, text_join}
@@ -34,6 +26,7 @@ use Rattle.mig_canon.proofs.Spelling.{canon_is}
 use Rattle.mig_canon.proofs.CanonFrames.{body_len, take_more, all_taken}
 use Rattle.mig_canon.proofs.PvMaps.{vcpus_more}
 use Rattle.mig_canon.specs.CanonStream.{is_of_converter, opening_text, text_of_emulators, emulators_in_order, wrapper_opening, wrapper_closing, canon_any}
+use Rattle.std.specs.FinMap as maps
 
 -- ---- headers and records
 

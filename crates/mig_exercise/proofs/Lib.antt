@@ -1,3 +1,4 @@
+pub mod Common
 pub mod Frames
 pub mod NumberSteps
 pub mod LongPages

@@ -1,16 +1,11 @@
 -- Bytes made of numbers, and what writing some of them makes.
-use Rattle.std.proofs.Common.{◌≡◌, ℕ, zero, suc, ◌+◌, ◌-◌, ◌*◌, ◌^◌, ◌<◌, ◌≤◌, Bool, true, false, cond, nat_lt, List, ◌++◌, Some, None, refl, sym, ap, ◌∙◌, inl, inr, arith, min}
-use Rattle.std.proofs.lemmas.Bool.{cases_lt, cond_below, lt-ltb, le-ltb, eq-eqb, ne_eqb}
+use Rattle.mig_exercise.proofs.Common.{◌≡◌, ℕ, zero, suc, ◌+◌, ◌-◌, ◌*◌, ◌^◌, ◌<◌, ◌≤◌, Bool, true, false, cond, nat_lt, List, ◌++◌, Some, None, refl, sym, ap, ◌∙◌, inl, inr, arith, min, cases_lt, le-ltb, eq-eqb, ne_eqb, unwrap_or, ◌==◌, little_bytes, with_field, p2m_page, exercise_context, exercise_machine, exercise_machine_of, exercise_page, table_naming, page_of_zeros, number_page}
+use Rattle.std.proofs.lemmas.Bool.{cond_below, lt-ltb}
 use Rattle.std.proofs.lemmas.List.{replicate-append-replicate}
-use Rattle.std.specs.Prelude.{replicate, unwrap_or, ◌==◌}
-use Rattle.byteorder.specs.Endian.{little_bytes}
-use Rattle.mig_bytes.specs.Fields.{with_field}
+use Rattle.std.specs.Prelude.{replicate}
 use Rattle.mig_guest.specs.Longs.{longs}
 use Rattle.mig_guest.proofs.Longs.{same_longs, put_long}
-use Rattle.mig_pvtables.specs.P2mPages.{p2m_page}
 use Rattle.mig_pvtables.proofs.LongSteps.{one_more_below}
-use Rattle.mig_exercise.specs.ExerciseHosts.{exercise_context, exercise_machine, exercise_machine_of, exercise_page, table_naming, page_of_zeros}
-use Rattle.mig_exercise.specs.ExerciseSteps.{number_page}
 
 -- equal bytes, as numbers that are all the same
 pub same_bytes : (n x b : ℕ) → little_bytes 8 x ≡ replicate 8 b → replicate (8 * n) b ≡ longs n (λ _. x)

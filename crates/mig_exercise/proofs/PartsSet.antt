@@ -1,24 +1,14 @@
 -- What the parts of the exercise ask of its host, and what setting them makes.
-use Rattle.std.proofs.Common.{◌≡◌, ℕ, suc, ◌+◌, ◌*◌, ◌<◌, ◌≤◌, List, ◌++◌, length, refl, sym, ap, subst, ◌∙◌, arith}
-use Rattle.std.proofs.lemmas.Bool.{eq-eqb}
+use Rattle.mig_exercise.proofs.Common.{◌≡◌, ℕ, suc, ◌+◌, ◌*◌, ◌<◌, ◌≤◌, List, ◌++◌, length, refl, sym, ap, subst, ◌∙◌, arith, eq-eqb, ◌==◌, little_bytes, Pv, VcpuBasic, PartKey, HostOf, part_cmp, p2m_key, vcpu_key, shared_key, PartMap, insert_len, length_longs, part_total, exercise_context, exercise_p2m_list, p2m_frame_count, page_of_zeros}
 use Rattle.std.proofs.lemmas.List.Sums.{length-filter, count_by-le-length}
-use Rattle.std.specs.Prelude.{◌==◌}
-use Rattle.std.specs.FinMap as maps
-use Rattle.byteorder.specs.Endian.{little_bytes}
 use Rattle.mig_headers.specs.RecordTypes.{pv}
-use Rattle.mig_headers.specs.declared.kind.Kind.TheVariants.{Pv}
-use Rattle.mig_guest.specs.declared.part_code.PartCode.TheVariants.{P2mFrames, VcpuBasic, SharedInfo}
-use Rattle.mig_guest.specs.declared.part_key.PartKey.{PartKey}
-use Rattle.mig_guest.specs.Hosts.{HostOf, IsHostPart}
+use Rattle.mig_guest.specs.declared.part_code.PartCode.TheVariants.{P2mFrames, SharedInfo}
+use Rattle.mig_guest.specs.Hosts.{IsHostPart}
 use Rattle.mig_guest.specs.Longs.{longs}
-use Rattle.mig_guest.specs.Order.{part_cmp}
-use Rattle.mig_guest.specs.PartKeys.{p2m_key, vcpu_key, shared_key}
-use Rattle.mig_guest.specs.Parts.{PartMap, FitsPolicy}
-use Rattle.mig_guest.proofs.KeyedMaps.{insert_len}
-use Rattle.mig_guest.proofs.Longs.{length_longs}
-use Rattle.mig_guest.proofs.PartOrder.{part_total}
+use Rattle.mig_guest.specs.Parts.{FitsPolicy}
 use Rattle.mig_host.specs.HostView.{put_part_in}
-use Rattle.mig_exercise.specs.ExerciseHosts.{exercise_context, exercise_p2m_list, exercise_parts, p2m_frame_count, page_of_zeros}
+use Rattle.mig_exercise.specs.ExerciseHosts.{exercise_parts}
+use Rattle.std.specs.FinMap as maps
 
 -- ---- the list of P2M frames
 

@@ -1,38 +1,25 @@
 -- Whatever its frames of data hold, the host of the exercise can be seen as a guest.
-use Rattle.std.proofs.Common.{◌≡◌, ◌≢◌, ℕ, ◌+◌, ◌-◌, ◌*◌, ◌/◌, ◌^◌, ◌<◌, ◌≤◌, true, false, cond, not, nat_lt, List, length, Some, None, is_some, refl, sym, ap, subst, ◌∙◌, inl, inr, arith, lit<}
-use Rattle.std.proofs.lemmas.Bool.{cases_eq, cases_lt, ne_eqb, le-leb, le-ltb, ltb-true}
+use Rattle.mig_exercise.proofs.Common.{◌≡◌, ◌≢◌, ℕ, ◌+◌, ◌-◌, ◌*◌, ◌/◌, ◌^◌, ◌<◌, ◌≤◌, true, false, cond, not, nat_lt, List, length, Some, None, is_some, refl, sym, ap, subst, ◌∙◌, inl, inr, arith, lit<, cases_eq, cases_lt, ne_eqb, le-ltb, ltb-true, nat_cmp_total, nat_cmp-IsAntisymmetric, option_map, ◌==◌, level_of, PartKey, FrameOf, FrameMap, HostFrame, HostFrames, pfn_in, longs, part_cmp, p2m_key, vcpu_key, shared_key, length_longs, long_of_longs, part_total, part_exact, NamesKnown, each_value, is_used_somewhere, from_each, unsoundness, without_machine, p2m_frame_count, exercise_type, exercise_machine, exercise_page, exercise_frame, frames_up_to, exercise_context, exercise_p2m_list, page_of_zeros, host_with, ArePages, IsExerciseSize}
+use Rattle.std.proofs.lemmas.Bool.{le-leb}
 use Rattle.std.proofs.lemmas.Option.{cond_some}
-use Rattle.std.specs.Cmp.{nat_cmp_total}
-use Rattle.std.specs.FinMap as maps
-use Rattle.std.specs.FinMap.{nat_cmp-IsAntisymmetric}
-use Rattle.std.specs.Option.{option_map}
-use Rattle.std.specs.Prelude.{option_and_then, ◌==◌}
-use Rattle.mig_pagetypes.specs.PageTypes.{level_of}
-use Rattle.mig_guest.specs.declared.part_key.PartKey.{PartKey}
+use Rattle.std.specs.Prelude.{option_and_then}
 use Rattle.mig_guest.specs.Formed.{gdt_ents}
-use Rattle.mig_guest.specs.Frames.{FrameOf, FrameMap}
-use Rattle.mig_guest.specs.Hosts.{HostFrame, HostFrames, IsOneToOne, pfn_in}
-use Rattle.mig_guest.specs.Longs.{long_at, longs}
-use Rattle.mig_guest.specs.Order.{part_cmp}
-use Rattle.mig_guest.specs.PartKeys.{p2m_key, vcpu_key, shared_key}
+use Rattle.mig_guest.specs.Hosts.{IsOneToOne}
+use Rattle.mig_guest.specs.Longs.{long_at}
 use Rattle.mig_guest.specs.Tables.{EachEntry}
 use Rattle.mig_guest.proofs.Found.{insert_holds}
-use Rattle.mig_guest.proofs.Longs.{length_longs, long_of_longs}
-use Rattle.mig_guest.proofs.PartOrder.{part_total, part_exact}
-use Rattle.mig_pvtables.specs.BadEntries.{NamesKnown}
-use Rattle.mig_pvtables.specs.Blank.{each_value}
 use Rattle.mig_pvtables.specs.Faults.{type_at, fits_field}
 use Rattle.mig_pvtables.specs.P2mFrames.{listed_in, listed}
-use Rattle.mig_pvtables.specs.VcpuContexts.{field_value, frame_of_field, is_used_somewhere}
+use Rattle.mig_pvtables.specs.VcpuContexts.{field_value, frame_of_field}
 use Rattle.mig_pvtables.specs.WholePv.{AreP2mFrames}
-use Rattle.mig_pvtables.proofs.EachValue.{from_each, to_each}
-use Rattle.mig_host_view.specs.Sound.{machine_type, IsSound, unsoundness}
-use Rattle.mig_host_view.specs.View.{without_machine}
+use Rattle.mig_pvtables.proofs.EachValue.{to_each}
+use Rattle.mig_host_view.specs.Sound.{machine_type, IsSound}
 use Rattle.mig_host_view.proofs.SoundRows.{sound_is_faultless}
 use Rattle.mig_host.proofs.Machines.{pfn_of_machine}
-use Rattle.mig_exercise.specs.ExerciseHosts.{p2m_frame_count, exercise_type, exercise_machine, exercise_page, exercise_frame, frames_up_to, exercise_context, exercise_p2m_list, exercise_parts, page_of_zeros, host_with, ArePages, IsExerciseSize}
+use Rattle.mig_exercise.specs.ExerciseHosts.{exercise_parts}
 use Rattle.mig_exercise.proofs.ExerciseEntries.{machine_small, NamesFrames, known_table, no_table, is_table}
 use Rattle.mig_exercise.proofs.Frames.{frame_there, frame_none, p2m_there, shared_there, vcpu_there}
+use Rattle.std.specs.FinMap as maps
 
 -- ---- numbers
 

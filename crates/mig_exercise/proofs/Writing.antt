@@ -1,14 +1,10 @@
 -- How the script of the exercise grows.
-use Rattle.std.proofs.Common.{◌≡◌, ℕ, suc, ◌+◌, ◌*◌, ◌%◌, List, [], ◌∷◌, ◌++◌, map, ap, ◌∙◌, arith}
+use Rattle.mig_exercise.proofs.Common.{◌≡◌, ℕ, suc, ◌+◌, ◌*◌, ◌%◌, List, [], ◌∷◌, ◌++◌, map, ap, ◌∙◌, arith, little_bytes, line_said, Write, Dot, next_number, first_data, data_count}
 use Rattle.std.proofs.lemmas.List.{map-append}
-use Rattle.byteorder.specs.Endian.{little_bytes}
-use Rattle.mig_machine_script.specs.ScriptLines.{line_said}
-use Rattle.mig_machine_script.specs.ScriptLines.LineOf.{Write, Dot}
 use Rattle.mig_machine_script.specs.declared.script.Line.{Line}
-use Rattle.mig_machine_script.specs.declared.script.Line.TheVariants as lines
-use Rattle.mig_exercise.specs.Numbers.{number, next_number}
-use Rattle.mig_exercise.specs.ExerciseHosts.{first_data, data_count}
+use Rattle.mig_exercise.specs.Numbers.{number}
 use Rattle.mig_exercise.specs.ExerciseScripts.{writes_up_to}
+use Rattle.mig_machine_script.specs.declared.script.Line.TheVariants as lines
 
 -- one group more: the numbers go on from `last`
 pub one_group_more : (seed n i last place x : ℕ) (now new : List Line) (line : Line)

@@ -1,10 +1,10 @@
 -- A map that is copied entry by entry, in the order of the keys, each value changed by its key.
-use Rattle.mig_host.proofs.Common.{◌≡◌, false, List, [], ◌∷◌, ◌++◌, map, Some, refl, sym, ap, subst, ◌∙◌, append-nil, append_assoc, T, Ordering, IsTotalOrder, FinMap, IsAntisymmetric, find, get-entries, entries_sorted, is_sorted, same_map}
-use Rattle.std.specs.FinMap as maps
+use Rattle.mig_host.proofs.Common.{◌≡◌, false, List, [], ◌∷◌, ◌++◌, map, Some, refl, sym, ap, subst, ◌∙◌, append-nil, T, Ordering, IsTotalOrder, FinMap, IsAntisymmetric, find, get-entries, entries_sorted, is_sorted, same_map, each_value, entries_each}
+use Rattle.std.proofs.Common.{append_assoc}
 use Rattle.std.proofs.lemmas.List.{map-append}
-use Rattle.mig_pvtables.specs.Blank.{each_value}
-use Rattle.mig_pvtables.proofs.EachValue.{shown, entries_each}
+use Rattle.mig_pvtables.proofs.EachValue.{shown}
 use Rattle.mig_host.proofs.InOrder.{has_from, entries_behind, front_below, get_at, no_entries}
+use Rattle.std.specs.FinMap as maps
 
 -- the map m has the entries before those that are left, changed by f
 abbrev pub IsCopied : {K X Y : Type 0} {R : K → K → Ordering} → (K → X → Y) → FinMap R X → FinMap R Y → List (K × X) → Type 0

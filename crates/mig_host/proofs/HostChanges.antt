@@ -1,27 +1,20 @@
 -- A host stays valid where a frame is changed in place, or taken away.
-use Rattle.mig_host.proofs.Common.{◌≡◌, ℕ, ◌+◌, ◌-◌, ◌<◌, ◌≤◌, ◌^◌, Bool, true, false, cond, length, List, Option, Some, None, is_some, refl, sym, ap, subst, ◌∙◌, ◌⊎◌, inl, inr, arith, unwrap_or, option_map, option_and_then, nat_cmp, eq_by_cmp, nat_cmp_total, nat_cmp-IsAntisymmetric, same_map, len-entries, none-some, same_Some, Kind, FrameOf, FrameMap, HostOf, HostFrame, HostFrames, IsHostFrame, IsOneToOne, IsValid, PartMap, is_type_of, type_has_data, PageType, MachineMap, with_machine, machine_in, host_seen, AreMatched, IsMade, put_frame, Pv, Hvm}
+use Rattle.mig_host.proofs.Common.{◌≡◌, ℕ, ◌+◌, ◌-◌, ◌<◌, ◌≤◌, ◌^◌, Bool, true, false, cond, length, List, Option, Some, None, is_some, refl, sym, ap, subst, ◌∙◌, ◌⊎◌, inl, inr, arith, unwrap_or, option_map, option_and_then, nat_cmp, eq_by_cmp, nat_cmp_total, nat_cmp-IsAntisymmetric, same_map, len-entries, none-some, same_Some, Kind, FrameOf, FrameMap, HostOf, HostFrame, HostFrames, IsHostFrame, IsOneToOne, IsValid, PartMap, is_type_of, type_has_data, PageType, MachineMap, with_machine, machine_in, host_seen, AreMatched, IsMade, put_frame, Pv, Hvm, PartKey, part_cmp, part_total, part_exact, FitsPolicy, IsHostPart, IfSome, ◌++◌, ◌==◌, append-nil, row_of, code_number, PartCode, tied, each_value, get_each, is_inserted, insert_holds, remove_holds, raw_page_at, retyped, exchanged, without_frame}
 use Rattle.mig_pagetypes.specs.Limits.{pfn_limit}
 use Rattle.mig_pagetypes.specs.declared.page_type.PageType.TheVariants.{Notab}
-use Rattle.std.specs.FinMap as maps
-use Rattle.mig_host.proofs.Common.{PartKey, part_cmp, part_total, part_exact, FitsPolicy, IsHostPart, IfSome, ◌++◌, ◌==◌, append-nil}
 use Rattle.std.proofs.Common.{replicate}
 use Rattle.std.proofs.lemmas.List.{drop_all, length-replicate}
-use Rattle.std.specs.FinMap.{len-insert}
+use Rattle.std.specs.FinMap.{len-insert, len-remove}
 use Rattle.mig_pagestore.specs.Pages.{spliced}
 use Rattle.mig_guest.specs.Formed.{IsRawContent}
-use Rattle.mig_guest.specs.PartCodes.{row_of, code_number, is_fixed}
-use Rattle.mig_guest.specs.declared.part_code.PartCode.{PartCode}
+use Rattle.mig_guest.specs.PartCodes.{is_fixed}
 use Rattle.mig_guest.specs.declared.part_code.PartCode.TheVariants.{EmulatorPairs}
-use Rattle.mig_guest.proofs.KeyedMaps.{tied}
-use Rattle.mig_pvtables.specs.Blank.{each_value}
-use Rattle.mig_pvtables.proofs.EachValue.{get_each, count_each}
-use Rattle.std.specs.FinMap.{len-remove}
-use Rattle.mig_bytes.proofs.NumberMaps.{is_inserted}
-use Rattle.mig_guest.proofs.Found.{insert_holds, remove_holds}
-use Rattle.mig_host.specs.Changes.{raw_page_at, put_or_stay, retyped, exchanged, without_frame}
+use Rattle.mig_pvtables.proofs.EachValue.{count_each}
+use Rattle.mig_host.specs.Changes.{put_or_stay}
 use Rattle.mig_host.proofs.HostMaps.{joined, get_with_machines, machine_joined, there_joined}
 use Rattle.mig_host.proofs.HostsMade.{joined_put, matched_put, made_part}
 use Rattle.mig_host.proofs.InOrder.{found_more}
+use Rattle.std.specs.FinMap as maps
 
 -- what is there, put once more
 inserted_same : {X : Type 0} (m : maps.FinMap nat_cmp X) (k : ℕ) (x : X) → maps.get m k ≡ Some x → m ≡ maps.insert m k x

@@ -1,9 +1,8 @@
 -- The machine frame of a PFN of a host, and the PFN of a machine frame.
-use Rattle.mig_host.proofs.Common.{◌≡◌, ℕ, Option, Some, None, IfSome, IfNone, sym, ap, subst, ◌∙◌, option_map, FrameMap, HostFrame, IsOneToOne, MachineMap, AreMatched}
-use Rattle.std.specs.FinMap as maps
-use Rattle.mig_guest.specs.Hosts.{pfn_in}
+use Rattle.mig_host.proofs.Common.{◌≡◌, ℕ, Option, Some, None, IfSome, IfNone, sym, ap, subst, ◌∙◌, option_map, FrameMap, HostFrame, IsOneToOne, MachineMap, AreMatched, pfn_in}
 use Rattle.mig_host.proofs.HostMaps.{joined, machine_joined, machine_found}
 use Rattle.mig_host.proofs.Machines.{pfn_of_machine, no_pfn}
+use Rattle.std.specs.FinMap as maps
 
 module _ (frames : FrameMap) (machines : MachineMap) (matched : AreMatched frames machines) where
   abbrev machine_at : ℕ → Option ℕ

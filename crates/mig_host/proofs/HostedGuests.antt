@@ -1,30 +1,24 @@
 -- The host that a whole guest becomes is valid and, where the guest is in blank form, sound, and means this guest.
-use Rattle.mig_host.proofs.Common.{◌≡◌, ◌≢◌, ℕ, ◌+◌, ◌<◌, ◌≤◌, ◌^◌, length, List, Option, Some, None, IsSome, refl, sym, ap, subst, ◌∙◌, inl, inr, arith, option_map, nat_cmp_total, nat_cmp-IsAntisymmetric, cases_lt, cases_order, Kind, Pv, Hvm, PartKey, FrameOf, is_type_of, HostFrame, HostFrames, IsHostFrame, IsHostPart, IsOneToOne, IsValid, IsPart, IsTop, width_of, host_part, FitsPolicy, part_total, part_exact, with_machine, with_machines, rank_in, hosted, IsBaseOutside}
-use Rattle.mig_pagetypes.specs.Limits.{top_limit}
-use Rattle.std.specs.FinMap as maps
-use Rattle.mig_guest.specs.Formed.{IsInside}
+use Rattle.mig_host.proofs.Common.{◌≡◌, ◌≢◌, ℕ, ◌+◌, ◌<◌, ◌≤◌, ◌^◌, length, List, Option, Some, None, IsSome, refl, sym, ap, subst, ◌∙◌, inl, inr, arith, option_map, nat_cmp_total, nat_cmp-IsAntisymmetric, cases_lt, Kind, Pv, Hvm, PartKey, FrameOf, is_type_of, HostFrame, HostFrames, IsHostFrame, IsHostPart, IsOneToOne, IsValid, IsTop, FitsPolicy, part_total, part_exact, with_machine, with_machines, rank_in, hosted, top_limit, GuestOf, pfn_in, most_width, blank, IsWhole, to_each, localised_of, localised, normalised, IsSound, unsoundness, without_machine, top_of, guest_in, view, sound_is_faultless, mfn_in, hosted_width}
+use Rattle.std.proofs.lemmas.Bool.{cases_order}
+use Rattle.mig_guest.specs.Formed.{IsPart, width_of, IsInside}
+use Rattle.mig_guest.proofs.PartRows.{host_part}
+use Rattle.mig_host.specs.Hosted.{IsBaseOutside}
 use Rattle.mig_guest.specs.Frames.{IsFrame, IsFew}
-use Rattle.mig_guest.specs.Guests.{GuestOf}
-use Rattle.mig_guest.specs.Hosts.{pfn_in, most_width}
-use Rattle.mig_pvtables.specs.Blank.{blank}
 use Rattle.mig_pvtables.specs.Renaming.{GoesBack}
 use Rattle.mig_pvtables.specs.VcpuContexts.{is_used}
-use Rattle.mig_pvtables.specs.Whole.{IsWhole}
-use Rattle.mig_pvtables.proofs.EachValue.{from_each, to_each}
+use Rattle.mig_pvtables.proofs.EachValue.{from_each}
 use Rattle.mig_pvtables.proofs.HvmGuests.{hvm_complete}
 use Rattle.mig_pvtables.proofs.PvGuests.{pv_complete}
-use Rattle.mig_host_view.specs.Localised.{renamed_part, localised_of, localised}
-use Rattle.mig_host_view.specs.Normalised.{normalised}
-use Rattle.mig_host_view.specs.Sound.{CanBeSeen, IsSound, unsoundness}
-use Rattle.mig_host_view.specs.View.{without_machine, top_of, guest_in, view}
+use Rattle.mig_host_view.specs.Localised.{renamed_part}
+use Rattle.mig_host_view.specs.Sound.{CanBeSeen}
 use Rattle.mig_host_view.proofs.GuestsBack.{guest_back}
 use Rattle.mig_host_view.proofs.LocalisedGuests.{from_localised, to_localised, count_localised, renamed_is_part, renamed_policy}
 use Rattle.mig_host_view.proofs.SoundGuests.{localised_seen}
-use Rattle.mig_host_view.proofs.SoundRows.{sound_is_faultless}
-use Rattle.mig_host.specs.Hosted.{mfn_in, hosted_width}
 use Rattle.mig_host.proofs.HostMaps.{count_with_machines, without_machines}
 use Rattle.mig_host.proofs.Machines.{pfn_of_machine}
 use Rattle.mig_host.proofs.Ranks.{rank_small, rank_strict, frame_inside, width_within}
+use Rattle.std.specs.FinMap as maps
 
 pub some_value : {X : Type 0} (o : Option X) → IsSome o → (x : X) × (o ≡ Some x)
 some_value None is = cc

@@ -1,15 +1,10 @@
 -- The P2M frames of the host that a whole PV guest becomes.
-use Rattle.mig_host.proofs.Common.{◌≡◌, ℕ, Some, ap, option_map, nat_cmp_total, nat_cmp-IsAntisymmetric, Pv, FrameOf, HostFrame, with_machine, hosted}
-use Rattle.std.specs.FinMap as maps
-use Rattle.mig_guest.specs.Guests.{GuestOf}
+use Rattle.mig_host.proofs.Common.{◌≡◌, ℕ, Some, ap, option_map, nat_cmp_total, nat_cmp-IsAntisymmetric, Pv, FrameOf, HostFrame, with_machine, hosted, GuestOf, IsWhole, to_each, localised, mfn_in}
 use Rattle.mig_pvtables.specs.P2mFrames.{listed}
 use Rattle.mig_pvtables.specs.P2mPages.{p2m_page}
-use Rattle.mig_pvtables.specs.Whole.{IsWhole}
-use Rattle.mig_pvtables.proofs.EachValue.{to_each}
-use Rattle.mig_host_view.specs.Localised.{localised}
 use Rattle.mig_host_view.proofs.ListedPages.{listed_page}
-use Rattle.mig_host.specs.Hosted.{mfn_in}
 use Rattle.mig_host.proofs.HostedGuests.{machine_of}
+use Rattle.std.specs.FinMap as maps
 
 pub hosted_page : (guest : GuestOf) (base k pfn : ℕ) → IsWhole guest → guest.kind ≡ Pv → listed guest.parts k ≡ Some pfn
     → (frame : HostFrame) × (maps.get (hosted guest base).frames pfn ≡ Some frame) × (frame.page ≡ Some (p2m_page (mfn_in guest.frames base) k))

@@ -1,12 +1,19 @@
 -- Entries in the order of their keys, tests of them, and maps that grow behind all entries.
-use Rattle.mig_host.proofs.Common.{◌≡◌, ℕ, ◌+◌, ◌<◌, ◌≤◌, Bool, true, false, cond, not, List, [], ◌∷◌, ◌++◌, Option, Some, refl, sym, ap, subst, ◌∙◌, length, arith, ◌⊎◌, inl, inr, T, ◌||◌, All, AllByRecursion, list_any, or_left, or_right, or_parts, or_from, false_from_ne_true, true≢false, All-weaker, recursion_from_All, none-some, same_Some, IsTotalOrder, is_lt, is_eq, eq_by_cmp, ordering_reverse, Ordering, Less, Greater, FinMap, IsAntisymmetric, find, put, is_sorted, below_all, by_order, nat_cmp, common_steps, not-false}
-use Rattle.std.specs.List as list
+use Rattle.mig_host.proofs.Common.{◌≡◌, ℕ, ◌+◌, ◌<◌, ◌≤◌, Bool, true, false, cond, List, [], ◌∷◌, ◌++◌, Option, Some, refl, sym, ap, subst, ◌∙◌, length, arith, ◌⊎◌, inl, inr, T, ◌||◌, All, AllByRecursion, list_any, or_parts, All-weaker, none-some, same_Some, IsTotalOrder, is_lt, eq_by_cmp, Ordering, FinMap, IsAntisymmetric, find, is_sorted, below_all, nat_cmp, tied, both_of}
+use Rattle.std.proofs.Common.{not}
+use Rattle.std.proofs.lemmas.Bool.{or_left, or_right, or_from, false_from_ne_true, true≢false, not-false}
+use Rattle.std.proofs.lemmas.List.Elements.{recursion_from_All}
+use Rattle.std.specs.Ordering.{is_eq, ordering_reverse}
+use Rattle.std.specs.declared.cmp.Ordering.TheVariants.{Less, Greater}
+use Rattle.std.specs.FinMap.{put}
+use Rattle.std.specs.FinMap.Entries.{by_order}
+use Rattle.std.proofs.lemmas.Grind.{common_steps}
 use Rattle.std.proofs.lemmas.Cmp.{eq_by_cmp_equiv}
 use Rattle.std.proofs.lemmas.List.Folds.{list_any_none}
-use Rattle.std.specs.FinMap as maps
 use Rattle.mig_guest.proofs.Found.{all_found}
-use Rattle.mig_guest.proofs.KeyedMaps.{tied}
-use Rattle.mig_guest.proofs.PartCursor.{both_of, less, true_of}
+use Rattle.mig_guest.proofs.PartCursor.{less, true_of}
+use Rattle.std.specs.List as list
+use Rattle.std.specs.FinMap as maps
 
 -- numbers in their order
 pub nat_rises : (a b : ℕ) → T (is_lt (nat_cmp a b)) → a < b

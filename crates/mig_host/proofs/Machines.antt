@@ -1,10 +1,8 @@
 -- The PFN that has a machine frame, where no two have the same.
-use Rattle.mig_host.proofs.Common.{◌≡◌, ◌≢◌, ℕ, Bool, true, false, cond, ◌==◌, ◌||◌, List, [], ◌∷◌, Some, None, refl, ap, ◌∙◌, All, All-head, All-weaker, list_any, or_parts, option_map, eqb-true, eq-eqb, ne_eqb, nat_cmp, nat_cmp_total, nat_cmp-IsAntisymmetric, FinMap, HostFrame, HostFrames, IsOneToOne}
-use Rattle.std.proofs.lemmas.List.Elements.{All-tail}
+use Rattle.mig_host.proofs.Common.{◌≡◌, ◌≢◌, ℕ, Bool, true, false, cond, ◌==◌, ◌||◌, List, [], ◌∷◌, Some, None, refl, ap, ◌∙◌, All, All-head, All-weaker, list_any, or_parts, option_map, eqb-true, eq-eqb, ne_eqb, nat_cmp, nat_cmp_total, nat_cmp-IsAntisymmetric, FinMap, HostFrame, HostFrames, IsOneToOne, All-tail, pfn_in}
+use Rattle.mig_host.proofs.InOrder.{all_there, some_entry, no_entry}
 use Rattle.std.specs.List as list
 use Rattle.std.specs.FinMap as maps
-use Rattle.mig_guest.specs.Hosts.{pfn_in}
-use Rattle.mig_host.proofs.InOrder.{all_there, some_entry, no_entry}
 
 -- what is kept at a PFN says its machine frame
 module _ {X : Type 0} (said : X → ℕ) (m : ℕ) where

@@ -1,13 +1,10 @@
 -- The frame numbers of a host and their machine frames are one to one.
-use Rattle.mig_host.proofs.Common.{◌≡◌, ℕ, ◌<◌, Bool, true, false, cond, ◌==◌, List, [], ◌∷◌, Option, Some, None, refl, sym, ap, subst, ◌∙◌, All, All-head, eqb-true, none-some, same_Some, option_map, nat_cmp_total, nat_cmp-IsAntisymmetric, HostFrame, HostOf, IsValid, MachineMap, AreInverse}
-use Rattle.std.proofs.lemmas.List.Elements.{All-tail}
-use Rattle.std.specs.List as list
-use Rattle.std.specs.FinMap as maps
-use Rattle.mig_guest.specs.Hosts.{machine_limit, pfn_in}
-use Rattle.mig_host.specs.HostView.{pfn_of_machine_in}
+use Rattle.mig_host.proofs.Common.{◌≡◌, ℕ, ◌<◌, Bool, true, false, cond, ◌==◌, List, [], ◌∷◌, Option, Some, None, refl, sym, ap, subst, ◌∙◌, All, All-head, eqb-true, none-some, same_Some, option_map, nat_cmp_total, nat_cmp-IsAntisymmetric, HostFrame, HostOf, IsValid, MachineMap, AreInverse, All-tail, machine_limit, pfn_in, pfn_of_machine_in}
 use Rattle.mig_host.proofs.InOrder.{all_there, found_passes}
 use Rattle.mig_host.proofs.MachineMaps.{machine_back, pfn_looked_up}
 use Rattle.mig_host.proofs.Machines.{pfn_of_machine}
+use Rattle.std.specs.List as list
+use Rattle.std.specs.FinMap as maps
 
 found_holds : {A : Type 0} (P : A → Type 0) (p : A → Bool) (xs : List A) (x : A) → All P xs → list.find p xs ≡ Some x → P x
 found_holds P p [] x all is = absurd (none-some x is)

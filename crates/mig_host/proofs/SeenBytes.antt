@@ -1,12 +1,7 @@
 -- A guest that is copied of pages and parts of bytes is of bytes.
-use Rattle.mig_host.proofs.Common.{◌≡◌, ℕ, List, Option, Some, None, IfSome, Kind, sym, subst, ◌∙◌, none-some, get-empty, nat_cmp, part_cmp, nat_cmp_total, nat_cmp-IsAntisymmetric, PageType, FrameOf, FrameMap, PartKey, part_total, part_exact}
-use Rattle.std.specs.FinMap as maps
+use Rattle.mig_host.proofs.Common.{◌≡◌, ℕ, List, Option, Some, None, IfSome, Kind, sym, subst, ◌∙◌, none-some, get-empty, nat_cmp, part_cmp, nat_cmp_total, nat_cmp-IsAntisymmetric, PageType, FrameOf, FrameMap, PartKey, part_total, part_exact, Xtab, framed, GuestOf, insert_holds, remove_holds, IsOfBytes}
 use Rattle.mig_bytes.specs.Bytes.{AreBytes}
-use Rattle.mig_pagetypes.specs.declared.page_type.PageType.TheVariants.{Xtab}
-use Rattle.mig_guest.specs.Frames.{framed}
-use Rattle.mig_guest.specs.Guests.{GuestOf}
-use Rattle.mig_guest.proofs.Found.{insert_holds, remove_holds}
-use Rattle.mig_pvtables.specs.Blank.{IsOfBytes}
+use Rattle.std.specs.FinMap as maps
 
 -- the page of a frame, where it has one, is of bytes
 abbrev PageIsOfBytes : ℕ → FrameOf → Type 0

@@ -1,25 +1,18 @@
 -- The guest that stands in a host, copied frame by frame and part by part.
-use Rattle.mig_host.proofs.Common.{◌≡◌, ℕ, ◌+◌, ◌<◌, ◌^◌, Bool, true, false, cond, ◌==◌, ◌&&◌, List, ◌∷◌, length, Option, Some, None, IsSome, IfSome, is_some, refl, sym, ap, subst, ◌∙◌, arith, and_parts, eqb-true, nat_cmp_total, nat_cmp-IsAntisymmetric, IsOk, Kind, Pv, Hvm, PageType, type_has_data, FrameOf, FrameMap, entries_from, HostFrame, HostOf, IsHostFrame, IsHostPart, IsValid, PartKey, PartMap, parts_behind, part_total, part_exact, one_code}
-use Rattle.std.specs.FinMap as maps
+use Rattle.mig_host.proofs.Common.{◌≡◌, ℕ, ◌+◌, ◌<◌, ◌^◌, Bool, true, false, cond, ◌==◌, List, ◌∷◌, length, Option, Some, None, IsSome, IfSome, is_some, refl, sym, ap, subst, ◌∙◌, arith, eqb-true, nat_cmp_total, nat_cmp-IsAntisymmetric, Kind, Pv, Hvm, PageType, type_has_data, FrameOf, FrameMap, entries_from, HostFrame, HostOf, IsHostFrame, IsHostPart, IsValid, PartKey, PartMap, parts_behind, part_total, part_exact, one_code, Xtab, PartCode, framed, GuestOf, row_of, code_number, pfn_in, each_value, each_same, part_seen, normalised, IsSound, without_machine, top_of, guest_in, view}
+use Rattle.std.specs.Prelude.{◌&&◌}
+use Rattle.std.proofs.lemmas.Bool.{and_parts}
+use Rattle.std.specs.Result.{IsOk}
 use Rattle.mig_headers.specs.Contexts.{scan}
-use Rattle.mig_pagetypes.specs.declared.page_type.PageType.TheVariants.{Xtab}
-use Rattle.mig_guest.specs.declared.part_code.PartCode.{PartCode}
 use Rattle.mig_guest.specs.declared.part_code.PartCode.TheVariants.{SharedInfo, HvmContext}
-use Rattle.mig_guest.specs.Frames.{framed}
-use Rattle.mig_guest.specs.Guests.{GuestOf}
-use Rattle.mig_guest.specs.PartCodes.{row_of, code_number}
 use Rattle.mig_guest.specs.PartKeys.{context_key, shared_key}
-use Rattle.mig_guest.specs.Hosts.{pfn_in}
 use Rattle.mig_guest.proofs.NextEntries.{from_zero}
-use Rattle.mig_pvtables.specs.Blank.{each_value}
-use Rattle.mig_pvtables.proofs.EachValue.{each_same}
-use Rattle.mig_host_view.specs.Normalised.{cut_by, part_seen, normalised}
-use Rattle.mig_host_view.specs.Sound.{IsSound}
-use Rattle.mig_host_view.specs.View.{without_machine, top_of, guest_in, view}
+use Rattle.mig_host_view.specs.Normalised.{cut_by}
 use Rattle.mig_host_view.proofs.HostViews.{hvm_viewed}
 use Rattle.mig_host_view.proofs.ViewedFrames.{not_absent, pfn_small}
 use Rattle.mig_host.proofs.Copies.{IsCopied, copy_start, copy_there, copy_next}
 use Rattle.mig_host.proofs.SoundHosts.{length_allowed, contexts_long as host_contexts}
+use Rattle.std.specs.FinMap as maps
 
 -- ---- frames
 

@@ -1,21 +1,13 @@
 -- A valid host meets what the test of whether it can be seen as a guest requires.
-use Rattle.mig_host.proofs.Common.{◌≡◌, ℕ, ◌+◌, ◌-◌, ◌*◌, ◌/◌, ◌≤◌, ◌^◌, true, length, List, Option, Some, None, Result, Ok, Err, refl, sym, subst, ◌∙◌, arith, eqb-true, one_code, FrameMap, HostOf, IsHostPart, IsValid, PartKey, PartMap, MachineMap, machine_in}
-use Rattle.std.specs.FinMap as maps
+use Rattle.mig_host.proofs.Common.{◌≡◌, ℕ, ◌+◌, ◌-◌, ◌≤◌, ◌^◌, true, length, List, Option, Some, None, Result, Ok, Err, refl, sym, subst, ◌∙◌, arith, eqb-true, one_code, FrameMap, HostOf, IsHostPart, IsValid, PartKey, PartMap, MachineMap, machine_in, Kind, row_of, code_number, p2m_key, PartCode, pfn_in, each_value, count_in, IsSound, unsoundness, without_machine, guest_in, sound_is_faultless}
+use Rattle.std.proofs.Common.{◌*◌, ◌/◌}
 use Rattle.std.specs.Prelude.{IfOk}
-use Rattle.mig_headers.specs.declared.kind.Kind.{Kind}
 use Rattle.mig_headers.specs.declared.unsound.Unsound.{Unsound}
-use Rattle.mig_guest.specs.PartCodes.{row_of, code_number}
-use Rattle.mig_guest.specs.PartKeys.{p2m_key}
-use Rattle.mig_guest.specs.declared.part_code.PartCode.{PartCode}
 use Rattle.mig_guest.specs.declared.part_code.PartCode.TheVariants.{P2mFrames, VcpuBasic}
-use Rattle.mig_guest.specs.Hosts.{pfn_in}
-use Rattle.mig_pvtables.specs.Blank.{each_value}
 use Rattle.mig_pvtables.specs.Faults.{first_cause}
-use Rattle.mig_pvtables.specs.P2mFrames.{count_in}
-use Rattle.mig_host_view.specs.Sound.{IsSound, unsound_rows, unsoundness}
-use Rattle.mig_host_view.specs.View.{without_machine, guest_in}
-use Rattle.mig_host_view.proofs.SoundRows.{sound_is_faultless}
+use Rattle.mig_host_view.specs.Sound.{unsound_rows}
 use Rattle.mig_host.proofs.HostMaps.{joined, without_machines}
+use Rattle.std.specs.FinMap as maps
 
 -- the frames of a host without their machine frames are those that it keeps
 pub frames_kept : (frames : FrameMap) (machines : MachineMap) → frames ≡ each_value (λ pfn f. without_machine f) (joined frames machines)

@@ -1,19 +1,12 @@
 -- The fault of a PV guest at the end of its stream is the first of what is wrong with it there.
-use Rattle.std.proofs.Common.{◌⊎◌}
-use Rattle.std.specs.FinMap as maps
-use Rattle.mig_headers.specs.CauseNumbers.{number_of_cause}
-use Rattle.mig_headers.specs.declared.fault.Cause.{Cause}
-use Rattle.mig_headers.specs.declared.unsound.Unsound.{Unsound}
-use Rattle.mig_headers.specs.declared.unsound.Unsound.TheVariants as causes
-use Rattle.mig_headers_text.specs.UnsoundTexts.{number_of_unsound}
-use Rattle.mig_pvtables.proofs.Common.{◌≡◌, inl, inr, ℕ, ◌+◌, ◌/◌, ◌%◌, ◌<◌, ◌≤◌, length, nat_lt, true, refl, sym, ap, subst, arith, ltb-true, lt-ltb, GuestOf, Pv, fault_of_guest, TooManyFrames, most_frames, first_cause}
-use Rattle.mig_host_laws.specs.NamedFirst.{IsNamedBefore, NamesFirst}
-use Rattle.mig_host_laws.specs.Standing.{in_stream}
-use Rattle.mig_host_laws.specs.Unsoundness.{cause_in_stream, is_left_at_end, IsWrongAtEnd}
+use Rattle.mig_host_laws.proofs.Common.{◌⊎◌, number_of_cause, Cause, Unsound, number_of_unsound, ◌≡◌, inl, inr, ℕ, ◌+◌, ◌/◌, ◌%◌, ◌<◌, ◌≤◌, length, nat_lt, true, refl, sym, ap, subst, arith, ltb-true, lt-ltb, GuestOf, Pv, fault_of_guest, first_cause, IsNamedBefore, NamesFirst, in_stream, cause_in_stream, is_left_at_end, IsWrongAtEnd}
+use Rattle.mig_pvtables.proofs.Common.{TooManyFrames, most_frames}
 use Rattle.mig_host_laws.specs.Unsoundness.IsWrongAtEnd.{stands_wrong, many_frames}
 use Rattle.mig_host_laws.proofs.Instances.{rows_left, fault_is_row, left_first}
-use Rattle.mig_host_laws.proofs.NamedFirst as firsts
 use Rattle.mig_host_laws.proofs.Rows.{Left}
+use Rattle.std.specs.FinMap as maps
+use Rattle.mig_headers.specs.declared.unsound.Unsound.TheVariants as causes
+use Rattle.mig_host_laws.proofs.NamedFirst as firsts
 
 -- the numbers of the rows that are left, and of their causes
 record IsCounted (row : Unsound) : Type 0 where

@@ -1,11 +1,5 @@
 -- The laws of fields, as they stand on public functions.
-use Rattle.std.proofs.lemmas.List.Elements.{recursion_from_All}
-use Rattle.mig_bytes.specs.Bytes.{AreBytes}
-use Rattle.mig_pvtables.proofs.Common.{◌≡◌, ℕ, ◌^◌, ◌<◌, ◌≤◌, List, length, Option, Some, field_at, long_at, is_used}
-use Rattle.mig_pvtables.specs.VcpuContexts.{is_used_somewhere}
-use Rattle.mig_host_view.specs.RenamedContexts.{renamed_context}
-use Rattle.mig_host_laws.specs.Fields.{Field, field_row, IsField, field_numbered, said_by, with_frame_in}
-use Rattle.mig_host_laws.specs.NamedAnew.{AreNamesSmall, SaysAnew}
+use Rattle.mig_host_laws.proofs.Common.{recursion_from_All, AreBytes, ◌≡◌, ℕ, ◌^◌, ◌<◌, ◌≤◌, List, length, Option, Some, field_at, long_at, is_used, is_used_somewhere, renamed_context, Field, field_row, IsField, field_numbered, said_by, with_frame_in, AreNamesSmall, SaysAnew}
 use Rattle.mig_host_laws.proofs.Fields.{are_longs, at_its_place, number_small, numbered, said_back, written_stays, put_twice, others_stay}
 use Rattle.mig_host_laws.proofs.NamedAnew.{stream_use, host_use, says_anew}
 

@@ -1,16 +1,15 @@
 -- The four laws of fields: what a row says of values, row by row, and of fields in a context.
-use Rattle.std.proofs.lemmas.List.Elements.{All-nil, All-cons, All-append, recursion_from_All}
+use Rattle.mig_host_laws.proofs.Common.{recursion_from_All, AreBytes, Bytes, long_below, ◌≡◌, ℕ, zero, suc, ◌+◌, ◌-◌, ◌*◌, ◌/◌, ◌%◌, ◌^◌, ◌<◌, ◌≤◌, Bool, true, false, cond, not, List, length, Some, refl, sym, ap, subst, ◌∙◌, inl, inr, arith, nat_lt, ◌==◌, cases_lt, eqb-true, eq-eqb, long_at, long_of_longs, length_longs, field_at, is_used, Field, field_row, IsField, field_numbered, said_by, with_frame_in}
+use Rattle.std.proofs.lemmas.List.Elements.{All-nil, All-cons, All-append}
 use Rattle.std.specs.Int.{bytes_low_first, byte_at}
 use Rattle.byteorder.specs.Endian.{little_bytes}
-use Rattle.mig_bytes.specs.Bytes.{AreBytes}
 use Rattle.mig_bytes.specs.Fields.{with_field}
-use Rattle.mig_bytes.proofs.ByteLists.{Bytes, long_below}
 use Rattle.mig_guest.specs.Longs.{longs}
 use Rattle.mig_guest.proofs.Longs.{same_longs}
-use Rattle.mig_pvtables.proofs.Common.{◌≡◌, ◌≢◌, ℕ, zero, suc, ◌+◌, ◌-◌, ◌*◌, ◌/◌, ◌%◌, ◌^◌, ◌<◌, ◌≤◌, Bool, true, false, cond, not, List, length, Some, refl, sym, ap, subst, ◌∙◌, inl, inr, arith, nat_le, nat_lt, ◌==◌, cases_eq, cases_lt, eqb-true, eq-eqb, ne_eqb, le-leb, long_at, long_of_longs, longs_back, length_longs, put_long, field_at, is_used}
+use Rattle.mig_pvtables.proofs.Common.{◌≢◌, nat_le, cases_eq, ne_eqb, le-leb, longs_back, put_long}
 use Rattle.mig_pvtables.proofs.BlankSays.{field_there}
 use Rattle.mig_pvtables.specs.Faults.{is_notab, is_root}
-use Rattle.mig_host_laws.specs.Fields.{Field, field_row, IsField, IsNumbered, field_numbered, said_by, with_frame_in}
+use Rattle.mig_host_laws.specs.Fields.{IsNumbered}
 use Rattle.mig_host_laws.specs.Fields.Field.{Rdx, GdtFrame, Root, UserRoot}
 
 -- ---- a value, row by row

@@ -1,24 +1,17 @@
 -- What is looked for in a guest at the end of its stream, and in a host, are rows of how it stands.
 use Rattle.std.specs.FinMap as maps
-use Rattle.mig_headers.specs.declared.fault.Cause.{Cause}
-use Rattle.mig_headers.specs.declared.fault.Cause.TheVariants as faults
-use Rattle.mig_headers.specs.declared.kind.Kind.{Kind}
-use Rattle.mig_headers.specs.declared.unsound.Unsound.{Unsound}
-use Rattle.mig_headers.specs.declared.unsound.Unsound.TheVariants as causes
-use Rattle.mig_headers_text.specs.UnsoundTexts.{number_of_unsound}
-use Rattle.mig_guest.specs.Hosts.{HostOf, HostFrame, IsValid, pfn_in}
-use Rattle.mig_pvtables.proofs.Common.{◌≡◌, ℕ, ◌+◌, ◌*◌, ◌<◌, List, [], ◌∷◌, true, false, cond, not, is_none, is_some, Option, Some, None, refl, sym, ap, subst, ◌∙◌, ◌&&◌, ◌||◌, find, list_any, range_with_len, option_map, option_or, option_and_then, nat_cmp_total, nat_cmp-IsAntisymmetric, gdt_ents, FrameOf, FrameMap, GuestOf, PartMap, PartKey, p2m_key, vcpu_key, shared_key, Entry, Blank, NotPresent, Superpage, Frame, Pv, first_cause, first_some, is_notab, is_this, is_needed, is_misplaced, find_p2m, find_entry, find_field, is_absent, type_at, fits_field, is_superpage, count_in, listed, field_value, frame_of_field, is_used, faults_for, fault_of_guest}
-use Rattle.mig_pvtables.specs.BadEntries.{is_unknown}
+use Rattle.mig_host_laws.proofs.Common.{Cause, Kind, Unsound, number_of_unsound, HostOf, HostFrame, IsValid, pfn_in, ◌≡◌, ℕ, ◌+◌, ◌*◌, ◌<◌, List, [], ◌∷◌, true, false, cond, not, is_none, is_some, Option, Some, None, refl, sym, ap, subst, ◌∙◌, ◌&&◌, ◌||◌, find, list_any, range_with_len, option_map, option_or, option_and_then, nat_cmp_total, nat_cmp-IsAntisymmetric, gdt_ents, FrameOf, FrameMap, GuestOf, PartMap, PartKey, p2m_key, vcpu_key, shared_key, Entry, Blank, NotPresent, Superpage, Frame, Pv, first_cause, first_some, is_notab, is_this, find_entry, type_at, fits_field, is_superpage, count_in, listed, field_value, frame_of_field, is_used, fault_of_guest, is_unknown, absent, needed_keys, unsoundness, guest_in, NamesFirst, Standing, said_of, in_stream, in_host, has_some, is_ill_listed, names_ill, row_1, row_2, row_5, row_6, row_7, first_row, IsWide, cause_in_stream, IsWrong, UnsoundHas, NamesFirstRow}
+use Rattle.mig_pvtables.proofs.Common.{is_needed, is_misplaced, find_p2m, find_field, is_absent, faults_for}
 use Rattle.mig_pvtables.specs.Faults.{slots, find_in_contexts, missing, too_many}
 use Rattle.mig_pvtables.proofs.EachValue.{get_each}
-use Rattle.mig_host_view.specs.Sound.{absent, needed_keys, unsound_rows, unsoundness}
-use Rattle.mig_host_view.specs.View.{guest_in, without_machine}
-use Rattle.mig_host_laws.specs.NamedFirst.{NamesFirst}
-use Rattle.mig_host_laws.specs.Standing.{Standing, said_of, itself_in, in_stream, in_machine, in_host, type_named}
-use Rattle.mig_host_laws.specs.FirstRow.{has_some, is_ill_listed, find_ill_listed, names_ill, row_1, row_2, row_5, row_6, row_7, first_row, IsWide}
-use Rattle.mig_host_laws.specs.Unsoundness.{cause_in_stream, IsWrong, UnsoundHas, NamesFirstRow}
+use Rattle.mig_host_view.specs.Sound.{unsound_rows}
+use Rattle.mig_host_view.specs.View.{without_machine}
+use Rattle.mig_host_laws.specs.Standing.{itself_in, in_machine, type_named}
+use Rattle.mig_host_laws.specs.FirstRow.{find_ill_listed}
 use Rattle.mig_host_laws.proofs.NamedFirst.{one_named, told_twice}
 use Rattle.mig_host_laws.proofs.Rows.{Left, frames_named, rows_name, first_row_named, left_named}
+use Rattle.mig_headers.specs.declared.fault.Cause.TheVariants as faults
+use Rattle.mig_headers.specs.declared.unsound.Unsound.TheVariants as causes
 
 -- ---- P2M frames: a frame is there where its type is
 

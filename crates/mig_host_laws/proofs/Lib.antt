@@ -1,3 +1,4 @@
+pub mod Common
 pub mod KeyRanks
 pub mod NamedFirst
 pub mod Rows

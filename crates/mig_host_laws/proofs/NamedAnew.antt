@@ -1,13 +1,7 @@
 -- A renamed context, in words: and what a host's context says in the guest that the host is seen as.
-use Rattle.std.proofs.lemmas.Bool.{both_ways}
-use Rattle.mig_bytes.proofs.ByteLists.{Bytes, long_below}
-use Rattle.mig_pvtables.proofs.Common.{◌≡◌, ℕ, ◌*◌, ◌%◌, ◌^◌, ◌<◌, ◌≤◌, Bool, true, false, cond, List, Option, Some, None, refl, sym, ap, subst, ◌∙◌, arith, gdt_ents, long_at, length_longs, field_at, is_used}
-use Rattle.mig_pvtables.specs.VcpuContexts.{Usage, is_used_somewhere}
-use Rattle.mig_pvtables.proofs.BlankSays.{place_field}
-use Rattle.mig_pvtables.proofs.Moduli.{long_of_each}
-use Rattle.mig_host_view.specs.RenamedContexts.{field_named, value_renamed, renamed_value, renamed_context}
-use Rattle.mig_host_laws.specs.Fields.{Field, FieldRow, UsedWhere, field_row, IsField, field_numbered, said_by}
-use Rattle.mig_host_laws.specs.NamedAnew.{Uses, AreNamesSmall, SaysAnew, IsSeenAs}
+use Rattle.mig_host_laws.proofs.Common.{both_ways, Bytes, long_below, ◌≡◌, ℕ, ◌*◌, ◌%◌, ◌^◌, ◌<◌, ◌≤◌, Bool, true, false, cond, List, Option, Some, None, refl, sym, ap, subst, ◌∙◌, arith, gdt_ents, long_at, length_longs, field_at, is_used, Usage, is_used_somewhere, place_field, long_of_each, field_named, value_renamed, renamed_context, Field, field_row, IsField, field_numbered, said_by, Uses, AreNamesSmall, SaysAnew, IsSeenAs}
+use Rattle.mig_host_view.specs.RenamedContexts.{renamed_value}
+use Rattle.mig_host_laws.specs.Fields.{FieldRow, UsedWhere}
 use Rattle.mig_host_laws.proofs.Fields.{AreLongs, are_longs, agrees, at_its_place, place_inside, one_place, numbers_tell, value_small, longs_bytes, number_small, numbered}
 
 -- a use that is told by numbers is that of a row

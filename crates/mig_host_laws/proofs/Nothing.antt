@@ -1,13 +1,7 @@
 -- Where nothing is wrong, a host is sound, and a PV guest that is well formed is whole; and the other way round.
-use Rattle.mig_headers.specs.CauseNumbers.{number_of_cause}
-use Rattle.mig_headers.specs.declared.fault.Cause.{Cause}
-use Rattle.mig_headers.specs.declared.unsound.Unsound.{Unsound}
-use Rattle.mig_headers_text.specs.UnsoundTexts.{number_of_unsound}
-use Rattle.mig_guest.specs.Hosts.{HostOf}
-use Rattle.mig_pvtables.proofs.Common.{◌≡◌, ℕ, ◌↔◌, GuestOf, Pv, IsFormed, IsWhole, fault_of_guest}
-use Rattle.mig_host_view.specs.Sound.{IsSound, unsoundness}
+use Rattle.mig_host_laws.proofs.Common.{number_of_cause, Cause, Unsound, number_of_unsound, HostOf, ◌≡◌, ℕ, ◌↔◌, GuestOf, Pv, fault_of_guest, IsSound, unsoundness, UnsoundHas, IsWrongAtEnd}
+use Rattle.mig_pvtables.proofs.Common.{IsFormed, IsWhole}
 use Rattle.mig_host_view.proofs.SoundRows.{sound_is_faultless}
-use Rattle.mig_host_laws.specs.Unsoundness.{UnsoundHas, IsWrongAtEnd}
 use Rattle.mig_host_laws.proofs.AtEnd.{fault_named}
 use Rattle.mig_host_laws.proofs.Instances.{unsoundness_named}
 use Rattle.mig_host_laws.proofs.NamedFirst.{none_named}

@@ -1,14 +1,6 @@
 -- What a saver finds with types that it saw last.
-use Rattle.mig_headers.specs.declared.unsound.Unsound.{Unsound}
-use Rattle.mig_headers_text.specs.UnsoundTexts.{number_of_unsound}
-use Rattle.mig_guest.specs.Hosts.{HostOf}
-use Rattle.mig_pvtables.proofs.Common.{◌≡◌, ℕ, true, Option, subst, sym, ◌∙◌, ◌↔◌, PageType, type_at}
-use Rattle.mig_host_view.specs.Sound.{unsoundness}
-use Rattle.mig_host_view.specs.View.{guest_in}
-use Rattle.mig_host_laws.specs.Standing.{Standing, in_host, before_saver, is_of_no_type}
-use Rattle.mig_host_laws.specs.FirstRow.{first_row, IsWide}
-use Rattle.mig_host_laws.specs.Unsoundness.{IsWrong, UnsoundHas, NamesFirstRow}
-use Rattle.mig_host_laws.specs.Unsoundness.IsWrong.{no_context, no_p2m, no_shared, no_vcpu, other_type, listed_twice, large, nameless, many_descriptors, field_ill, bad_context}
+use Rattle.mig_host_laws.proofs.Common.{Unsound, number_of_unsound, HostOf, ◌≡◌, ℕ, true, Option, subst, sym, ◌∙◌, ◌↔◌, PageType, type_at, unsoundness, guest_in, Standing, in_host, first_row, IsWide, IsWrong, UnsoundHas, NamesFirstRow, no_context, no_p2m, no_shared, no_vcpu, other_type, listed_twice, large, nameless, many_descriptors, field_ill, bad_context}
+use Rattle.mig_host_laws.specs.Standing.{before_saver, is_of_no_type}
 use Rattle.mig_host_laws.proofs.Instances.{unsoundness_named, unsoundness_is_row}
 use Rattle.mig_host_laws.proofs.NamedFirst.{one_named}
 

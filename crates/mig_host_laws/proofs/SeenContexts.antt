@@ -1,23 +1,12 @@
 -- What the contexts of a sound host say in the guest that it is seen as.
 use Rattle.std.specs.FinMap as maps
-use Rattle.std.proofs.lemmas.Bool.{both_ways}
-use Rattle.std.proofs.lemmas.List.Elements.{recursion_from_All}
-use Rattle.mig_bytes.specs.Bytes.{AreBytes}
+use Rattle.mig_host_laws.proofs.Common.{both_ways, recursion_from_All, AreBytes, HostOf, IsValid, pfn_in, ◌≡◌, ℕ, ◌<◌, ◌≤◌, Bool, true, false, cond, List, Option, Some, None, refl, sym, ap, subst, ◌∙◌, arith, option_and_then, gdt_ents, long_at, field_at, field_value, frame_of_field, blanked_context, value_blanked, fits_field, PartKey, Pv, eq-eqb, ◌==◌, part_total, part_exact, blanked_part, each_value, is_used_somewhere, place_field, to_each, renamed_part, renamed_context, IsSound, guest_in, view, Field, field_row, IsField, field_numbered, said_by, Uses, AreNamesSmall, SaysAnew, IsSeenAs}
 use Rattle.mig_pagetypes.specs.declared.page_type.PageType.{PageType}
-use Rattle.mig_guest.specs.Hosts.{HostOf, IsValid, pfn_in}
-use Rattle.mig_pvtables.proofs.Common.{◌≡◌, ℕ, ◌<◌, ◌≤◌, Bool, true, false, cond, List, Option, Some, None, refl, sym, ap, subst, ◌∙◌, arith, option_and_then, gdt_ents, long_at, each_stays, field_at, field_value, frame_of_field, blanked_context, value_blanked, fits_field, PartKey, Pv, blanked_shared, eq-eqb, ◌==◌, part_total, part_exact, blanked_part, each_value}
-use Rattle.mig_pvtables.specs.VcpuContexts.{blanked_value, is_used_somewhere}
-use Rattle.mig_pvtables.proofs.BlankSays.{place_field}
+use Rattle.mig_pvtables.proofs.Common.{each_stays, blanked_shared}
+use Rattle.mig_pvtables.specs.VcpuContexts.{blanked_value}
 use Rattle.mig_pvtables.proofs.BlankWhole.{unfit}
-use Rattle.mig_pvtables.proofs.EachValue.{to_each}
-use Rattle.mig_host_view.specs.Localised.{renamed_part}
 use Rattle.mig_host_view.specs.Normalised.{normalised_of}
-use Rattle.mig_host_view.specs.RenamedContexts.{renamed_context}
-use Rattle.mig_host_view.specs.Sound.{IsSound}
-use Rattle.mig_host_view.specs.View.{guest_in, view}
 use Rattle.mig_host_view.proofs.ViewedSays.{pfn_found}
-use Rattle.mig_host_laws.specs.Fields.{Field, field_row, IsField, field_numbered, said_by}
-use Rattle.mig_host_laws.specs.NamedAnew.{Uses, AreNamesSmall, SaysAnew, IsSeenAs}
 use Rattle.mig_host_laws.proofs.Fields.{agrees, number_small, numbered, place_inside, one_place, written_blanked, unused_blanked}
 use Rattle.mig_host_laws.proofs.NamedAnew.{host_use, says_anew}
 

@@ -1,8 +1,6 @@
 -- Which of the GDT's frames the worked contexts use.
-use Rattle.std.specs.Prelude.{filter}
+use Rattle.mig_host_laws.proofs.Common.{filter, ◌≡◌, ℕ, ◌^◌, ◌<◌, cond, List, [], ◌∷◌, ap, arith, ◌==◌, range_with_len, field_value, is_used, long_of_longs, Usage, is_used_somewhere}
 use Rattle.mig_guest.specs.Formed.{gdt_ents}
-use Rattle.mig_pvtables.proofs.Common.{◌≡◌, ℕ, ◌^◌, ◌<◌, cond, List, [], ◌∷◌, ap, arith, ◌==◌, range_with_len, field_value, is_used, long_of_longs}
-use Rattle.mig_pvtables.specs.VcpuContexts.{Usage, is_used_somewhere}
 use Rattle.mig_host_laws.specs.WorkedDescriptors.{descriptors_context, gdt_fields, AreUsedFor}
 
 pub are_counted : (n : ℕ) → n < 2 ^ 64 → gdt_ents (descriptors_context n) ≡ n

@@ -1,5 +1,5 @@
 -- What the worked entries of tables say.
-use Rattle.mig_pvtables.proofs.Common.{◌≡◌, ℕ, ◌-◌, ◌^◌, refl, Blank, NotPresent, Superpage, Frame}
+use Rattle.mig_host_laws.proofs.Common.{◌≡◌, ℕ, ◌-◌, ◌^◌, refl, Blank, NotPresent, Superpage, Frame}
 use Rattle.mig_guest.specs.Tables.{entry_of}
 
 pub level_1 : (slot : ℕ) → entry_of 1 slot 0x80e7 ≡ Frame 8

@@ -1,13 +1,8 @@
 -- What the worked host's ctrlreg[1] is seen as.
 use Rattle.std.specs.FinMap as maps
-use Rattle.mig_guest.specs.Hosts.{HostFrame, pfn_in}
-use Rattle.mig_pvtables.proofs.Common.{◌≡◌, ℕ, ◌%◌, ◌^◌, ◌<◌, Bool, true, false, cond, List, [], ◌∷◌, Option, Some, None, refl, ap, ◌∙◌, arith, ◌==◌, find, option_map, long_at, long_of_longs, gdt_ents, vcpu_key, part_cmp, part_total, part_exact, nat_cmp, blanked_part, blanked_context, each_value, value_blanked}
-use Rattle.mig_pvtables.specs.VcpuContexts.{blanked_value, is_used_somewhere}
-use Rattle.mig_pvtables.proofs.EachValue.{to_each}
-use Rattle.mig_pvtables.proofs.Moduli.{long_of_each}
-use Rattle.mig_host_view.specs.Localised.{renamed_part}
-use Rattle.mig_host_view.specs.RenamedContexts.{field_named, value_renamed, renamed_value, renamed_context}
-use Rattle.mig_host_view.specs.View.{view}
+use Rattle.mig_host_laws.proofs.Common.{HostFrame, pfn_in, ◌≡◌, ℕ, ◌%◌, ◌^◌, ◌<◌, Bool, true, false, cond, List, [], ◌∷◌, Option, Some, None, refl, ap, ◌∙◌, arith, ◌==◌, find, option_map, long_at, long_of_longs, gdt_ents, vcpu_key, part_cmp, part_total, part_exact, nat_cmp, blanked_part, blanked_context, each_value, value_blanked, is_used_somewhere, to_each, long_of_each, renamed_part, field_named, value_renamed, renamed_context, view}
+use Rattle.mig_pvtables.specs.VcpuContexts.{blanked_value}
+use Rattle.mig_host_view.specs.RenamedContexts.{renamed_value}
 use Rattle.mig_host_laws.specs.WorkedUserRoot.{user_table, user_root_context, user_root_host, user_root_seen}
 
 abbrev names : ℕ → ℕ → Option ℕ

@@ -1,21 +1,16 @@
 -- The pages of P2M frames in a localised guest.
-use Rattle.std.proofs.Common.{◌-◌}
-use Rattle.mig_host_view.proofs.Common.{◌≡◌, ℕ, ◌+◌, ◌*◌, ◌/◌, ◌^◌, true, false, List, length, Option, Some, None, is_some, refl, sym, ap, subst, ◌∙◌, inl, inr, ◌==◌, find, range_with_len, option_map, nat_cmp_total, nat_cmp-IsAntisymmetric, eq-eqb, ltb-true, FrameOf, GuestOf, Pv, p2m_key, long_at, longs, level_of, type_has_data, listed, listed_in, IsWhole}
-use Rattle.std.specs.FinMap as maps
+use Rattle.mig_host_view.proofs.Common.{◌-◌, ◌≡◌, ℕ, ◌+◌, ◌*◌, ◌/◌, ◌^◌, true, false, List, length, Option, Some, None, is_some, refl, sym, ap, subst, ◌∙◌, ◌==◌, find, range_with_len, option_map, nat_cmp_total, nat_cmp-IsAntisymmetric, eq-eqb, FrameOf, GuestOf, Pv, p2m_key, long_at, level_of, listed, listed_in, IsWhole, cond_some, same_longs, Kind, p2m_page, IsCompletePv, to_each, pv_complete, localised_page, localised_frame, localised_of, localised}
+use Rattle.std.proofs.Common.{inl, inr}
+use Rattle.std.proofs.lemmas.Bool.{ltb-true, cases_order}
+use Rattle.mig_guest.specs.Longs.{longs}
+use Rattle.mig_pagetypes.specs.PageTypes.{type_has_data}
 use Rattle.std.specs.Prelude.{unwrap_or}
-use Rattle.std.proofs.lemmas.Bool.{cases_order}
-use Rattle.std.proofs.lemmas.Option.{cond_some}
-use Rattle.mig_guest.proofs.Longs.{same_longs}
-use Rattle.mig_headers.specs.declared.kind.Kind.{Kind}
 use Rattle.mig_pagetypes.specs.declared.page_type.PageType.TheVariants.{Notab}
 use Rattle.mig_pvtables.specs.P2mFrames.{place_in}
-use Rattle.mig_pvtables.specs.P2mPages.{p2m_page}
-use Rattle.mig_pvtables.specs.WholePv.{IsEmptyRange, IsCompletePv}
+use Rattle.mig_pvtables.specs.WholePv.{IsEmptyRange}
 use Rattle.mig_pvtables.proofs.BlankShape.{place_listed}
-use Rattle.mig_pvtables.proofs.EachValue.{to_each}
-use Rattle.mig_pvtables.proofs.PvGuests.{pv_complete}
 use Rattle.mig_pvtables.proofs.Searches.{find_in_range}
-use Rattle.mig_host_view.specs.Localised.{localised_page, localised_frame, localised_of, localised}
+use Rattle.std.specs.FinMap as maps
 
 -- a PFN that is listed has a place
 listed_place : (o : Option (List ℕ)) (pfn k : ℕ) → listed_in o k ≡ Some pfn → (j : ℕ) × (place_in o pfn ≡ Some j)

@@ -1,14 +1,11 @@
 -- A context whose fields are renamed one by one, from field 0 on.
-use Rattle.mig_host_view.proofs.Common.{◌≡◌, ℕ, ◌+◌, ◌*◌, ◌<◌, Bool, true, false, cond, List, length, get_or, Option, Some, None, refl, sym, ap, ◌∙◌, arith, lt-ltb, le-ltb, gdt_ents, long_at, field_at, field_place, field_value, frame_of_field}
-use Rattle.std.proofs.lemmas.Option.{cond_some}
+use Rattle.mig_host_view.proofs.Common.{◌≡◌, ℕ, ◌+◌, ◌*◌, ◌<◌, Bool, true, false, cond, List, length, get_or, Option, Some, None, refl, sym, ap, ◌∙◌, arith, lt-ltb, le-ltb, gdt_ents, long_at, field_at, field_place, field_value, frame_of_field, cond_some, Usage, field_of_frame, field_there, place_field, field_named, value_renamed, renamed_context}
 use Rattle.byteorder.specs.Endian.{little_bytes}
 use Rattle.mig_bytes.specs.Fields.{with_field}
-use Rattle.mig_pvtables.specs.VcpuContexts.{Usage, field_of_frame}
-use Rattle.mig_pvtables.proofs.BlankSays.{field_there, place_field}
 use Rattle.mig_pvtables.proofs.LongSteps.{OneMore, ChangedWhere, none_changed, all_changed, still, one_changed, one_stays, one_more_below}
 use Rattle.mig_pvtables.proofs.Searches.{cond_none}
 use Rattle.mig_host_view.specs.LocaliseSteps.{is_field_below}
-use Rattle.mig_host_view.specs.RenamedContexts.{field_named, value_renamed, renamed_value, renamed_context}
+use Rattle.mig_host_view.specs.RenamedContexts.{renamed_value}
 
 none_below : (o : Option ℕ) → is_field_below 0 o ≡ false
 none_below None = refl

@@ -1,14 +1,13 @@
 -- The frames of a guest on its way into a machine.
-use Rattle.mig_host_view.proofs.Common.{◌≡◌, ℕ, ◌+◌, ◌-◌, ◌/◌, ◌<◌, ◌≤◌, suc, cond, List, length, find, range_with_len, ◌==◌, Option, Some, None, refl, sym, ap, ◌∙◌, arith, option_and_then, option_map, nat_cmp, nat_cmp_total, nat_cmp-IsAntisymmetric, ne_eqb, eq-eqb, lt-ltb, FrameOf, FrameMap, GuestOf, PartMap, p2m_key, long_at, length_longs, each_value, only, count_in, listed, listed_in}
-use Rattle.std.specs.FinMap as maps
+use Rattle.mig_host_view.proofs.Common.{◌≡◌, ℕ, ◌+◌, ◌-◌, ◌/◌, ◌<◌, ◌≤◌, cond, List, length, find, range_with_len, ◌==◌, Option, Some, None, refl, sym, ap, ◌∙◌, arith, option_and_then, option_map, nat_cmp_total, nat_cmp-IsAntisymmetric, ne_eqb, eq-eqb, lt-ltb, FrameOf, FrameMap, GuestOf, PartMap, p2m_key, long_at, length_longs, each_value, only, count_in, listed, listed_in, p2m_page, each_same, same_each, overwritten, filled_at, filled_where_listed}
+use Rattle.std.proofs.Common.{suc}
+use Rattle.std.specs.Ordering.{nat_cmp}
 use Rattle.mig_pagestore.specs.FrameLending.{with_page}
 use Rattle.mig_pvtables.specs.P2mFrames.{place_in}
-use Rattle.mig_pvtables.specs.P2mPages.{p2m_page}
 use Rattle.mig_pvtables.proofs.BlankFrames.{WithFrames, page_written, no_page}
-use Rattle.mig_pvtables.proofs.EachValue.{each_same, same_each}
 use Rattle.mig_pvtables.proofs.Only.{then_only}
-use Rattle.mig_pvtables.proofs.Searches.{overwritten}
-use Rattle.mig_host_view.specs.LocaliseSteps.{with_p2m_page, filled_at, filled_where_listed, place_from_in, filled_from}
+use Rattle.mig_host_view.specs.LocaliseSteps.{with_p2m_page, place_from_in, filled_from}
+use Rattle.std.specs.FinMap as maps
 
 -- ---- a P2M frame
 

@@ -1,18 +1,10 @@
 -- A guest whose tables, P2M frames and contexts hold machine frames is the guest as it stands in a machine.
-use Rattle.mig_host_view.proofs.Common.{◌≡◌, ℕ, ◌+◌, ◌-◌, ◌*◌, ◌/◌, ◌<◌, ◌≤◌, ◌^◌, List, ◌++◌, length, take, drop, Option, Some, None, IfSome, refl, sym, ap, subst, ◌∙◌, arith, append-nil, drop_all, option_map, nat_cmp_total, nat_cmp-IsAntisymmetric, eqb-true, Pv, top_limit, level_of, PartKey, IsFormed, width_of, FrameOf, GuestOf, PartMap, p2m_key, part_total, part_exact, each_value, count_in, place_of, is_used}
-use Rattle.std.specs.FinMap as maps
-use Rattle.mig_guest.specs.Formed.{IsTop}
-use Rattle.mig_guest.specs.declared.part_code.PartCode.TheVariants.{P2mFrames, VcpuBasic}
-use Rattle.mig_guest.proofs.PartRows.{of_part}
-use Rattle.mig_headers.specs.declared.kind.Kind.{Kind}
-use Rattle.mig_pvtables.specs.P2mPages.{p2m_page}
-use Rattle.mig_pvtables.specs.Renaming.{renamed_table}
+use Rattle.mig_host_view.proofs.Common.{◌≡◌, ℕ, ◌+◌, ◌-◌, ◌*◌, ◌/◌, ◌<◌, ◌≤◌, ◌^◌, List, ◌++◌, length, take, Option, Some, None, IfSome, refl, sym, ap, subst, ◌∙◌, arith, option_map, nat_cmp_total, nat_cmp-IsAntisymmetric, eqb-true, Pv, top_limit, level_of, PartKey, IsFormed, width_of, FrameOf, GuestOf, PartMap, p2m_key, part_total, part_exact, each_value, count_in, place_of, is_used, IsTop, P2mFrames, VcpuBasic, of_part, Kind, p2m_page, renamed_table, each_each, same_each, overwritten, renamed_page, renamed_frame, renamed_part, localised_page, localised_frame, localised_of, localised, filled_at, filled_where_listed}
+use Rattle.std.proofs.Common.{drop, append-nil}
+use Rattle.std.proofs.lemmas.List.{drop_all}
 use Rattle.mig_pvtables.proofs.BlankParts.{WithParts, OnlyPart}
-use Rattle.mig_pvtables.proofs.EachValue.{each_each, same_each}
 use Rattle.mig_pvtables.proofs.Only.{insert_only}
-use Rattle.mig_pvtables.proofs.Searches.{overwritten}
-use Rattle.mig_host_view.specs.Localised.{renamed_page, renamed_frame, renamed_part, localised_page, localised_frame, localised_of, localised}
-use Rattle.mig_host_view.specs.LocaliseSteps.{filled_at, filled_where_listed}
+use Rattle.std.specs.FinMap as maps
 
 -- ---- one context
 

@@ -1,21 +1,8 @@
 -- What a localised PV guest has at each frame number and key.
-use Rattle.mig_host_view.proofs.Common.{◌≡◌, ℕ, Bool, true, false, cond, ◌==◌, List, length, Option, Some, None, is_some, refl, sym, ap, subst, ◌∙◌, arith, nat_cmp_total, nat_cmp-IsAntisymmetric, eqb-true, eq-eqb, Pv, Hvm, PartKey, FrameOf, GuestOf, PartMap, IsPart, p2m_key, length_longs, part_total, part_exact, each_value, type_at, listed, listed_in}
-use Rattle.std.specs.FinMap as maps
-use Rattle.mig_guest.specs.declared.part_code.PartCode.TheVariants.{VcpuBasic}
-use Rattle.mig_guest.specs.Frames.{IsFrame}
-use Rattle.mig_guest.specs.Hosts.{IsHostPart}
-use Rattle.mig_guest.specs.Parts.{FitsPolicy}
+use Rattle.mig_host_view.proofs.Common.{◌≡◌, ℕ, Bool, true, false, cond, ◌==◌, List, length, Option, Some, None, is_some, refl, sym, ap, subst, ◌∙◌, arith, nat_cmp_total, nat_cmp-IsAntisymmetric, eqb-true, eq-eqb, Pv, Hvm, PartKey, FrameOf, GuestOf, PartMap, IsPart, p2m_key, length_longs, part_total, part_exact, each_value, type_at, listed, listed_in, VcpuBasic, IsFrame, IsHostPart, FitsPolicy, Kind, level_of, place_of, p2m_page, renamed_table, Usage, from_each, to_each, some_each, len_each, count_each, stays_each, types_kept, renamed_part, localised_page, localised_frame, localised_of, renamed_context}
 use Rattle.mig_guest.proofs.PartRows.{raw}
-use Rattle.mig_headers.specs.declared.kind.Kind.{Kind}
-use Rattle.mig_pagetypes.specs.PageTypes.{level_of}
-use Rattle.mig_pvtables.specs.P2mFrames.{place_of}
-use Rattle.mig_pvtables.specs.P2mPages.{p2m_page}
-use Rattle.mig_pvtables.specs.Renaming.{renamed_table}
-use Rattle.mig_pvtables.specs.VcpuContexts.{Usage}
-use Rattle.mig_pvtables.proofs.EachValue.{from_each, to_each, some_each, len_each, count_each, stays_each}
-use Rattle.mig_pvtables.proofs.SameShape.{types_kept, repaged_is_frame, to_host}
-use Rattle.mig_host_view.specs.Localised.{renamed_part, localised_page, localised_frame, localised_of}
-use Rattle.mig_host_view.specs.RenamedContexts.{renamed_context}
+use Rattle.mig_pvtables.proofs.SameShape.{repaged_is_frame, to_host}
+use Rattle.std.specs.FinMap as maps
 
 -- ---- frames
 

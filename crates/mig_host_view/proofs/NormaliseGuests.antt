@@ -1,15 +1,10 @@
 -- A guest whose tables and contexts hold PFNs, in blank form, is the form in a stream of the guest that stood in a machine.
-use Rattle.mig_host_view.proofs.Common.{◌≡◌, ℕ, List, length, Option, Some, IfSome, refl, sym, ap, subst, ◌∙◌, nat_cmp_total, nat_cmp-IsAntisymmetric, Pv, PartKey, part_cmp, shared_key, p2m_key, FrameOf, FrameMap, GuestOf, PartMap, part_total, part_exact, length_longs, each_value, blanked_frame, only, with_zero_page, with_table_blanked, where_listed, blanked_code, blanked_context, blanked_shared, level_of, blanked_page}
-use Rattle.std.specs.FinMap as maps
-use Rattle.mig_headers.specs.declared.kind.Kind.{Kind}
-use Rattle.mig_pvtables.specs.P2mFrames.{place_in}
-use Rattle.mig_pvtables.specs.VcpuContexts.{is_used_somewhere}
+use Rattle.mig_host_view.proofs.Common.{◌≡◌, ℕ, List, length, Option, Some, IfSome, refl, sym, ap, subst, ◌∙◌, nat_cmp_total, nat_cmp-IsAntisymmetric, Pv, PartKey, shared_key, p2m_key, FrameOf, FrameMap, GuestOf, PartMap, part_total, part_exact, length_longs, each_value, blanked_frame, only, blanked_context, blanked_shared, level_of, blanked_page, Kind, place_in, is_used_somewhere, some_each, each_each, stays_each, renamed_frame, renamed_part, normalised_of, normalised, normalised_frame}
+use Rattle.mig_guest.specs.Order.{part_cmp}
+use Rattle.mig_pvtables.specs.BlankSteps.{with_zero_page, with_table_blanked, where_listed, blanked_code}
 use Rattle.mig_pvtables.proofs.BlankGuests.{HasSolePage, HasLongPage, page_still, frames_blanked, parts_blanked}
-use Rattle.mig_pvtables.proofs.EachValue.{some_each, each_each, stays_each}
-use Rattle.mig_host_view.specs.Localised.{renamed_frame, renamed_part}
-use Rattle.mig_host_view.specs.Normalised.{normalised_of, normalised}
-use Rattle.mig_host_view.specs.NormaliseSteps.{normalised_frame}
 use Rattle.mig_host_view.proofs.LocalisedGuests.{from_context}
+use Rattle.std.specs.FinMap as maps
 
 -- each context has 5168 bytes
 abbrev HasLongContexts : PartMap → Type 0

@@ -1,8 +1,7 @@
 -- A field of a context that says another frame, and says the first one back.
-use Rattle.mig_host_view.proofs.Common.{◌≡◌, ℕ, ◌+◌, ◌-◌, ◌*◌, ◌/◌, ◌%◌, ◌^◌, ◌<◌, Bool, true, false, cond, not, nat_le, nat_lt, ◌==◌, Option, Some, None, refl, sym, ap, subst, ◌∙◌, arith, eqb-true, eq-eqb, ne_eqb, field_at, frame_of_field, is_marked, is_used, value_blanked}
-use Rattle.mig_pvtables.specs.Renaming.{GoesBack}
-use Rattle.mig_pvtables.specs.VcpuContexts.{blanked_value, field_of_frame, is_used_somewhere}
-use Rattle.mig_host_view.specs.RenamedContexts.{field_named, value_renamed, renamed_value}
+use Rattle.mig_host_view.proofs.Common.{◌≡◌, ℕ, ◌+◌, ◌-◌, ◌*◌, ◌/◌, ◌%◌, ◌^◌, ◌<◌, Bool, true, false, cond, not, nat_le, nat_lt, ◌==◌, Option, Some, None, refl, sym, ap, subst, ◌∙◌, arith, eqb-true, eq-eqb, ne_eqb, field_at, frame_of_field, is_marked, is_used, GoesBack, field_of_frame, is_used_somewhere, field_named, value_renamed}
+use Rattle.mig_pvtables.specs.VcpuContexts.{value_blanked, blanked_value}
+use Rattle.mig_host_view.specs.RenamedContexts.{renamed_value}
 
 -- ---- one field
 

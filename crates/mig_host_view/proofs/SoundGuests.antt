@@ -1,31 +1,16 @@
 -- A whole, blank guest that is localised can be seen.
-use Rattle.mig_host_view.proofs.Common.{◌≡◌, ℕ, ◌<◌, ◌≤◌, Bool, true, false, List, Option, Some, None, is_some, IsSome, refl, sym, ap, subst, ◌∙◌, arith, option_and_then, nat_cmp_total, nat_cmp-IsAntisymmetric, Pv, Hvm, PageType, level_of, PartKey, Entry, Blank, NotPresent, Superpage, Frame, FrameOf, FrameMap, GuestOf, PartMap, IsPart, width_of, p2m_key, context_key, place_of, gdt_ents, entry, EachEntry, IsWithin, is_type_of, part_total, part_exact, blank, blank_of, type_at, fits_field, field_at, field_place, field_value, frame_of_field, is_used, listed, listed_in, IsWhole}
-use Rattle.std.specs.FinMap as maps
-use Rattle.std.proofs.lemmas.List.Elements.{recursion_from_All}
-use Rattle.mig_bytes.specs.Bytes.{AreBytes}
-use Rattle.mig_headers.specs.declared.kind.Kind.{Kind}
-use Rattle.mig_guest.specs.declared.part_code.PartCode.{PartCode}
-use Rattle.mig_guest.specs.declared.part_code.PartCode.TheVariants.{P2mFrames, VcpuBasic, HvmContext}
-use Rattle.mig_guest.specs.PartCodes.{row_of, code_number}
-use Rattle.mig_guest.proofs.PartRows.{one_code, of_part, no_entries}
-use Rattle.mig_pvtables.specs.BadEntries.{NamesKnown}
-use Rattle.mig_pvtables.specs.Renaming.{name_for, renamed_table, entry_named, NamesFit, GoesBack}
-use Rattle.mig_pvtables.specs.VcpuContexts.{is_used_somewhere}
-use Rattle.mig_pvtables.specs.WholePv.{IsCompletePv}
-use Rattle.mig_pvtables.proofs.BlankSays.{field_there}
+use Rattle.mig_host_view.proofs.Common.{◌≡◌, ℕ, ◌<◌, ◌≤◌, Bool, true, false, List, Option, Some, None, is_some, IsSome, refl, sym, ap, subst, ◌∙◌, arith, option_and_then, nat_cmp_total, nat_cmp-IsAntisymmetric, Pv, Hvm, PageType, level_of, PartKey, Entry, Blank, NotPresent, Superpage, Frame, FrameOf, FrameMap, GuestOf, PartMap, IsPart, width_of, p2m_key, context_key, place_of, gdt_ents, entry, EachEntry, IsWithin, is_type_of, part_total, part_exact, blank, blank_of, type_at, fits_field, field_at, field_place, field_value, frame_of_field, is_used, listed, listed_in, IsWhole, recursion_from_All, AreBytes, Kind, PartCode, P2mFrames, VcpuBasic, HvmContext, row_of, code_number, one_code, of_part, NamesKnown, name_for, renamed_table, entry_named, GoesBack, is_used_somewhere, IsCompletePv, field_there, from_each, entries_changed, kept_p2m, pv_complete, TableGoesBack, renamed_part, localised_page, localised_frame, localised_of, localised, value_renamed, renamed_context, needed_keys, AreThere, machine_type, CanBeSeen}
+use Rattle.mig_guest.proofs.PartRows.{no_entries}
+use Rattle.mig_pvtables.specs.Renaming.{NamesFit}
 use Rattle.mig_pvtables.proofs.BlankShape.{table_unlisted}
-use Rattle.mig_pvtables.proofs.EachValue.{from_each}
 use Rattle.mig_pvtables.proofs.HvmGuests.{hvm_complete}
-use Rattle.mig_pvtables.proofs.SameShape.{entries_changed, kept_p2m}
-use Rattle.mig_pvtables.proofs.PvGuests.{pv_complete}
-use Rattle.mig_pvtables.proofs.Renamed.{EntryGoesBack, TableGoesBack, fits_back, said_anew}
-use Rattle.mig_host_view.specs.Localised.{renamed_part, localised_page, localised_frame, localised_of, localised}
-use Rattle.mig_host_view.specs.RenamedContexts.{value_renamed, renamed_value, renamed_context}
-use Rattle.mig_host_view.specs.Sound.{needed_keys, AreThere, machine_type, CanBeSeen}
+use Rattle.mig_pvtables.proofs.Renamed.{EntryGoesBack, fits_back, said_anew}
+use Rattle.mig_host_view.specs.RenamedContexts.{renamed_value}
 use Rattle.mig_host_view.proofs.GuestsBack.{table_goes, context_goes, context_bytes, blank_context}
 use Rattle.mig_host_view.proofs.LocalisedGuests.{localised_type, renamed_there, renamed_listed, from_context}
 use Rattle.mig_host_view.proofs.RenamedContexts.{there_at, same_ents}
 use Rattle.mig_host_view.proofs.RenamedFields.{FieldGoesBack, IsBlankField, frame_there, unused_stays, first, unused, used}
+use Rattle.std.specs.FinMap as maps
 
 -- ---- entries
 

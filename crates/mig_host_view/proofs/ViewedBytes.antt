@@ -1,21 +1,9 @@
 -- What stands in a host of bytes is seen as a guest of bytes.
-use Rattle.mig_host_view.proofs.Common.{◌≡◌, ℕ, ◌<◌, Bool, true, false, cond, ◌==◌, List, take, Option, Some, None, ap, subst, ◌∙◌, arith, nat_cmp_total, nat_cmp-IsAntisymmetric, Pv, Hvm, level_of, PartKey, FrameOf, GuestOf, part_total, part_exact, IsOfBytes}
+use Rattle.mig_host_view.proofs.Common.{◌≡◌, ℕ, ◌<◌, Bool, true, false, cond, ◌==◌, List, take, Option, Some, None, ap, subst, ◌∙◌, arith, nat_cmp_total, nat_cmp-IsAntisymmetric, Pv, Hvm, level_of, PartKey, FrameOf, GuestOf, part_total, part_exact, Result, Ok, Err, replicate, AreBytes, scan, cut_at, ContextFault, Kind, HostOf, pfn_in, renamed_table, Usage, is_used_somewhere, from_each, renamed_page, renamed_frame, renamed_part, renamed, cut_by, part_seen, normalised_of, normalised, renamed_context, guest_in, view}
+use Rattle.mig_pvtables.specs.Blank.{IsOfBytes}
 use Rattle.std.proofs.lemmas.List.Elements.{All-append, All-take, All-replicate}
-use Rattle.std.specs.Prelude.{Result, Ok, Err, replicate}
-use Rattle.mig_bytes.specs.Bytes.{AreBytes}
-use Rattle.mig_headers.specs.Contexts.{scan, cut_at}
-use Rattle.mig_headers.specs.declared.fault.ContextFault.{ContextFault}
-use Rattle.mig_headers.specs.declared.kind.Kind.{Kind}
-use Rattle.mig_guest.specs.Hosts.{HostOf, pfn_in}
-use Rattle.mig_pvtables.specs.Renaming.{renamed_table}
-use Rattle.mig_pvtables.specs.VcpuContexts.{Usage, is_used_somewhere}
 use Rattle.mig_pvtables.proofs.BlankBytesKept.{longs_bytes, kind_bytes}
-use Rattle.mig_pvtables.proofs.EachValue.{from_each}
 use Rattle.mig_pvtables.proofs.SameShape.{mapped_holds}
-use Rattle.mig_host_view.specs.Localised.{renamed_page, renamed_frame, renamed_part, renamed}
-use Rattle.mig_host_view.specs.Normalised.{cut_by, part_seen, normalised_of, normalised}
-use Rattle.mig_host_view.specs.RenamedContexts.{renamed_context}
-use Rattle.mig_host_view.specs.View.{guest_in, view}
 
 abbrev IsByte : ℕ → Type 0
 IsByte b = b < 256

@@ -1,15 +1,12 @@
 -- The frames of a valid host.
-use Rattle.mig_host_view.proofs.Common.{◌≡◌, ℕ, ◌<◌, ◌≤◌, Bool, true, false, Option, Some, is_some, IsSome, refl, sym, ap, subst, ◌∙◌, arith, ◌==◌, ◌||◌, eqb-true, nat_cmp_total, nat_cmp-IsAntisymmetric, Pv, Hvm, top_limit, FrameOf, IsFew, is_type_of, GuestOf}
-use Rattle.std.specs.FinMap as maps
-use Rattle.mig_headers.specs.declared.kind.Kind.{Kind}
-use Rattle.mig_pagetypes.specs.declared.page_type.PageType.{PageType}
+use Rattle.mig_host_view.proofs.Common.{◌≡◌, ℕ, ◌<◌, ◌≤◌, Bool, true, false, Option, Some, is_some, IsSome, refl, sym, ap, subst, ◌∙◌, arith, ◌==◌, eqb-true, nat_cmp_total, nat_cmp-IsAntisymmetric, Pv, Hvm, top_limit, FrameOf, is_type_of, GuestOf, Kind, PageType, IsTop, IsFrame, HostOf, HostFrame, IsValid, pfn_in, from_each, some_each, len_each, without_machine, top_of, guest_in}
+use Rattle.std.specs.Prelude.{◌||◌}
+use Rattle.mig_guest.specs.Frames.{IsFew}
 use Rattle.mig_pagetypes.specs.declared.page_type.PageType.TheVariants.{Xtab}
-use Rattle.mig_guest.specs.Formed.{IsTop, IsInside, is_policy}
-use Rattle.mig_guest.specs.Frames.{IsFrame}
-use Rattle.mig_guest.specs.Hosts.{HostOf, HostFrame, IsHostFrame, IsValid, pfn_in}
-use Rattle.mig_pvtables.proofs.EachValue.{from_each, some_each, len_each}
-use Rattle.mig_host_view.specs.View.{without_machine, top_of, guest_in}
+use Rattle.mig_guest.specs.Formed.{IsInside, is_policy}
+use Rattle.mig_guest.specs.Hosts.{IsHostFrame}
 use Rattle.mig_host_view.proofs.ViewedSays.{pfn_found}
+use Rattle.std.specs.FinMap as maps
 
 -- ---- either kind
 

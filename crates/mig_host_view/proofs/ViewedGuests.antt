@@ -1,12 +1,7 @@
 -- What a valid and sound host is seen as is a whole guest in blank form.
-use Rattle.mig_host_view.proofs.Common.{◌≡◌, refl, subst, Pv, Hvm, blank, blank_of, IsWhole}
-use Rattle.mig_headers.specs.declared.kind.Kind.{Kind}
-use Rattle.mig_guest.specs.Hosts.{HostOf, IsValid, pfn_in}
+use Rattle.mig_host_view.proofs.Common.{◌≡◌, refl, subst, Pv, Hvm, blank, blank_of, IsWhole, Kind, HostOf, IsValid, pfn_in, normalised_of, IsSound, guest_in, view}
 use Rattle.mig_pvtables.proofs.BlankAgain.{blank_again}
 use Rattle.mig_pvtables.proofs.HvmGuests.{hvm_blank}
-use Rattle.mig_host_view.specs.Normalised.{normalised_of}
-use Rattle.mig_host_view.specs.Sound.{IsSound}
-use Rattle.mig_host_view.specs.View.{guest_in, view}
 use Rattle.mig_host_view.proofs.ViewedHvm.{cut, hvm_viewed}
 use Rattle.mig_host_view.proofs.ViewedPv.{there, pv_viewed}
 

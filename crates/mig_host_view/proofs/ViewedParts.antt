@@ -1,24 +1,15 @@
 -- The parts of a host, renamed and with the context cut, are those of a guest.
-use Rattle.mig_host_view.proofs.Common.{◌≡◌, ℕ, ◌+◌, ◌≤◌, ◌^◌, Bool, true, false, cond, List, length, ◌++◌, take, replicate, refl, sym, ap, subst, ◌∙◌, arith, ◌==◌, eqb-true, eq-eqb, le-leb, length-append, length-take-le, Pv, Hvm, PartKey, IsPart, gdt_ents, length_longs}
+use Rattle.mig_host_view.proofs.Common.{◌≡◌, ℕ, ◌+◌, ◌≤◌, ◌^◌, Bool, true, false, cond, List, length, ◌++◌, take, replicate, refl, sym, ap, subst, ◌∙◌, arith, ◌==◌, eqb-true, eq-eqb, Pv, Hvm, PartKey, IsPart, gdt_ents, length_longs, Ok, scan, cut_at, Kind, PartCode, VcpuBasic, HvmContext, IsHostPart, row_of, code_number, one_code, is_used_somewhere, renamed_part, cut_by, part_seen, renamed_context}
+use Rattle.std.proofs.Common.{le-leb, length-append}
+use Rattle.std.proofs.lemmas.List.{length-take-le, take_at}
 use Rattle.std.specs.Prelude.{Option}
 use Rattle.std.proofs.lemmas.Bool.{leb-true}
-use Rattle.std.proofs.lemmas.List.{take_at}
-use Rattle.std.specs.Prelude.{Ok}
 use Rattle.mig_headers.proofs.Chains.{end_fits}
 use Rattle.mig_headers.proofs.ContextTexts.{scan_cut}
-use Rattle.mig_headers.specs.Contexts.{scan, cut_at}
-use Rattle.mig_headers.specs.declared.kind.Kind.{Kind}
-use Rattle.mig_guest.specs.declared.part_code.PartCode.{PartCode}
-use Rattle.mig_guest.specs.declared.part_code.PartCode.TheVariants.{VcpuBasic, HvmContext, EmulatorPairs}
+use Rattle.mig_guest.specs.declared.part_code.PartCode.TheVariants.{EmulatorPairs}
 use Rattle.mig_guest.specs.Formed.{IsCut, IsContent, IsRawContent}
-use Rattle.mig_guest.specs.Hosts.{IsHostPart}
-use Rattle.mig_guest.specs.PartCodes.{row_of, code_number}
-use Rattle.mig_guest.proofs.PartRows.{one_code, same_len}
-use Rattle.mig_pvtables.specs.VcpuContexts.{is_used_somewhere}
+use Rattle.mig_guest.proofs.PartRows.{same_len}
 use Rattle.mig_pvtables.proofs.SameShape.{to_guest}
-use Rattle.mig_host_view.specs.Localised.{renamed_part}
-use Rattle.mig_host_view.specs.Normalised.{cut_by, part_seen}
-use Rattle.mig_host_view.specs.RenamedContexts.{renamed_context}
 use Rattle.mig_host_view.proofs.ViewedSays.{ents_there}
 
 -- what a host asks of the bytes of a part that is no context, a guest asks

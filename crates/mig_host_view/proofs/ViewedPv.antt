@@ -1,26 +1,14 @@
 -- What a valid and sound PV host is seen as is a whole guest.
-use Rattle.mig_host_view.proofs.Common.{◌≡◌, ℕ, ◌+◌, ◌<◌, ◌≤◌, true, List, Option, Some, None, IsSome, refl, sym, ap, subst, ◌∙◌, arith, ◌==◌, nat_cmp_total, nat_cmp-IsAntisymmetric, Pv, level_of, PartKey, Entry, Blank, NotPresent, Frame, FrameOf, GuestOf, IsFormed, IsGuestFrame, IsPart, width_of, gdt_ents, p2m_key, shared_key, vcpu_key, EachEntry, IsWithin, part_total, part_exact, blank, blank_of, type_at, fits_field, field_value, frame_of_field, is_used, IsWhole}
-use Rattle.std.specs.FinMap as maps
-use Rattle.mig_headers.specs.declared.kind.Kind.{Kind}
-use Rattle.mig_guest.specs.Hosts.{HostOf, IsHostPart, IsValid, pfn_in}
-use Rattle.mig_guest.specs.Parts.{FitsPolicy}
-use Rattle.mig_pvtables.specs.BadEntries.{NamesKnown}
-use Rattle.mig_pvtables.specs.Renaming.{renamed_table}
-use Rattle.mig_pvtables.specs.VcpuContexts.{is_used_somewhere}
-use Rattle.mig_pvtables.specs.WholePv.{IsCompletePv}
+use Rattle.mig_host_view.proofs.Common.{◌≡◌, ℕ, ◌+◌, ◌<◌, ◌≤◌, true, List, Option, Some, None, IsSome, refl, sym, ap, subst, ◌∙◌, arith, ◌==◌, nat_cmp_total, nat_cmp-IsAntisymmetric, Pv, level_of, PartKey, Entry, Blank, NotPresent, Frame, FrameOf, GuestOf, IsFormed, IsPart, width_of, gdt_ents, p2m_key, shared_key, EachEntry, IsWithin, part_total, part_exact, blank, blank_of, type_at, fits_field, field_value, frame_of_field, is_used, IsWhole, Kind, HostOf, IsHostPart, IsValid, pfn_in, FitsPolicy, NamesKnown, renamed_table, is_used_somewhere, IsCompletePv, from_each, some_each, len_each, count_each, types_kept, entries_changed, kept_p2m, renamed_page, renamed_frame, renamed_part, renamed, normalised_of, renamed_context, needed_keys, AreThere, IsSound, top_of, guest_in, view}
+use Rattle.mig_guest.specs.Formed.{IsGuestFrame}
+use Rattle.mig_guest.specs.PartKeys.{vcpu_key}
 use Rattle.mig_pvtables.proofs.BlankWhole.{whole_blank}
-use Rattle.mig_pvtables.proofs.EachValue.{from_each, some_each, len_each, count_each}
 use Rattle.mig_pvtables.proofs.PvGuests.{pv_whole}
-use Rattle.mig_pvtables.proofs.SameShape.{types_kept, entries_changed, kept_p2m}
-use Rattle.mig_host_view.specs.Localised.{renamed_page, renamed_frame, renamed_part, renamed}
-use Rattle.mig_host_view.specs.Normalised.{normalised_of}
-use Rattle.mig_host_view.specs.RenamedContexts.{renamed_context}
-use Rattle.mig_host_view.specs.Sound.{needed_keys, AreThere, IsSound}
-use Rattle.mig_host_view.specs.View.{top_of, guest_in, view}
 use Rattle.mig_host_view.proofs.LocalisedGuests.{localised_is_frame, renamed_there, renamed_listed, from_context}
 use Rattle.mig_host_view.proofs.ViewedParts.{pv_part}
 use Rattle.mig_host_view.proofs.ViewedSays.{entry_there, context_fits}
 use Rattle.mig_host_view.proofs.ViewedFrames.{top_is, inside_is, each_policy, is_frame, pfn_there, pfn_below, pfn_small, frame_below, frame_type, few_inner}
+use Rattle.std.specs.FinMap as maps
 
 module _ (h : HostOf) (valid : IsValid h) (sound : IsSound h) (pv : h.kind ≡ Pv) where
   abbrev inner : GuestOf

@@ -1,10 +1,9 @@
 -- What stands around an image looks at the parts of emulators alone, and what stands before it at their keys.
-use Rattle.mig_libxl.proofs.WritingCommon.{and_parts, ◌≡◌, ℕ, ◌==◌, ◌&&◌, Bool, true, false, cond, List, [], ◌++◌, Option, Some, None, is_some, refl, sym, ap, ◌∙◌, list_any, is_emulator_code, PartMap, PartKey, has_emulators, is_of_converter, text_of_emulators}
-use Rattle.std.specs.FinMap as maps
-use Rattle.mig_records.specs.Records.{spelled}
-use Rattle.mig_canon.specs.CanonStream.{opening_text, wrapper_opening, wrapper_closing}
+use Rattle.mig_libxl.proofs.Common.{and_parts, ◌≡◌, ℕ, ◌==◌, ◌&&◌, Bool, true, false, cond, List, [], ◌++◌, Option, Some, None, is_some, refl, sym, ap, ◌∙◌, list_any, is_emulator_code, PartMap, PartKey, has_emulators, is_of_converter, text_of_emulators, spelled, opening_text}
+use Rattle.mig_canon.specs.CanonStream.{wrapper_opening, wrapper_closing}
 use Rattle.mig_libxl.proofs.Canon.{none_is}
 use Rattle.mig_libxl.proofs.EmulatorParts.{order_alike}
+use Rattle.std.specs.FinMap as maps
 
 -- the keys that pass a test are the same
 abbrev SameKeys : (PartKey → Bool) → PartMap → PartMap → Type 0

@@ -1,32 +1,28 @@
 -- The canonical stream of a guest of either form is accepted with this guest, and is that of no other.
-use Rattle.mig_libxl.proofs.WritingCommon.{◌≡◌, ◌↔◌, ℕ, Bool, true, false, List, [], ◌∷◌, ◌++◌, map, None, refl, sym, ap, subst, ◌∙◌, arith, append_assoc, append-nil, All, Pv, IsFormed, GuestOf, part_cmp, Part, IsImage, ImageOf, IsBare, bare_guest, has_emulators, is_of_converter, text_of_emulators, LibxlRecord, Image, EmulatorsOf, no_emulators, with_emulators, FollowsLibxl, no_part, one_more, Bare, Wrapped}
-use Rattle.std.specs.FinMap as maps
+use Rattle.mig_libxl.proofs.Common.{◌≡◌, ◌↔◌, ℕ, Bool, true, false, List, [], ◌∷◌, ◌++◌, map, None, refl, sym, ap, subst, ◌∙◌, arith, append_assoc, append-nil, All, Pv, IsFormed, GuestOf, part_cmp, Part, ImageOf, bare_guest, has_emulators, is_of_converter, text_of_emulators, LibxlRecord, Image, EmulatorsOf, no_emulators, with_emulators, FollowsLibxl, one_more, Bare, Wrapped, spelled, canon, mean_kind, emulators_in_order, emulators_more, among_more, ended_more, none_set, is_record}
+use Rattle.mig_restore_form.specs.Spelled.{IsImage, Accepted as ImageAccepted}
+use Rattle.mig_canon.specs.Bare.{IsBare}
+use Rattle.mig_bytes.specs.Sequences.Spells.{no_part}
 use Rattle.mig_headers.specs.Headers.{libxl_header_of}
 use Rattle.mig_headers.proofs.LibxlHeaders.{libxl_is_read_back}
-use Rattle.mig_records.specs.Records.{spelled}
-use Rattle.mig_canon.specs.Canon.{canon}
-use Rattle.mig_restore_form.proofs.Meaning.{mean_kind}
 use Rattle.mig_restore_form.specs.Mean.{mean}
-use Rattle.mig_restore_form.specs.Spelled.{Accepted as ImageAccepted}
 use Rattle.mig_restore_form.specs.Stream.{image_of}
 use Rattle.mig_libxl_form.specs.Carried.{IsCarried}
-use Rattle.mig_canon.specs.CanonStream.{canon_any, emulators_in_order, wrapper_opening, wrapper_closing}
+use Rattle.mig_canon.specs.CanonStream.{canon_any, wrapper_opening, wrapper_closing}
 use Rattle.mig_libxl_form.specs.Content.LibxlContent.{Nothing}
 use Rattle.mig_libxl_form.specs.Emulators.{emulators_of}
 use Rattle.mig_libxl_form.specs.Spelled.{AcceptedStream}
 use Rattle.mig_libxl_form.specs.Spelled.HasLibxlContent.{ends}
 use Rattle.mig_libxl_form.specs.Spelled.IsLibxlRecord.{image as an_image, body as a_body}
-use Rattle.mig_libxl_form.proofs.Among.{emulators_more, among_more, ended_more}
 use Rattle.mig_libxl.proofs.Canon.{bare_is, bare_plain, bare_whole, canon_bare, plain_is, pv_plain}
 use Rattle.mig_canon.proofs.Batched.{canon_is_accepted as image_is_accepted}
-use Rattle.mig_libxl_form.proofs.EmulatorGuests.{none_set}
 use Rattle.mig_libxl.proofs.EmulatorParts.{few_emulators, in_order_differ, in_order_holds}
 use Rattle.mig_libxl.proofs.EmulatorRecords.{record_of_part}
-use Rattle.mig_canon.proofs.CanonParts.{is_record}
 use Rattle.mig_libxl.proofs.EmulatorMaps.{said_of, said_is, guest_again}
 use Rattle.mig_libxl.proofs.Around.{canon_any_is, opening_none, opening_some, closing_none, closing_some}
 use Rattle.mig_libxl_form.proofs.Laws.{one_front}
 use Rattle.mig_libxl.proofs.WrappedCanons.{Here, here_all}
+use Rattle.std.specs.FinMap as maps
 
 -- ---- a bare image
 

@@ -1,9 +1,6 @@
 -- What stands around an image.
-use Rattle.mig_libxl.proofs.WritingCommon.{◌≡◌, true, false, cond, List, [], ◌++◌, ℕ, Option, Some, None, refl, sym, ap, append-nil, GuestOf, PartMap, has_emulators, is_of_converter, text_of_emulators}
-use Rattle.std.specs.Io.KnownBytes.{Appends}
-use Rattle.mig_records.specs.Records.{spelled}
-use Rattle.mig_canon.specs.Canon.{canon}
-use Rattle.mig_canon.specs.CanonStream.{canon_any, emulators_in_order, opening_text, wrapper_opening, wrapper_closing}
+use Rattle.mig_libxl.proofs.Common.{◌≡◌, true, false, cond, List, [], ◌++◌, ℕ, Option, Some, None, refl, sym, ap, append-nil, GuestOf, PartMap, has_emulators, is_of_converter, text_of_emulators, Appends, spelled, canon, emulators_in_order, opening_text}
+use Rattle.mig_canon.specs.CanonStream.{canon_any, wrapper_opening, wrapper_closing}
 
 module _ (parts : PartMap) where
   pub opening_some : has_emulators parts ≡ true → wrapper_opening parts ≡ opening_text (is_of_converter parts)

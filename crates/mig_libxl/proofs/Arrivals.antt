@@ -1,7 +1,6 @@
 -- The front of a libxl stream that the reader has behind it.
-use Rattle.mig_libxl.proofs.ReadingCommon.{ℕ, Bool, List, Option, nat_eq, LibxlRecord, is_libxl_ended, IsLibxlSeen, WrapperSeen}
+use Rattle.mig_libxl.proofs.Common.{ℕ, Bool, List, Option, nat_eq, LibxlRecord, is_libxl_ended, IsLibxlSeen, WrapperSeen, libxl_record_at}
 use Rattle.mig_bytes.proofs.Arrivals as fronts
-use Rattle.mig_libxl_form.specs.Judging.{libxl_record_at}
 
 abbrev pub is_last : LibxlRecord → Bool
 is_last r = nat_eq r.type 0

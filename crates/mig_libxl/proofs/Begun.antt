@@ -1,11 +1,8 @@
 -- What the reader of a libxl stream keeps is formed, whatever records come.
-use Rattle.mig_libxl.proofs.ReadingCommon.{◌≡◌, ℕ, ◌≤◌, ◌<◌, ◌^◌, true, List, length, drop, None, sym, ap, subst, arith, All-drop, AreBytes, pairs_fault, text_of_map, put_pairs, EmulatorsOf, store_at, add_pairs, AreEmulators, WrapperSeen}
-use Rattle.std.proofs.Common.{length-drop}
-use Rattle.std.specs.FinMap as maps
+use Rattle.mig_libxl.proofs.Common.{◌≡◌, ℕ, ◌≤◌, ◌<◌, ◌^◌, true, List, length, drop, None, sym, ap, subst, arith, All-drop, AreBytes, pairs_fault, text_of_map, put_pairs, EmulatorsOf, store_at, add_pairs, AreEmulators, WrapperSeen, length-drop, pairs_in, IsLibxlBegun}
 use Rattle.std.proofs.lemmas.Bool.{false≢true}
-use Rattle.mig_policy.specs.PairMaps.{pairs_in}
 use Rattle.mig_libxl_form.proofs.Formed.{context_kept, pairs_kept}
-use Rattle.mig_libxl.specs.Seen.{IsLibxlBegun}
+use Rattle.std.specs.FinMap as maps
 
 module _ (seen : WrapperSeen) (new : EmulatorsOf) (slice : List ℕ) (id index : ℕ) (begun : IsLibxlBegun seen) (known : id < 3) (small : index < 256) where
   begun_with : AreEmulators new → IsLibxlBegun (record { emulators = new; image = seen.image; emulated = true; records = seen.records })

@@ -1,19 +1,18 @@
 -- The records of a guest's emulators: each is spelled as the format says, and together they say the emulators.
-use Rattle.mig_libxl.proofs.WritingCommon.{◌≡◌, ℕ, ◌+◌, ◌<◌, ◌≤◌, ◌^◌, List, ◌++◌, length, Some, inl, inr, refl, sym, subst, arith, append_assoc, length-append, ◌-◌, ◌==◌, nat_le, if◌then◌else◌, and_parts, eqb-true, leb-true, or_cases, little_bytes, IsFormed, width_of, GuestOf, Part, EmulatorPairs, PartKey, IsOf, of_part, pairs_are_read, some_bytes_are_some_pairs, LibxlRecord, LibxlContent, Pairs, Context, HasLibxlContent}
-use Rattle.std.specs.FinMap as maps
+use Rattle.mig_libxl.proofs.Common.{◌≡◌, ℕ, ◌+◌, ◌<◌, ◌≤◌, ◌^◌, List, ◌++◌, length, Some, inl, inr, refl, sym, subst, arith, append_assoc, length-append, ◌-◌, ◌==◌, nat_le, if◌then◌else◌, and_parts, eqb-true, leb-true, or_cases, little_bytes, IsFormed, width_of, GuestOf, Part, EmulatorPairs, PartKey, IsOf, of_part, some_bytes_are_some_pairs, LibxlRecord, LibxlContent, Pairs, Context, pairs_in, spelled, emulator_body, is_record}
+use Rattle.mig_policy.proofs.KeyLaws.{pairs_are_read}
+use Rattle.mig_libxl_form.specs.Spelled.{HasLibxlContent, IsFront, IsLibxlRecord}
 use Rattle.byteorder.specs.Numbers.{length-bytes_low_first}
 use Rattle.mig_headers.specs.Pairs.{AreCanonicalPairs}
 use Rattle.mig_policy.specs.PairFaults.{SpellPairs}
-use Rattle.mig_policy.specs.PairMaps.{pairs_in}
-use Rattle.mig_records.specs.Records.{head_of, spelled}
+use Rattle.mig_records.specs.Records.{head_of}
 use Rattle.mig_records.proofs.HeadBytes.{type_in_head, len_in_head}
-use Rattle.mig_canon.specs.CanonStream.{emulator_body, emulator_record}
-use Rattle.mig_libxl_form.specs.Spelled.{IsFront, IsLibxlRecord}
+use Rattle.mig_canon.specs.CanonStream.{emulator_record}
 use Rattle.mig_libxl_form.specs.Spelled.HasLibxlContent.{pairs as says_pairs, context as says_context}
 use Rattle.mig_libxl_form.specs.Spelled.IsLibxlRecord.{body as a_body}
 use Rattle.mig_libxl.proofs.EmulatorParts.{IsEmulatorPart, small}
 use Rattle.mig_libxl.proofs.EmulatorTexts.{key_front, short_emulator}
-use Rattle.mig_canon.proofs.CanonParts.{is_record}
+use Rattle.std.specs.FinMap as maps
 
 -- ---- what a part's record says
 

@@ -1,22 +1,21 @@
 -- A stream of either form behind its first 8 bytes, as it is read.
-use Rattle.mig_libxl.proofs.ReadingCommon.{◌≡◌, ℕ, Bool, true, false, cond, List, [], ◌++◌, length, take, drop, nat_le, nat_lt, nat_eq, Option, Some, None, Result, Ok, Err, refl, sym, ap, subst, ◌∙◌, arith, length-append, le-leb, lt-leb, Judged, ◌>>=◌, part, placed, Passes, Cause, Truncated, Place, LibxlHeader, ImageOf, Reading, header_at, bare_at, Bare}
-use Rattle.std.proofs.lemmas.Bool.{ltb-true}
+use Rattle.mig_libxl.proofs.Common.{◌≡◌, ℕ, Bool, true, false, cond, List, [], ◌++◌, length, take, drop, nat_le, nat_lt, nat_eq, Option, Some, None, Ok, refl, sym, ap, subst, ◌∙◌, arith, length-append, le-leb, lt-leb, ◌>>=◌, part, placed, Passes, Cause, Truncated, LibxlHeader, ImageOf, Reading, header_at, bare_at, Bare, ltb-true, stop_at, Gives, image_behind, none_set, behind_header}
+use Rattle.std.proofs.Common.{Result, Err}
+use Rattle.mig_bytes.specs.Judged.{Judged, tried, Matches}
+use Rattle.mig_headers.specs.declared.fault.Place.{Place}
 use Rattle.mig_bytes.specs.Fields.{be64}
-use Rattle.mig_bytes.specs.Judged.{tried, stop_at, Matches, Gives}
 use Rattle.mig_bytes.specs.Judged.Judged.{Faulty}
 use Rattle.mig_bytes.specs.declared.stop.Stop.{Stop}
-use Rattle.mig_bytes.specs.declared.stop.Stop.TheVariants as stops
 use Rattle.mig_bytes.proofs.Joins.{part_whole, part_passes}
 use Rattle.mig_headers.proofs.HeaderLaws.{marker_of}
 use Rattle.mig_headers.specs.Headers.{libxl_ident, fault_of_marker}
 use Rattle.mig_headers.specs.declared.fault.Place.TheVariants.{ImageHeader}
 use Rattle.mig_restore.proofs.Behind.{behind_is}
-use Rattle.mig_restore_form.specs.Stream.{image_at, image_behind, marker_at, opening_at}
+use Rattle.mig_restore_form.specs.Stream.{image_at, marker_at, opening_at}
 use Rattle.mig_restore.specs.Reads.{IsReading as IsImageReading}
 use Rattle.mig_libxl_form.specs.Stream.{StreamOf, wrapped_at, stream_at}
 use Rattle.mig_libxl.specs.Reads.{IsStreamReading}
-use Rattle.mig_libxl_form.proofs.EmulatorGuests.{none_set}
-use Rattle.mig_libxl_form.proofs.Forms.{behind_header}
+use Rattle.mig_bytes.specs.declared.stop.Stop.TheVariants as stops
 
 -- ---- a libxl stream behind its ident
 

@@ -1,6 +1,5 @@
 -- The image that the reader keeps, as heads ask for it.
-use Rattle.mig_libxl.proofs.ReadingCommon.{◌≡◌, List, Option, Some, None, refl, ap, ◌∙◌, ImageOf, Reading, LibxlRecord, image_among, Holds, IsLibxlSeen, WrapperSeen}
-use Rattle.mig_restore_form.proofs.Meaning.{mean_kind}
+use Rattle.mig_libxl.proofs.Common.{◌≡◌, List, Option, Some, None, refl, ap, ◌∙◌, ImageOf, Reading, LibxlRecord, image_among, Holds, IsLibxlSeen, WrapperSeen, mean_kind}
 use Rattle.mig_libxl_form.specs.Behind.{AreBehind, kind_of_image}
 use Rattle.mig_libxl.specs.Seen.{kind_of_reading, behind_of}
 

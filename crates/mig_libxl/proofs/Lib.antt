@@ -1,4 +1,4 @@
-pub mod WritingCommon
+pub mod Common
 pub mod WrappedCanons
 pub mod Around
 pub mod Alike
@@ -9,7 +9,6 @@ pub mod Canon
 pub mod EmulatorParts
 pub mod EmulatorRecords
 pub mod EmulatorMaps
-pub mod ReadingCommon
 pub mod Arrivals
 pub mod Begun
 pub mod Forms

@@ -1,9 +1,7 @@
 -- What stands among records once one more is there.
-use Rattle.mig_libxl_form.proofs.Common.{◌≡◌, false, List, [], ◌∷◌, ◌++◌, nat_eq, Option, Some, None, ap, ◌∙◌, arith, ◌||◌, option_or, common_steps, ImageOf, LibxlRecord, is_libxl_ended, image_in, image_among, fold-append, EmulatorsOf, no_emulators, put_libxl_content}
+use Rattle.mig_libxl_form.proofs.Common.{◌≡◌, false, List, [], ◌∷◌, ◌++◌, nat_eq, Option, Some, None, ap, ◌∙◌, arith, ◌||◌, option_or, common_steps, ImageOf, LibxlRecord, is_libxl_ended, image_in, image_among, fold-append, EmulatorsOf, no_emulators, put_libxl_content, has_emulator, or_none}
 use Rattle.std.proofs.lemmas.List.Folds.{list_any-append}
-use Rattle.mig_libxl_form.specs.Among.{has_emulator}
 use Rattle.mig_libxl_form.specs.Emulators.{emulators_of}
-use Rattle.mig_restore_form.proofs.PartsInOrder.{or_none}
 
 pub ended_more : (records : List LibxlRecord) (r : LibxlRecord) → is_libxl_ended records ≡ false → is_libxl_ended (records ++ r ∷ []) ≡ nat_eq r.type 0
 ended_more records r going = list_any-append (λ (x : LibxlRecord). nat_eq x.type 0) records (r ∷ []) ∙ ap (λ b. b || (nat_eq r.type 0 || false)) going ∙ grind (arith, common_steps)

@@ -1,20 +1,24 @@
 -- A guest with the parts of its emulators: what it has at each key, and that it is whole, in its blank form and of bytes.
-use Rattle.mig_libxl_form.proofs.EmulatorCommon.{◌≡◌, ℕ, ◌+◌, ◌-◌, ◌≤◌, ◌^◌, true, false, List, [], ◌∷◌, ◌++◌, length, map, refl, sym, ap, subst, ◌∙◌, arith, T, is_sorted, option_or, option_map, fold-append, All, le-leb, All-head, All-tail, AreBytes, Kind, Pv, Hvm, IsPart, IsFormed, is_emulator_code, width_of, GuestOf, part_cmp, Part, PartMap, put_part, put_parts, EmulatorPairs, EmulatorContext, PartKey, all_found, part_total, part_exact, PairMap, text_of_map, EmulatorsOf, no_emulators, store_part, with_emulators, AreEmulators, IsStreamed, IsStreamedBare, nil_from_length, Option, Some, None, is_none, if◌then◌else◌, is_policy}
-use Rattle.std.specs.FinMap as maps
+use Rattle.mig_libxl_form.proofs.Common.{◌≡◌, ℕ, ◌+◌, ◌≤◌, ◌^◌, true, false, List, [], ◌∷◌, ◌++◌, length, map, refl, sym, ap, subst, ◌∙◌, arith, option_or, option_map, fold-append, le-leb, AreBytes, Kind, Pv, Hvm, GuestOf, part_cmp, Part, PartMap, put_part, put_parts, PartKey, part_total, part_exact, PairMap, text_of_map, EmulatorsOf, no_emulators, store_part, AreEmulators, IsStreamed, IsStreamedBare, nil_from_length, Option, Some, None, is_none, insert_holds, maps_are_of_pairs, emulator_parts, IsEmulatorKey, IsStore}
+use Rattle.std.proofs.Common.{◌-◌}
+use Rattle.std.specs.Prelude.{T, if◌then◌else◌}
+use Rattle.std.specs.FinMap.{is_sorted}
+use Rattle.std.specs.List.{All}
+use Rattle.std.proofs.lemmas.List.Elements.{All-head, All-tail, All-append, All-map, All-weaker}
+use Rattle.mig_guest.specs.Formed.{IsPart, IsFormed, is_emulator_code, width_of, is_policy}
+use Rattle.mig_guest.specs.declared.part_code.PartCode.TheVariants.{EmulatorPairs, EmulatorContext}
+use Rattle.mig_guest.proofs.Found.{all_found, Each}
+use Rattle.mig_libxl_form.specs.Emulators.{with_emulators}
 use Rattle.std.proofs.lemmas.Bool.{lt-ltb, and_from}
-use Rattle.std.proofs.lemmas.List.Elements.{All-append, All-map, All-weaker}
 use Rattle.mig_guest.specs.PartKeys.{context_key}
 use Rattle.mig_guest.proofs.Counts.{same_parts}
-use Rattle.mig_guest.proofs.Found.{Each, insert_holds}
 use Rattle.mig_guest.proofs.PartSets.{put_other}
-use Rattle.mig_policy.proofs.PairMapLaws.{maps_are_of_pairs}
 use Rattle.mig_pvtables.specs.Blank.{blank_of}
-use Rattle.mig_libxl_form.specs.Emulators.{emulator_parts}
-use Rattle.mig_libxl_form.specs.Formed.{IsEmulatorKey, IsStore}
 use Rattle.mig_guest.proofs.KeyedMaps.{seen, find_seen, entries_shown}
 use Rattle.mig_restore_form.proofs.PartsInOrder.{parts_set}
 use Rattle.mig_headers.specs.declared.fault.Cause.TheVariants.{Missing}
 use Rattle.mig_pvtables.specs.Faults.{fault_of_guest, faults_for, first_cause, too_many}
+use Rattle.std.specs.FinMap as maps
 
 -- ---- guests with other parts of emulators
 

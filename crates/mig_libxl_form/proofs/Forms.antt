@@ -1,9 +1,7 @@
 -- A libxl stream behind its ident, and behind its header.
-use Rattle.mig_libxl_form.proofs.Common.{◌≡◌, ℕ, true, List, ◌++◌, length, nat_le, nat_eq, refl, arith, length-append, le-leb, drop_at, Judged, ◌>>=◌, Passes, Cause, Place, libxl_records_at, Wrapped}
+use Rattle.mig_libxl_form.proofs.Common.{◌≡◌, ℕ, true, List, ◌++◌, length, nat_le, nat_eq, refl, arith, length-append, le-leb, drop_at, Judged, ◌>>=◌, Passes, Cause, Place, libxl_records_at, Wrapped, marker_of, libxl_ident, StreamOf}
 use Rattle.mig_bytes.specs.Fields.{be64}
-use Rattle.mig_headers.proofs.HeaderLaws.{marker_of}
-use Rattle.mig_headers.specs.Headers.{libxl_ident}
-use Rattle.mig_libxl_form.specs.Stream.{StreamOf, wrapped_at, stream_at}
+use Rattle.mig_libxl_form.specs.Stream.{wrapped_at, stream_at}
 
 abbrev pub behind_header : List ℕ × List ℕ → Judged (Place × Cause) StreamOf
 behind_header header = libxl_records_at header.1 >>= λ records. Passes (Wrapped records.0) records.1

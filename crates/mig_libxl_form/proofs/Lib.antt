@@ -1,4 +1,3 @@
-pub mod EmulatorCommon
 pub mod Stores
 pub mod EmulatorGuests
 pub mod EmulatorMeaning

@@ -1,17 +1,11 @@
 -- A machine that is exact stays so, call by call.
-use Rattle.std.proofs.Common.{◌≡◌, ℕ, ◌+◌, ◌-◌, ◌^◌, ◌≤◌, ◌<◌, min, Bool, true, false, cond, List, [], ◌∷◌, length, Option, Some, None, is_some, unwrap_or, refl, sym, ap, subst, ◌∙◌, arith}
-use Rattle.std.specs.Option.{option_map}
-use Rattle.mig_guest.specs.Hosts.{HostOf}
-use Rattle.mig_guest.specs.History.{History, LogTook, Since, one_more, and_call, after_log, no_history}
-use Rattle.mig_guest.specs.Pfns.{Pfns, pfns_of_words, no_pfns}
-use Rattle.mig_machine_script.specs.ScriptLines.{LineOf}
+use Rattle.mig_machine.proofs.Common.{◌≡◌, ℕ, ◌+◌, ◌-◌, ◌^◌, ◌≤◌, ◌<◌, min, Bool, true, false, cond, List, [], ◌∷◌, length, Option, Some, None, is_some, refl, sym, ap, subst, ◌∙◌, arith, option_map, HostOf, History, LogTook, Since, and_call, after_log, Pfns, pfns_of_words, no_pfns, LineOf, ran, after, logged_after, touched, MachineSeen, HistoryNoted, calls_of, is_paused, log_of, history_of, history_told, course_of, asked_before, AreExact, StandRoundPause, IsExactFrom, IsLaterMachine, RunsOn}
+use Rattle.std.proofs.Common.{unwrap_or}
+use Rattle.mig_guest.specs.History.{one_more, no_history}
 use Rattle.mig_machine_script.specs.Courses.{IsLaterCourse}
-use Rattle.mig_machine_script.specs.Groups.{ran, ran_between}
-use Rattle.mig_machine_script.specs.HostLines.{after, logged_after}
-use Rattle.mig_machine_script.specs.Touched.{touched}
+use Rattle.mig_machine_script.specs.Groups.{ran_between}
 use Rattle.mig_machine_script.proofs.CoursesRun.{after_between, touched_on, touched_same}
-use Rattle.mig_machine.specs.MachineSeen.{MachineSeen, HistoryNoted, calls_of, is_paused, log_of, history_of, history_told, course_of}
-use Rattle.mig_machine.specs.Exact.{asked_before, asked_in, AllCounted, AreExact, StandRoundPause, IsExactBy, IsExactFrom, IsLaterMachine, RunsOn}
+use Rattle.mig_machine.specs.Exact.{asked_in, AllCounted, IsExactBy}
 
 -- ---- what the lines of a call do
 

@@ -1,12 +1,7 @@
 -- A log that was taken of a state that forgets.
-use Rattle.std.proofs.Common.{◌≡◌, ℕ, Bool, true, false, cond, List, refl, sym, ap, subst, ◌∙◌}
-use Rattle.std.specs.Prelude.{◌==◌}
-use Rattle.std.specs.List.{list_any}
-use Rattle.std.proofs.Math.Path.{fun_ext}
-use Rattle.mig_guest.specs.MachineCalls.{LogTaken}
-use Rattle.mig_guest.specs.MachineStates.{MachineState, Ran}
-use Rattle.mig_guest.specs.Pfns.{Pfns, no_pfns}
-use Rattle.mig_machine.specs.Forgetful.{without_pfns, forgotten, forgetting}
+use Rattle.mig_machine.proofs.Common.{◌≡◌, ℕ, Bool, true, false, cond, List, refl, sym, ap, subst, ◌∙◌, ◌==◌, list_any, fun_ext, LogTaken, Ran, Pfns, no_pfns, without_pfns, forgetting}
+use Rattle.mig_guest.specs.MachineStates.{MachineState}
+use Rattle.mig_machine.specs.Forgetful.{forgotten}
 
 -- what isn't in a set stays out of it
 out_by : (b : Bool) (x : Bool) → x ≡ false → cond b false x ≡ false

@@ -1,9 +1,8 @@
 -- A frame number that has a machine frame is below the width.
-use Rattle.std.proofs.Common.{◌≡◌, ℕ, ◌<◌, Option, Some, None, refl}
+use Rattle.mig_machine.proofs.Common.{◌≡◌, ℕ, ◌<◌, Option, Some, None, refl, option_map, HostOf, IsValid}
 use Rattle.std.specs.Prelude.{IfSome}
-use Rattle.std.specs.Option.{option_map}
+use Rattle.mig_guest.specs.Hosts.{HostFrame}
 use Rattle.std.specs.FinMap as maps
-use Rattle.mig_guest.specs.Hosts.{HostOf, HostFrame, IsValid}
 
 has_frame : (h : HostOf) (p mfn : ℕ) (frame : Option HostFrame) → IsValid h → maps.get h.frames p ≡ frame → option_map (λ (f : HostFrame). f.machine) frame ≡ Some mfn → p < h.width
 has_frame h p mfn None valid at is = cc

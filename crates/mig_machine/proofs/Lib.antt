@@ -1,3 +1,4 @@
+pub mod Common
 pub mod LogsKept
 pub mod Insides
 pub mod MachinesRun

@@ -1,9 +1,8 @@
 -- Logs that are kept in places that were made beforehand.
-use Rattle.std.proofs.Common.{zero, suc, [], ◌∷◌, ◌++◌, take, drop, le_refl, map, Option, Some, arith, ◌≡◌, ℕ, ◌+◌, ◌≤◌, ◌<◌, List, length, slice_set, false, refl, ap, ◌∙◌}
+use Rattle.mig_machine.proofs.Common.{zero, suc, [], ◌∷◌, ◌++◌, take, drop, map, Option, Some, arith, ◌≡◌, ℕ, ◌+◌, ◌≤◌, ◌<◌, List, length, slice_set, false, refl, ap, ◌∙◌, common_steps, Since, LogTook, pfns_of_words, no_pfns}
+use Rattle.std.proofs.Common.{le_refl}
 use Rattle.std.specs.Prelude.{slice_get}
-use Rattle.std.proofs.lemmas.Grind.{common_steps}
-use Rattle.mig_guest.specs.History.{Since, LogTook, nothing_asked}
-use Rattle.mig_guest.specs.Pfns.{pfns_of_words, no_pfns}
+use Rattle.mig_guest.specs.History.{nothing_asked}
 use Rattle.mig_machine.specs.declared.notes.KeptLog.{KeptLog}
 use Rattle.mig_machine.specs.MachineSeen.{log_told}
 use Rattle.mig_machine.specs.Noted.{log_noted, logs_before}

@@ -1,12 +1,7 @@
 -- A machine that runs lines, and what it is at.
-use Rattle.std.proofs.Common.{◌≡◌, false, refl, arith}
-use Rattle.mig_guest.specs.MachineStates.{Ran}
-use Rattle.mig_machine_script.specs.Groups.{ran}
-use Rattle.mig_machine_script.specs.HostLines.{after}
+use Rattle.mig_machine.proofs.Common.{◌≡◌, false, refl, arith, Ran, ran, after, MachineSeen, calls_of, is_paused, log_of, machine_state, course_of, IsLaterMachine}
 use Rattle.mig_machine_script.proofs.LinesLogged.{LinesRan}
 use Rattle.mig_machine_script.proofs.CoursesRun.{from_start}
-use Rattle.mig_machine.specs.MachineSeen.{MachineSeen, calls_of, is_paused, log_of, machine_state, course_of}
-use Rattle.mig_machine.specs.Exact.{IsLaterMachine}
 
 -- lines ran
 pub ran_lines : (a b : MachineSeen) → LinesRan a.host b.host (log_of a) (log_of b) → is_paused a ≡ false → Ran (machine_state a) (machine_state b) (log_of b)

@@ -1,21 +1,15 @@
 -- From rounds and exact logs to paces.
-use Rattle.std.proofs.Common.{arith, ◌≡◌, ℕ, zero, suc, ◌+◌, ◌*◌, ◌-◌, ◌^◌, min, ◌≤◌, ◌<◌, ◌⊎◌, Bool, true, false, cond, nat_lt, List, [], ◌∷◌, ◌++◌, length, refl, sym, ap, subst, ◌∙◌, length-append, append-nil, inl, inr}
+use Rattle.mig_machine.proofs.Common.{arith, ◌≡◌, ℕ, zero, suc, ◌+◌, ◌-◌, ◌^◌, min, ◌≤◌, ◌<◌, Bool, true, false, cond, List, [], ◌∷◌, ◌++◌, length, refl, sym, ap, subst, ◌∙◌, common_steps, HostOf, most_saved_width, LineOf, Pfns, no_pfns, LogTook, History, touched, MachineSeen, is_paused, history_of, asked_before, AreExact, StandRoundPause, IsExactFrom}
+use Rattle.std.proofs.Common.{◌*◌, ◌⊎◌, nat_lt, length-append, append-nil, inl, inr}
 use Rattle.std.specs.Prelude.{filter}
 use Rattle.std.specs.List.{range_with_len}
 use Rattle.std.proofs.lemmas.Bool.{cases_lt}
-use Rattle.std.proofs.lemmas.Grind.{common_steps}
 use Rattle.std.proofs.lemmas.List.Sums.{length-filter, count_by-le-length}
 use Rattle.std.proofs.lemmas.List.FromFn.{length-range_with_len}
 use Rattle.mig_headers.specs.declared.kind.Kind.{Kind}
 use Rattle.mig_headers.specs.declared.kind.Kind.TheVariants.{Pv, Hvm}
-use Rattle.mig_guest.specs.Hosts.{HostOf, most_saved_width}
-use Rattle.mig_machine_script.specs.ScriptLines.{LineOf}
-use Rattle.mig_guest.specs.Pfns.{Pfns, no_pfns, joined, all_below, size, members}
-use Rattle.mig_guest.specs.History.{LogTook, History}
+use Rattle.mig_guest.specs.Pfns.{joined, all_below, size, members}
 use Rattle.mig_guest.specs.Rounds.{OfEachLog, to_read, GoesOn, AreCalls, Rounds, Tight, rounds_read, all_read}
-use Rattle.mig_machine_script.specs.Touched.{touched}
-use Rattle.mig_machine.specs.MachineSeen.{MachineSeen, is_paused, history_of}
-use Rattle.mig_machine.specs.Exact.{asked_before, AreExact, StandRoundPause, IsExactFrom}
 use Rattle.mig_machine.specs.Paced.{Pace, pace_before, GoesOnFrom, IsPace, ArePaces, Paced, sizes, sent_again, read_in, pfns_paced, paces_of, HasPaces}
 
 -- ---- the paces of logs

@@ -1,14 +1,9 @@
 -- The lines run by one call more, and by calls between two others.
-use Rattle.std.proofs.Common.{◌≡◌, ℕ, zero, suc, ◌+◌, ◌-◌, ◌<◌, ◌≤◌, ◌^◌, ◌⊎◌, min, Bool, true, false, cond, List, [], ◌∷◌, ◌++◌, length, take, drop, inl, inr, refl, sym, ap, subst, ◌∙◌, arith, append_assoc, append-nil, take-add, length-drop, drop_of_length-le}
-use Rattle.std.proofs.lemmas.Bool.{cases_lt}
+use Rattle.mig_machine_script.proofs.Common.{◌≡◌, ℕ, zero, suc, ◌+◌, ◌-◌, ◌<◌, ◌≤◌, ◌^◌, ◌⊎◌, Bool, true, false, cond, List, [], ◌∷◌, ◌++◌, length, take, drop, inl, inr, refl, sym, ap, subst, ◌∙◌, arith, append_assoc, take-add, length-drop, drop_of_length-le, cases_lt, HostOf, Pfns, no_pfns, LineOf, Write, Retype, Add, Remove, Exchange, Put, Dot, ends_group, first_group, first_length, lines_up_to, ran, after, after_line, logs, with_logged, logged_after}
+use Rattle.std.proofs.Common.{min, append-nil}
 use Rattle.std.proofs.lemmas.List.Sums.{fold-append}
-use Rattle.mig_guest.specs.Hosts.{HostOf}
-use Rattle.mig_guest.specs.Pfns.{Pfns, no_pfns}
-use Rattle.mig_machine_script.specs.ScriptLines.{LineOf}
-use Rattle.mig_machine_script.specs.ScriptLines.LineOf.{Write, Retype, Add, Remove, Exchange, Put, Dot}
 use Rattle.mig_machine_script.specs.Courses.{Course, IsLaterCourse}
-use Rattle.mig_machine_script.specs.Groups.{ends_group, first_group, first_length, lines_up_to, ran, ran_between}
-use Rattle.mig_machine_script.specs.HostLines.{after, after_line, logs, with_logged, logged_after}
+use Rattle.mig_machine_script.specs.Groups.{ran_between}
 use Rattle.mig_machine_script.specs.Touched.{touched}
 use Rattle.mig_machine_script.proofs.LinesLogged.{IsRegular, LinesRan, lines_ran}
 

@@ -1,9 +1,8 @@
 -- The lines before a dot: how many dots are among them, and what follows.
-use Rattle.std.proofs.Common.{◌≡◌, ℕ, zero, suc, ◌+◌, ◌≤◌, ◌⊎◌, Bool, true, false, cond, filter, List, [], ◌∷◌, ◌++◌, length, take, drop, inl, inr, refl, sym, ap, subst, ◌∙◌, arith, append_assoc, take-add, take-append-drop, length-drop, length-append, drop_of_length-le}
+use Rattle.mig_machine_script.proofs.Common.{◌≡◌, ℕ, zero, suc, ◌+◌, ◌≤◌, ◌⊎◌, Bool, true, false, cond, List, [], ◌∷◌, ◌++◌, length, take, drop, inl, inr, refl, sym, ap, subst, ◌∙◌, arith, append_assoc, take-add, length-drop, length-append, drop_of_length-le, LineOf, Write, Retype, Add, Remove, Exchange, Put, Dot, ends_group, first_group, first_length, lines_up_to, ran}
+use Rattle.std.proofs.Common.{filter, take-append-drop}
 use Rattle.std.proofs.lemmas.List.Elements.{filter-append}
-use Rattle.mig_machine_script.specs.ScriptLines.{LineOf}
-use Rattle.mig_machine_script.specs.ScriptLines.LineOf.{Write, Retype, Add, Remove, Exchange, Put, Dot}
-use Rattle.mig_machine_script.specs.Groups.{dots_in, ends_group, first_group, first_length, lines_up_to, ran}
+use Rattle.mig_machine_script.specs.Groups.{dots_in}
 
 is_dot : (line : LineOf) → ends_group line ≡ true → line ≡ Dot
 is_dot (Write pfn at bytes) e = cc

@@ -1,14 +1,10 @@
 -- What fields say, and what no line has.
-use Rattle.std.proofs.Common.{◌≡◌, ℕ, ◌<◌, true, Bor, List, [], ◌∷◌, length, get_or, Option, Some, None, Result, Ok, Err, sym, ap, subst, arith}
-use Rattle.std.specs.Prelude.{IfNone, decimal, is_some, codes, ◌==◌}
-use Rattle.std.specs.Option.{option_copied}
+use Rattle.mig_machine_script.proofs.Common.{◌≡◌, ℕ, ◌<◌, true, List, [], ◌∷◌, length, get_or, Option, Some, None, Result, Ok, Err, sym, ap, subst, arith, decimal, codes, ◌==◌, option_copied, length-slice_split, fields_left, HasFields, LineOf, IsNumber, IsHex, AreNumbers, letter_of, fields_in, Write, Put, Dot}
+use Rattle.std.proofs.Common.{Bor}
+use Rattle.std.specs.Prelude.{IfNone, is_some}
 use Rattle.std.specs.Str.{IsUtf8}
 use Rattle.std.proofs.lemmas.Fmt.{IsAscii-decimal}
-use Rattle.std.proofs.lemmas.List.Splits.{length-slice_split}
 use Rattle.std.proofs.lemmas.Str.{IsUtf8-from_ascii}
-use Rattle.mig_machine_script.specs.ScriptFields.{fields_left, HasFields}
-use Rattle.mig_machine_script.specs.ScriptLines.{LineOf, IsNumber, IsHex, AreNumbers, letter_of, fields_in}
-use Rattle.mig_machine_script.specs.ScriptLines.LineOf.{Write, Put, Dot}
 
 -- what holds anyway holds where there is no value
 pub if_none : {X : Type 0} {P : Type 0} (r : Option X) → P → IfNone r P

@@ -1,13 +1,7 @@
 -- A group of lines, line by line, and frame numbers that are logged.
-use Rattle.std.proofs.Common.{◌≡◌, ℕ, zero, suc, ◌+◌, ◌<◌, ◌≤◌, ◌/◌, true, false, cond, List, [], ◌∷◌, drop, Some, inl, inr, refl, sym, ap, subst, ◌∙◌, arith}
-use Rattle.std.specs.Prelude.{◌||◌, slice_get}
-use Rattle.std.proofs.lemmas.Bool.{cases_lt, eq-eqb}
-use Rattle.mig_guest.specs.Hosts.{HostOf}
-use Rattle.mig_guest.specs.Pfns.{no_pfns}
-use Rattle.mig_machine_script.specs.ScriptLines.{LineOf}
-use Rattle.mig_machine_script.specs.ScriptLines.LineOf.{Write, Retype, Add, Remove, Exchange, Put, Dot}
-use Rattle.mig_machine_script.specs.Groups.{ends_group, first_group, first_length}
-use Rattle.mig_machine_script.specs.HostLines.{logs, with_logged, room_of}
+use Rattle.mig_machine_script.proofs.Common.{◌≡◌, ℕ, zero, suc, ◌+◌, ◌<◌, ◌≤◌, ◌/◌, true, false, cond, List, [], ◌∷◌, drop, Some, inl, inr, refl, sym, ap, subst, ◌∙◌, arith, ◌||◌, cases_lt, eq-eqb, HostOf, no_pfns, LineOf, Write, Retype, Add, Remove, Exchange, Put, Dot, ends_group, first_group, first_length, logs, with_logged}
+use Rattle.std.specs.Prelude.{slice_get}
+use Rattle.mig_machine_script.specs.HostLines.{room_of}
 use Rattle.mig_machine_script.proofs.LinesLogged.{IsRegular, line_ran}
 
 pub logs_inside : (h : HostOf) (line : LineOf) (pfn : ℕ) → IsRegular h → logs h line ≡ Some pfn → pfn < h.width

@@ -1,16 +1,13 @@
 -- Lines are added behind lines; what is left of an input that is too long.
-use Rattle.std.proofs.Common.{◌≡◌, ℕ, List, [], ◌∷◌, ◌++◌, length, map, drop, Option, Some, None, Err, refl, sym, ap, subst, ◌∙◌, arith, length-append}
+use Rattle.mig_machine_script.proofs.Common.{◌≡◌, ℕ, List, [], ◌∷◌, ◌++◌, length, map, drop, Option, Some, None, Err, refl, sym, ap, subst, ◌∙◌, arith, length-append, common_steps, LineOf, IsScriptLine, line_said, AreScriptLines, BeginsWithText}
 use Rattle.std.specs.Io.KnownBytes.{Consumes}
 use Rattle.mig_bytes.specs.Bytes.{Grown}
 use Rattle.mig_bytes.specs.declared.stop.Got.{Got}
 use Rattle.mig_bytes.specs.declared.stop.Got.TheVariants.{Whole, Short}
-use Rattle.std.proofs.lemmas.Grind.{common_steps}
 use Rattle.std.proofs.lemmas.List.{map-append}
 use Rattle.mig_machine_script.specs.declared.script.Line.{Line}
 use Rattle.mig_machine_script.specs.declared.script.ScriptAnswer.TheVariants.{TooLong}
 use Rattle.mig_machine_script.specs.ScriptAnswers.{ReadsScript}
-use Rattle.mig_machine_script.specs.ScriptLines.{LineOf, IsScriptLine, line_said}
-use Rattle.mig_machine_script.specs.Scripts.{AreScriptLines, BeginsWithText}
 
 one_more : (bytes : List ℕ) (lines : List LineOf) (left text behind : List ℕ) (line : LineOf) → AreScriptLines bytes lines left → BeginsWithText left text behind → IsScriptLine text line → AreScriptLines bytes (lines ++ line ∷ []) behind
 one_more bytes [] left text behind line e begins is = (text, behind, subst (λ (l : List ℕ). BeginsWithText l text behind) (sym e) begins, is, refl)

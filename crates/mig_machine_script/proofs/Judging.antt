@@ -1,17 +1,9 @@
 -- All bytes are a script, or have a first bad line.
-use Rattle.std.proofs.Common.{◌≡◌, ◌⊎◌, ℕ, zero, suc, ◌+◌, ◌<◌, ◌≤◌, ◌^◌, List, [], ◌∷◌, length, take, drop, ◌-◌, Option, Some, None, Result, Ok, Err, refl, sym, ap, subst, ◌∙◌, arith, inl, inr, length-append}
-use Rattle.std.specs.Prelude.{decimal, codes, ◌==◌}
-use Rattle.std.specs.List.{position}
+use Rattle.mig_machine_script.proofs.Common.{◌≡◌, ◌⊎◌, ℕ, zero, suc, ◌+◌, ◌<◌, ◌≤◌, ◌^◌, List, [], ◌∷◌, length, take, drop, ◌-◌, Option, Some, None, Result, Ok, Err, refl, sym, ap, subst, ◌∙◌, arith, inl, inr, length-append, decimal, codes, ◌==◌, position, cases_eq, cases_lt, length-slice_split, HasFields, LineOf, IsNumber, IsHex, AreNumbers, AreArguments, IsScriptLine, letter_of, fields_in, Write, Retype, Add, Remove, Exchange, Put, Dot, BeginsWithText, IsScript, IsBadLine}
 use Rattle.std.specs.Str.Parse.{digits_value}
-use Rattle.std.proofs.lemmas.Bool.{cases_eq, cases_lt}
 use Rattle.std.proofs.lemmas.Fmt.{decimal_is_IsNumeral}
-use Rattle.std.proofs.lemmas.List.Splits.{length-slice_split}
 use Rattle.hex.specs.Hex.{decode_of}
 use Rattle.hex.specs.declared.error.FromHexError.{FromHexError}
-use Rattle.mig_machine_script.specs.ScriptFields.{HasFields}
-use Rattle.mig_machine_script.specs.ScriptLines.{LineOf, IsNumber, IsHex, AreNumbers, AreArguments, IsScriptLine, letter_of, fields_in}
-use Rattle.mig_machine_script.specs.ScriptLines.LineOf.{Write, Retype, Add, Remove, Exchange, Put, Dot}
-use Rattle.mig_machine_script.specs.Scripts.{BeginsWithText, IsScript, IsBadLine}
 use Rattle.mig_machine_script.proofs.Cutting.{is_it, behind, cut_line, last_line}
 use Rattle.mig_machine_script.proofs.FieldsSaid.{behind_one, initial, no_write, no_put, no_dot}
 

@@ -1,14 +1,9 @@
 -- What a line needs where it applies, and the order in which it is tested.
-use Rattle.std.proofs.Common.{◌≡◌, ℕ, ◌<◌, Bool, true, not, length, Option, Some, None, subst}
-use Rattle.std.specs.Option.{option_map}
-use Rattle.std.specs.FinMap as maps
+use Rattle.mig_machine_script.proofs.Common.{◌≡◌, ℕ, ◌<◌, Bool, true, not, length, Option, Some, None, subst, option_map, ltb-true, HostOf, HostFrame, HostFrames, Add, Exchange, applies, is_unnamed, names_machine}
 use Rattle.std.specs.FinMap.{len-entries}
-use Rattle.std.proofs.lemmas.Bool.{ltb-true}
 use Rattle.mig_pagetypes.specs.Limits.{most_frames}
-use Rattle.mig_guest.specs.Hosts.{HostOf, HostFrame, HostFrames}
-use Rattle.mig_machine_script.specs.ScriptLines.LineOf.{Add, Exchange}
-use Rattle.mig_machine_script.specs.HostLines.{applies, is_unnamed, names_machine}
 use Rattle.mig_machine_script.proofs.NamedMachines.{IsUnused, both_true, unused}
+use Rattle.std.specs.FinMap as maps
 
 pub add_unused : (h : HostOf) (pfn mfn : ℕ) → applies h (Add pfn mfn) ≡ true → IsUnused h.frames mfn
 add_unused h pfn mfn is = unused h mfn (both_true _ _ (both_true _ _ is).0).1

@@ -1,33 +1,29 @@
 -- Machine frames that tables name, and the frame numbers that have them.
-use Rattle.std.proofs.Common.{◌≡◌, ◌≢◌, ℕ, zero, suc, ◌+◌, ◌*◌, ◌<◌, ◌≤◌, ◌⊎◌, Bool, true, false, cond, not, List, [], ◌∷◌, length, Option, Some, None, option_and_then, inl, inr, refl, sym, ap, subst, ◌∙◌, arith, drop_of_length-le}
+use Rattle.mig_machine_script.proofs.Common.{◌≡◌, ◌≢◌, ℕ, zero, suc, ◌+◌, ◌<◌, ◌≤◌, ◌⊎◌, Bool, true, false, cond, not, List, [], ◌∷◌, length, Option, Some, None, option_and_then, inl, inr, refl, sym, ap, subst, ◌∙◌, arith, drop_of_length-le, ◌==◌, ◌&&◌, list_any, option_map, cases_eq, cases_lt, eq-eqb, eqb-true, eqb-false, none-some, same_Some, inserted, PageType, level_of, HostOf, HostFrame, HostFrames, IsOneToOne, IsValid, footprint_of, machine_named, table_in, is_machine, names_machine}
+use Rattle.std.proofs.Common.{◌*◌}
 use mathlib.Core.Path.{fun_ext}
-use Rattle.std.specs.Prelude.{◌==◌, ◌&&◌, IfSome}
-use Rattle.std.specs.List as list
-use Rattle.std.specs.List.{AllByRecursion, list_any, range_with_len}
-use Rattle.std.specs.Option.{option_map}
+use Rattle.std.specs.Prelude.{IfSome}
+use Rattle.std.specs.List.{AllByRecursion, range_with_len}
 use Rattle.std.specs.Cmp.{nat_cmp_total}
-use Rattle.std.specs.FinMap as maps
 use Rattle.std.specs.FinMap.{nat_cmp-IsAntisymmetric}
-use Rattle.std.proofs.lemmas.Bool.{cases_eq, cases_lt, eq-eqb, eqb-true, eqb-false, ne_eqb, or_from}
+use Rattle.std.proofs.lemmas.Bool.{ne_eqb, or_from}
 use Rattle.std.proofs.lemmas.List.Folds.{list_any_at}
 use Rattle.std.proofs.lemmas.List.FromFn.{length-range_with_len, get_or-range_with_len}
-use Rattle.std.proofs.lemmas.Option.{none-some, same_Some}
 use Rattle.mig_bytes.specs.Fields.{le64}
-use Rattle.mig_bytes.proofs.NumberMaps.{inserted}
 use Rattle.mig_headers.specs.declared.kind.Kind.{Kind}
 use Rattle.mig_headers.specs.declared.kind.Kind.TheVariants.{Hvm}
-use Rattle.mig_pagetypes.specs.declared.page_type.PageType.{PageType}
 use Rattle.mig_pagetypes.specs.declared.page_type.PageType.TheVariants.{Notab, Broken, Xalloc}
-use Rattle.mig_pagetypes.specs.PageTypes.{level_of}
 use Rattle.mig_guest.specs.declared.table.Entry.TheVariants.{Blank, NotPresent}
 use Rattle.mig_guest.specs.Frames.{is_hvm_type, is_type_of}
-use Rattle.mig_guest.specs.Hosts.{HostOf, HostFrame, HostFrames, IsOneToOne, IsValid, pfn_in}
+use Rattle.mig_guest.specs.Hosts.{pfn_in}
 use Rattle.mig_guest.specs.Tables.{entry_of, is_blank_slot}
 use Rattle.mig_host.specs.HostView.{has_machine}
 use Rattle.mig_host.proofs.InOrder.{each_entry, found_passes, no_entry, none_passes, some_entry}
 use Rattle.mig_host.proofs.Machines.{only_pfn, no_pfn, pfn_of_machine}
-use Rattle.mig_guest.specs.Footprints.{Footprint, footprint_of, machine_named, named_by, names_in, table_in}
-use Rattle.mig_machine_script.specs.HostLines.{is_machine, table_names, names_machine, may_come}
+use Rattle.mig_guest.specs.Footprints.{Footprint, named_by, names_in}
+use Rattle.mig_machine_script.specs.HostLines.{table_names, may_come}
+use Rattle.std.specs.List as list
+use Rattle.std.specs.FinMap as maps
 
 -- ---- tests
 

@@ -1,9 +1,7 @@
 -- A text is one line at most.
-use Rattle.std.proofs.Common.{◌≡◌, ℕ, List, [], ◌∷◌, length, refl, sym, subst, ◌∙◌, arith}
+use Rattle.mig_machine_script.proofs.Common.{◌≡◌, ℕ, List, [], ◌∷◌, length, refl, sym, subst, ◌∙◌, arith, LineOf, IsNumber, IsHex, AreNumbers, AreArguments, IsScriptLine, letter_of, Write, Retype, Add, Remove, Exchange, Put, Dot}
 use Rattle.std.proofs.lemmas.Fmt.{decimal_injective}
 use Rattle.hex.proofs.HexLemmas.{decode_of-same}
-use Rattle.mig_machine_script.specs.ScriptLines.{LineOf, IsNumber, IsHex, AreNumbers, AreArguments, IsScriptLine, letter_of}
-use Rattle.mig_machine_script.specs.ScriptLines.LineOf.{Write, Retype, Add, Remove, Exchange, Put, Dot}
 use Rattle.mig_machine_script.proofs.FieldsSaid.{initial}
 
 same_number : (field : List ℕ) (a b : ℕ) → IsNumber field a → IsNumber field b → a ≡ b

@@ -1,9 +1,6 @@
 -- Bytes are one script at most, or have one first bad line.
-use Rattle.std.proofs.Common.{◌≡◌, ◌≢◌, ℕ, ◌+◌, List, [], ◌∷◌, ◌++◌, length, refl, sym, ap, subst, ◌∙◌, arith, inl, inr}
-use Rattle.std.specs.List.{All}
+use Rattle.mig_machine_script.proofs.Common.{◌≡◌, ◌≢◌, ℕ, ◌+◌, List, [], ◌∷◌, ◌++◌, length, refl, sym, ap, subst, ◌∙◌, arith, inl, inr, All, LineOf, IsScriptLine, BeginsWithText, AreScriptLines, IsScript, IsBadLine}
 use Rattle.std.proofs.lemmas.List.Elements.{All-head, All-tail}
-use Rattle.mig_machine_script.specs.ScriptLines.{LineOf, IsScriptLine}
-use Rattle.mig_machine_script.specs.Scripts.{BeginsWithText, AreScriptLines, IsScript, IsBadLine}
 use Rattle.mig_machine_script.proofs.OneLine.{one_line}
 
 -- ---- one first text

@@ -1,13 +1,6 @@
 -- Bytes are texts that zeros end, and a rest; so cut, they are the texts between zeros.
-use Rattle.std.proofs.Common.{◌≡◌, ◌<◌, ℕ, zero, suc, ◌+◌, ◌%◌, Bool, true, false, not, List, [], ◌∷◌, ◌++◌, length, nat_eq, nat_lt, Some, None, refl, sym, ap, ◌∙◌, arith, append_assoc}
-use Rattle.std.specs.Prelude.{◌||◌, ◌⊎◌, if◌then◌else◌}
-use mathlib.Core.Logic.{inl, inr}
-use Rattle.std.specs.List.{All, flat_map}
-use Rattle.std.proofs.lemmas.Grind.{common_steps}
-use Rattle.std.proofs.lemmas.List.Splits.{slice_split_at, slice_split_none}
-use Rattle.std.proofs.lemmas.List.Elements.{All-weaker, All-nil, All-cons, All-head, All-tail}
-use Rattle.mig_headers.specs.Pairs.{texts_in}
-use Rattle.mig_policy.specs.PairFaults.{HasNoZero, ended, torn_at}
+use Rattle.mig_policy.proofs.Common.{◌≡◌, ◌<◌, ℕ, zero, suc, ◌+◌, ◌%◌, Bool, true, false, not, List, [], ◌∷◌, ◌++◌, length, nat_eq, nat_lt, Some, None, refl, sym, ap, ◌∙◌, arith, append_assoc, ◌||◌, ◌⊎◌, if◌then◌else◌, inl, inr, All, flat_map, common_steps, slice_split_at, slice_split_none, All-weaker, All-nil, All-cons, All-head, texts_in, HasNoZero, ended, torn_at}
+use Rattle.std.proofs.lemmas.List.Elements.{All-tail}
 use Rattle.mig_policy.proofs.TextSteps.{torn_cons}
 
 abbrev pub is_zero : ℕ → Bool

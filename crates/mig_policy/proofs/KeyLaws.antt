@@ -1,16 +1,12 @@
 -- The first bad key, computed, is the one in words; and bytes without fault spell their pairs.
-use Rattle.std.proofs.Common.{◌≡◌, ◌<◌, ◌≤◌, ℕ, zero, suc, ◌+◌, Bool, true, false, not, cond, List, [], ◌∷◌, ◌++◌, length, nat_eq, nat_lt, Option, Some, None, refl, sym, ap, subst, ◌∙◌, arith, append_assoc, append-nil}
-use Rattle.std.specs.Prelude.{◌||◌}
-use Rattle.std.specs.List.{All, AllByRecursion, flat_map, join_with_byte}
-use Rattle.std.proofs.lemmas.Grind.{common_steps}
-use Rattle.std.proofs.lemmas.List.Splits.{slice_split_at, slice_split_none, slice_split-cons_yes, join_with_byte-slice_split}
-use Rattle.std.proofs.lemmas.List.Elements.{All-from_recursion, recursion_from_All, All-weaker, All-nil, All-cons, All-head, All-append, All-same}
-use Rattle.std.proofs.lemmas.List.Sums.{fails_before_first, prefix_len-le-length}
-use Rattle.mig_headers.specs.Pairs.{Pair, IsPair, is_key_byte, text_of_pair, texts_in}
+use Rattle.mig_policy.proofs.Common.{◌≡◌, ◌<◌, ◌≤◌, ℕ, zero, suc, ◌+◌, Bool, true, false, not, cond, List, [], ◌∷◌, ◌++◌, length, nat_eq, nat_lt, Option, Some, None, refl, sym, ap, subst, ◌∙◌, arith, append_assoc, append-nil, ◌||◌, All, AllByRecursion, flat_map, common_steps, slice_split_at, slice_split_none, All-from_recursion, recursion_from_All, All-weaker, All-nil, All-cons, All-head, fails_before_first, prefix_len-le-length, Pair, IsPair, is_key_byte, text_of_pair, texts_in, HasNoZero, ended, SpellPairs, IsTornAt, torn_at, bad_key_at, fine_len, pairs_of}
+use Rattle.std.specs.List.{join_with_byte}
+use Rattle.std.proofs.lemmas.List.Splits.{slice_split-cons_yes, join_with_byte-slice_split}
+use Rattle.std.proofs.lemmas.List.Elements.{All-append, All-same}
 use Rattle.mig_headers.specs.declared.fault.Cause.{Cause}
 use Rattle.mig_headers.specs.declared.fault.Cause.TheVariants.{BadPairs, BadKey}
-use Rattle.mig_policy.specs.PairFaults.{HasNoZero, ended, SpellPairs, IsTornAt, IsBadKeyAt, IsFirstFault, FirstFaultIsComputed, torn_at, bad_key_at, fine_len, first_of, pairs_fault}
-use Rattle.mig_policy.specs.PairMaps.{pairs_of, pairs_in, PairsAreRead}
+use Rattle.mig_policy.specs.PairFaults.{IsBadKeyAt, IsFirstFault, FirstFaultIsComputed, first_of, pairs_fault}
+use Rattle.mig_policy.specs.PairMaps.{pairs_in, PairsAreRead}
 use Rattle.mig_policy.proofs.TextSteps.{torn_cons, pairs_cons, some_texts, bad_here}
 use Rattle.mig_policy.proofs.Cuts.{is_zero, no_zero, cut_of, cut_is}
 use Rattle.mig_policy.proofs.FaultLaws.{torn_forth, torn_back}

@@ -1,15 +1,11 @@
 -- Where pairs are added, the last of a key decides.
-use Rattle.std.proofs.Common.{◌≡◌, ℕ, List, [], ◌∷◌, Option, Some, None, false, refl, sym, ap, ◌∙◌, arith, cond, Bool, true}
+use Rattle.mig_policy.proofs.Common.{◌≡◌, ℕ, List, [], ◌∷◌, Option, Some, None, false, refl, sym, ap, ◌∙◌, arith, cond, Bool, true, common_steps, slice_cmp, nat_list_cmp_total, entries_sorted, same_entries_map, flat_map, nat_cmp, if◌then◌else◌, Pair, AreCanonicalPairs, AreRising, text_of_pair, SpellPairs, PairMap, IsOfPairs, put_pair, put_pairs, pair_of, text_of_entry, text_of_map, map_of, merged}
 use Rattle.std.proofs.lemmas.Cmp.{eq_by_cmp_equiv}
-use Rattle.std.proofs.lemmas.Grind.{common_steps}
 use Rattle.std.proofs.lemmas.Map.Text.{is_eq-slice_cmp}
-use Rattle.std.specs.Cmp.Lexicographic.{slice_cmp, nat_list_cmp_total}
-use Rattle.std.specs.FinMap as maps
-use Rattle.std.specs.FinMap.{entries_sorted, nat_cmp-IsAntisymmetric, same_entries_map, slice_cmp-IsAntisymmetric}
-use Rattle.std.specs.List.{flat_map}
+use Rattle.std.specs.FinMap.{nat_cmp-IsAntisymmetric, slice_cmp-IsAntisymmetric}
 use Rattle.std.specs.Option.{option_or}
-use Rattle.std.specs.Ordering.{eq_by_cmp, nat_cmp}
-use Rattle.std.specs.Prelude.{if◌then◌else◌, map}
+use Rattle.std.specs.Ordering.{eq_by_cmp}
+use Rattle.std.specs.Prelude.{map}
 use Rattle.std.specs.Str.{bytes_eq}
 use Rattle.mig_guest.proofs.KeyedMaps.{tied}
 use Rattle.mig_guest.proofs.PartOrder.{part_exact, part_total}
@@ -17,11 +13,10 @@ use Rattle.mig_guest.proofs.PartSets.{put_there}
 use Rattle.mig_guest.specs.Order.{part_cmp}
 use Rattle.mig_guest.specs.Parts.{PartMap}
 use Rattle.mig_guest.specs.declared.part_key.PartKey.{PartKey}
-use Rattle.mig_headers.specs.Pairs.{Pair, AreCanonicalPairs, AreRising, text_of_pair}
-use Rattle.mig_policy.specs.PairFaults.{SpellPairs}
-use Rattle.mig_policy.specs.PairMaps.{PairMap, IsOfPairs, put_pair, put_pairs, pair_of, text_of_entry, text_of_map, pairs_in, map_of, part_bytes, merged, with_pairs, last_pair_value, value_in_part, AddedPairsDecide}
+use Rattle.mig_policy.specs.PairMaps.{pairs_in, part_bytes, with_pairs, last_pair_value, value_in_part, AddedPairsDecide}
 use Rattle.mig_policy.proofs.KeyLaws.{spelled_read}
 use Rattle.mig_policy.proofs.PairMapLaws.{map_entries, maps_are_of_pairs, rises, same_entries_again, text_entries, text_pairs, texts_are_canonical}
+use Rattle.std.specs.FinMap as maps
 
 or_none : (o : Option (List ℕ)) → option_or o None ≡ o
 or_none None = refl

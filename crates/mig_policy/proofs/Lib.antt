@@ -1,3 +1,4 @@
+pub mod Common
 pub mod TextSteps
 pub mod PairSteps
 pub mod Cuts

@@ -1,22 +1,15 @@
 -- The text of a map of pairs is canonical, and says the map.
-use Rattle.std.proofs.Common.{◌≡◌, ℕ, List, [], ◌∷◌, ◌++◌, map, fold, length, ◌<◌, refl, sym, ap, subst, ◌∙◌, append_assoc, append-nil, arith}
-use Rattle.std.proofs.lemmas.Grind.{common_steps}
-use Rattle.std.specs.Prelude.{T, Bool, true, false, ◌&&◌, None}
-use Rattle.std.specs.List.{All, AllByRecursion, flat_map}
+use Rattle.mig_policy.proofs.Common.{◌≡◌, ℕ, List, [], ◌∷◌, ◌++◌, map, length, ◌<◌, refl, sym, ap, subst, ◌∙◌, append_assoc, append-nil, arith, common_steps, T, ◌&&◌, All, AllByRecursion, flat_map, Ordering, Less, Equal, Greater, nat_cmp, is_lt, slice_cmp, nat_list_cmp_total, All-from_recursion, recursion_from_All, entries-insert, entries_sorted, same_entries_map, put, is_sorted, Pair, IsPair, AreCanonicalPairs, AreRising, text_of_pair, PairMap, IsOfPairs, put_pairs, pair_of, text_of_entry, text_of_map, pairs_in, map_of, merged}
+use Rattle.std.proofs.Common.{fold}
+use Rattle.std.specs.Prelude.{Bool, true, false, None}
 use Rattle.std.specs.List.Sorted.{IsStrictlySortedBy}
-use Rattle.std.specs.declared.cmp.Ordering.{Ordering}
-use Rattle.std.specs.declared.cmp.Ordering.TheVariants.{Less, Equal, Greater}
-use Rattle.std.specs.Ordering.{nat_cmp, is_lt, ordering_reverse}
-use Rattle.std.specs.Cmp.Lexicographic.{slice_cmp, nat_list_cmp_total}
-use Rattle.std.proofs.lemmas.List.Elements.{All-from_recursion, recursion_from_All}
-use Rattle.std.specs.FinMap as maps
-use Rattle.std.specs.FinMap.{entries-insert, entries_sorted, same_entries_map}
-use Rattle.std.specs.FinMap.Entries.{put, by_order, is_sorted, below_all}
-use Rattle.mig_headers.specs.Pairs.{Pair, IsPair, AreCanonicalPairs, AreRising, text_of_pair}
+use Rattle.std.specs.Ordering.{ordering_reverse}
+use Rattle.std.specs.FinMap.Entries.{by_order, below_all}
 use Rattle.mig_policy.specs.PairFaults.{pairs_fault}
-use Rattle.mig_policy.specs.PairMaps.{PairMap, IsOfPairs, put_pairs, pair_of, text_of_entry, text_of_map, pairs_in, map_of, merged, TextsAreCanonical, MapsAreOfPairs, SomeBytesAreSomePairs}
+use Rattle.mig_policy.specs.PairMaps.{TextsAreCanonical, MapsAreOfPairs, SomeBytesAreSomePairs}
 use Rattle.mig_policy.proofs.PairTrees.{no_entries}
 use Rattle.mig_policy.proofs.KeyLaws.{spelled_read, pairs_are_read}
+use Rattle.std.specs.FinMap as maps
 
 abbrev pub Entry : Type 0
 Entry = List ℕ × List ℕ

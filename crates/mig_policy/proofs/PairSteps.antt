@@ -1,11 +1,11 @@
 -- Keys that rise are taken off the front of bytes one after another.
-use Rattle.std.proofs.Common.{◌≡◌, ℕ, Bool, true, false, List, [], ◌∷◌, length, Some, refl, sym, ap, subst, ◌∙◌, arith}
-use Rattle.std.specs.Prelude.{IsTrue, ◌&&◌, ◌↔◌}
-use Rattle.std.specs.Cmp.Lexicographic.{slice_cmp, slice_partial_cmp, lists_agrees}
-use Rattle.std.specs.Ordering.{nat_cmp, is_lt, is_some_and}
+use Rattle.mig_policy.proofs.Common.{◌≡◌, ℕ, Bool, true, false, List, [], ◌∷◌, length, Some, refl, sym, ap, subst, ◌∙◌, arith, ◌&&◌, slice_cmp, nat_cmp, is_lt, AreCanonicalPairs, is_key_byte, texts_in, are_rising_texts}
+use Rattle.std.specs.Prelude.{IsTrue, ◌↔◌}
+use Rattle.std.specs.Cmp.Lexicographic.{slice_partial_cmp, lists_agrees}
+use Rattle.std.specs.Ordering.{is_some_and}
 use Rattle.std.specs.List.{list_all}
 use Rattle.mig_headers.proofs.PairTexts.{canonical_pairs_are_computed}
-use Rattle.mig_headers.specs.Pairs.{AreCanonicalPairs, is_key_byte, are_canonical_pairs, texts_in, is_next_key, are_rising_texts}
+use Rattle.mig_headers.specs.Pairs.{are_canonical_pairs, is_next_key}
 
 -- the computed test is that of the definition
 pub spelled_as : (r : Bool) (bytes : List ℕ) → r ≡ are_canonical_pairs bytes → IsTrue r ↔ AreCanonicalPairs bytes

@@ -1,21 +1,14 @@
 -- A tree of keys and values, seen as a map of pairs, and how many bytes spell it.
-use Rattle.std.proofs.Common.{Global, ◌≡◌, ℕ, ◌+◌, ◌≤◌, List, [], ◌∷◌, ◌++◌, append_assoc, cond, drop, length, map, Option, Some, None, refl, sym, ap, subst, ◌∙◌, arith}
-use Rattle.std.specs.Prelude.{T}
-use Rattle.std.specs.List.{flat_map}
-use Rattle.std.specs.declared.cmp.Ordering.{Ordering}
-use Rattle.std.specs.declared.cmp.Ordering.TheVariants.{Less, Equal, Greater}
+use Rattle.mig_policy.proofs.Common.{◌≡◌, ℕ, ◌+◌, ◌≤◌, List, [], ◌∷◌, ◌++◌, append_assoc, cond, drop, length, map, Option, Some, None, refl, sym, ap, subst, ◌∙◌, arith, T, flat_map, Ordering, Less, Equal, Greater, nat_cmp, slice_cmp, nat_list_cmp_total, entries-insert, same_entries_map, put, is_sorted, common_steps, Pair, PairMap, AreSetBefore, put_pair, put_pairs, pairs_in, shown, pairs_seen, text_of_entry, text_of_map}
+use Rattle.std.proofs.Common.{Global}
 use Rattle.std.specs.declared.vec.Vec.{Vec}
-use Rattle.std.specs.Ordering.{nat_cmp, is_eq, match_ordering}
-use Rattle.std.specs.Cmp.Lexicographic.{slice_cmp, nat_list_cmp_total}
+use Rattle.std.specs.Ordering.{is_eq, match_ordering}
 use Rattle.std.specs.BTreeMap.{insert_entry, is_at}
 use Rattle.std.specs.Map.{keys_of, lookup}
-use Rattle.std.specs.FinMap as maps
-use Rattle.std.specs.FinMap.{entries-insert, entries-from_sorted, same_entries_map, len-entries, len-empty}
-use Rattle.std.specs.FinMap.Entries.{put, is_sorted, is_sorted-put}
-use Rattle.std.proofs.lemmas.Grind.{common_steps}
+use Rattle.std.specs.FinMap.{entries-from_sorted, len-entries, len-empty}
+use Rattle.std.specs.FinMap.Entries.{is_sorted-put}
 use Rattle.std.proofs.lemmas.List.Sums.{fold-append}
-use Rattle.mig_headers.specs.Pairs.{Pair}
-use Rattle.mig_policy.specs.PairMaps.{PairMap, AreSetBefore, put_pair, put_pairs, pairs_in, shown, pairs_seen, text_of_entry, text_of_map}
+use Rattle.std.specs.FinMap as maps
 
 abbrev pub Key : Type 0
 Key = Vec ℕ Global

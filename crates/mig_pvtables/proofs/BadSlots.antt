@@ -1,14 +1,14 @@
 -- Which entry of a table has no form in a stream, and where it stands.
-use Rattle.mig_pvtables.proofs.Common.{◌≡◌, ℕ, ◌<◌, Bool, true, false, List, Option, Some, None, is_none, refl, sym, ap, ◌∙◌, ◌↔◌, false_from_ne_true, find, option_map, option_or, Entry, Blank, NotPresent, Superpage, Frame, entry, first_superpage, is_superpage}
-use Rattle.mig_headers.proofs.FirstFaults.{both_none, neither_some}
-use Rattle.mig_pvtables.specs.BadEntries.{is_unknown, first_unknown, bad_entry, NamesKnown, HasSuperpage, HasUnknown, IsFirstSlot}
+use Rattle.mig_pvtables.proofs.Common.{◌≡◌, ℕ, ◌<◌, Bool, true, false, List, Option, Some, None, is_none, refl, sym, ap, ◌∙◌, ◌↔◌, false_from_ne_true, find, option_map, option_or, Entry, Blank, NotPresent, Superpage, Frame, entry, first_superpage, is_superpage, both_none, is_unknown}
+use Rattle.mig_headers.proofs.FirstFaults.{neither_some}
+use Rattle.mig_pvtables.specs.BadEntries.{first_unknown, bad_entry, NamesKnown, HasSuperpage, HasUnknown, IsFirstSlot}
 use Rattle.mig_pvtables.specs.Faults.{slots}
 use Rattle.mig_pvtables.specs.declared.rename.BadEntry.{BadEntry}
 use Rattle.mig_pvtables.specs.declared.rename.Why.{Why}
-use Rattle.mig_pvtables.specs.declared.rename.Why.TheVariants as causes
 use Rattle.mig_pvtables.proofs.PvGuests.{some_is}
 use Rattle.mig_pvtables.proofs.Searches.{none_mapped}
 use Rattle.mig_pvtables.proofs.Slots.{slot_found, first_slot, no_slot}
+use Rattle.mig_pvtables.specs.declared.rename.Why.TheVariants as causes
 
 -- ---- one entry
 

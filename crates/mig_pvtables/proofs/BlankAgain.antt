@@ -1,14 +1,12 @@
 -- The blank form of a guest is blank.
-use Rattle.mig_pvtables.proofs.Common.{◌≡◌, ℕ, ◌+◌, ◌*◌, ◌/◌, ◌%◌, ◌^◌, Bool, true, false, cond, List, Option, Some, None, refl, ap, ◌∙◌, arith, nat_le, ◌==◌, nat_cmp_total, nat_cmp-IsAntisymmetric, eq-eqb, Pv, Hvm, level_of, FrameOf, FrameMap, GuestOf, PartMap, p2m_key, is_blank_slot, part_total, part_exact, each_value, blanked_page, blanked_frame, blanked_part, blank_of, blank, place_of, field_at, is_marked, value_blanked, blanked_context, blanked_shared}
-use Rattle.std.specs.FinMap as maps
-use Rattle.mig_headers.specs.declared.kind.Kind.{Kind}
+use Rattle.mig_pvtables.proofs.Common.{◌≡◌, ℕ, ◌+◌, ◌*◌, ◌/◌, ◌%◌, ◌^◌, Bool, true, false, cond, List, Option, Some, None, refl, ap, ◌∙◌, arith, nat_le, ◌==◌, nat_cmp_total, nat_cmp-IsAntisymmetric, eq-eqb, Pv, Hvm, level_of, FrameOf, FrameMap, GuestOf, PartMap, p2m_key, is_blank_slot, part_total, part_exact, each_value, blanked_page, blanked_frame, blanked_part, blank_of, blank, place_of, field_at, is_marked, value_blanked, blanked_context, blanked_shared, Kind, zero_page}
 use Rattle.mig_guest.specs.Tables.{blanked_entry}
-use Rattle.mig_pvtables.specs.Blank.{zero_page}
 use Rattle.mig_pvtables.specs.P2mFrames.{place_in}
 use Rattle.mig_pvtables.specs.VcpuContexts.{blanked_value, blanked_shared_value}
 use Rattle.mig_pvtables.proofs.EachValue.{each_each, same_each, stays_each}
 use Rattle.mig_pvtables.proofs.Moduli.{each_modulo}
 use Rattle.mig_pvtables.proofs.Searches.{overwritten}
+use Rattle.std.specs.FinMap as maps
 
 -- ---- one number
 

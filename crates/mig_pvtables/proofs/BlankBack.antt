@@ -1,15 +1,11 @@
 -- A formed guest of bytes whose blank form is whole is whole.
-use Rattle.mig_pvtables.proofs.Common.{◌≡◌, ℕ, ◌*◌, ◌^◌, ◌<◌, IsSome, refl, sym, ap, ◌∙◌, arith, nat_cmp_total, nat_cmp-IsAntisymmetric, Pv, Hvm, Frame, IsFormed, GuestOf, p2m_key, vcpu_key, shared_key, blanked_frame, blank_of, blank, IsOfBytes, place_of, type_at, fits_field, field_place, field_value, frame_of_field, blanked_context, IsWhole}
-use Rattle.std.proofs.lemmas.List.Elements.{recursion_from_All}
-use Rattle.std.specs.FinMap as maps
-use Rattle.mig_bytes.proofs.ByteLists.{long_below}
-use Rattle.mig_headers.specs.declared.kind.Kind.{Kind}
-use Rattle.mig_pvtables.specs.WholePv.{AreP2mFrames, FieldsFit, IsCompletePv}
+use Rattle.mig_pvtables.proofs.Common.{◌≡◌, ℕ, ◌*◌, ◌^◌, ◌<◌, IsSome, refl, sym, ap, ◌∙◌, arith, nat_cmp_total, nat_cmp-IsAntisymmetric, Pv, Hvm, Frame, IsFormed, GuestOf, p2m_key, vcpu_key, shared_key, blanked_frame, blank_of, blank, IsOfBytes, place_of, type_at, fits_field, field_place, field_value, frame_of_field, blanked_context, IsWhole, recursion_from_All, long_below, Kind, AreP2mFrames, FieldsFit, IsCompletePv}
 use Rattle.mig_pvtables.proofs.BlankShape.{table_unlisted, entries_back, type_there, frame_there, part_there, listed_there, context_there}
 use Rattle.mig_pvtables.proofs.BlankWhole.{still_used, still_said}
 use Rattle.mig_pvtables.proofs.EachValue.{to_each, len_each}
 use Rattle.mig_pvtables.proofs.PvGuests.{pv_complete, pv_faultless}
 use Rattle.mig_pvtables.proofs.SameShape.{kept_p2m}
+use Rattle.std.specs.FinMap as maps
 
 module _ (g : GuestOf) where
   -- what holds of the blank form held before

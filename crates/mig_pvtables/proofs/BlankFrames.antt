@@ -1,11 +1,13 @@
 -- The frames of a guest on its way to its blank form.
-use Rattle.mig_pvtables.proofs.Common.{◌≡◌, ℕ, ◌+◌, ◌<◌, ◌≤◌, cond, List, length, Option, Some, None, refl, sym, ap, ◌∙◌, inl, inr, arith, option_and_then, option_map, nat_cmp, nat_cmp_total, nat_cmp-IsAntisymmetric, cases_lt, lt-ltb, le-ltb, length-replicate, pfn_limit, PageType, level_of, FrameOf, FrameMap, GuestOf, each_value, only, with_zero_page, blanked_below}
-use Rattle.std.specs.FinMap as maps
+use Rattle.mig_pvtables.proofs.Common.{◌≡◌, ℕ, ◌+◌, ◌<◌, ◌≤◌, cond, List, length, Option, Some, None, refl, sym, ap, ◌∙◌, inl, inr, arith, option_map, nat_cmp, nat_cmp_total, nat_cmp-IsAntisymmetric, cases_lt, lt-ltb, le-ltb, length-replicate, pfn_limit, PageType, level_of, FrameOf, FrameMap, GuestOf, each_value, only, with_zero_page}
+use Rattle.std.specs.Prelude.{option_and_then}
+use Rattle.mig_pvtables.specs.BlankSteps.{blanked_below}
 use Rattle.mig_pagestore.specs.FrameLending.{with_page, repaged}
 use Rattle.mig_pagestore.proofs.Places.{whole_is}
 use Rattle.mig_pvtables.specs.Blank.{zero_page}
 use Rattle.mig_pvtables.proofs.EachValue.{get_each, each_same, same_each}
 use Rattle.mig_pvtables.proofs.Only.{insert_only, only_stays, then_only}
+use Rattle.std.specs.FinMap as maps
 
 abbrev OnlyFrame : (FrameOf → FrameOf) → FrameMap → ℕ → FrameMap
 OnlyFrame f m pfn = each_value (only nat_cmp pfn f) m

@@ -1,13 +1,13 @@
 -- The frames that a list names, one after another.
-use Rattle.mig_pvtables.proofs.Common.{◌≡◌, ℕ, ◌+◌, ◌/◌, ◌<◌, Bool, true, false, cond, List, length, Option, Some, None, is_some, refl, sym, ap, ◌∙◌, inl, inr, arith, ◌==◌, ◌||◌, range_with_len, list_any, nat_cmp, nat_cmp_total, nat_cmp-IsAntisymmetric, cases_lt, ne_eqb, eq-eqb, lt-ltb, le-ltb, FrameOf, FrameMap, GuestOf, long_at, PartMap, p2m_key, each_value, only, with_zero_page, where_listed, is_listed_before, blanked_listed, is_this, count_in, listed_in, listed}
-use Rattle.std.specs.FinMap as maps
-use Rattle.mig_pvtables.specs.Blank.{zero_page}
+use Rattle.mig_pvtables.proofs.Common.{◌≡◌, ℕ, ◌+◌, ◌/◌, ◌<◌, Bool, true, false, cond, List, length, Option, Some, None, is_some, refl, sym, ap, ◌∙◌, inl, inr, arith, ◌==◌, ◌||◌, range_with_len, list_any, nat_cmp, nat_cmp_total, nat_cmp-IsAntisymmetric, cases_lt, ne_eqb, eq-eqb, lt-ltb, le-ltb, FrameOf, FrameMap, GuestOf, long_at, PartMap, p2m_key, each_value, only, with_zero_page, where_listed, is_listed_before, is_this, count_in, listed_in, listed, zero_page}
+use Rattle.mig_pvtables.specs.BlankSteps.{blanked_listed}
 use Rattle.mig_pvtables.specs.P2mFrames.{place_in}
 use Rattle.mig_pvtables.proofs.EachValue.{each_same, same_each}
 use Rattle.mig_pvtables.proofs.Only.{then_only}
 use Rattle.mig_pvtables.proofs.BlankFrames.{WithFrames}
 use Rattle.mig_pvtables.proofs.PvGuests.{counted}
 use Rattle.mig_pvtables.proofs.Searches.{alike_false, any_in_range, any_more, find_in_range, none_of, overwritten}
+use Rattle.std.specs.FinMap as maps
 
 -- ---- which numbers are listed
 

@@ -1,13 +1,11 @@
 -- The parts of a guest on its way to its blank form.
-use Rattle.mig_pvtables.proofs.Common.{◌≡◌, ℕ, ◌+◌, ◌*◌, ◌/◌, ◌<◌, ◌≤◌, true, false, List, ◌++◌, length, take, drop, Some, None, is_some, IsSome, IfSome, refl, sym, ap, subst, ◌∙◌, arith, append-nil, append_assoc, length-append, length-drop, get_or, option_map, drop_all, length-take-le, PartKey, part_cmp, GuestOf, PartMap, shared_key, part_total, part_exact, blanked_context, blanked_shared, each_value, only}
-use Rattle.std.specs.FinMap as maps
-use Rattle.byteorder.specs.Endian.{little_bytes}
+use Rattle.mig_pvtables.proofs.Common.{◌≡◌, ℕ, ◌+◌, ◌*◌, ◌/◌, ◌<◌, ◌≤◌, true, false, List, ◌++◌, length, take, drop, Some, None, is_some, IsSome, IfSome, refl, sym, ap, subst, ◌∙◌, arith, get_or, option_map, PartKey, part_cmp, GuestOf, PartMap, shared_key, part_total, part_exact, blanked_context, blanked_shared, each_value, only, little_bytes, le64, with_field, bytes_from, blanked_value}
+use Rattle.std.proofs.Common.{append-nil, append_assoc, length-append, length-drop}
+use Rattle.std.proofs.lemmas.List.{drop_all, length-take-le}
 use Rattle.byteorder.specs.Numbers.{length-bytes_low_first}
-use Rattle.mig_bytes.specs.Fields.{le64, with_field}
-use Rattle.mig_bytes.proofs.ByteLists.{bytes_from}
-use Rattle.mig_pvtables.specs.VcpuContexts.{blanked_value}
 use Rattle.mig_pvtables.proofs.Only.{insert_only, only_stays, get_only, only_alike, only_twice}
 use Rattle.mig_pvtables.proofs.BlankBytes.{context_blanked, shared_blanked}
+use Rattle.std.specs.FinMap as maps
 
 abbrev pub WithParts : GuestOf → PartMap → GuestOf
 WithParts g m = record { kind = g.kind; top = g.top; frames = g.frames; parts = m }

@@ -1,13 +1,11 @@
 -- What the blank form of a PV guest has at each frame number and key.
-use Rattle.mig_pvtables.proofs.Common.{◌≡◌, ℕ, ◌/◌, cond, List, length, Option, Some, None, is_some, refl, sym, ap, subst, ◌∙◌, arith, ◌==◌, option_map, nat_cmp_total, nat_cmp-IsAntisymmetric, eqb-true, eq-eqb, lt-ltb, Pv, level_of, PartKey, Entry, FrameOf, FrameMap, GuestOf, PartMap, p2m_key, long_at, EachEntry, blanked_table, part_total, part_exact, blanked_page, blanked_frame, blanked_part, blank_of, listed_in, listed, place_of, type_at, blanked_context, blanked_shared}
-use Rattle.std.specs.FinMap as maps
-use Rattle.mig_pagetypes.specs.declared.page_type.PageType.TheVariants.{Notab}
+use Rattle.mig_pvtables.proofs.Common.{◌≡◌, ℕ, ◌/◌, cond, List, length, Option, Some, None, is_some, refl, sym, ap, subst, ◌∙◌, arith, ◌==◌, option_map, nat_cmp_total, nat_cmp-IsAntisymmetric, eqb-true, eq-eqb, lt-ltb, Pv, level_of, PartKey, Entry, FrameOf, FrameMap, GuestOf, PartMap, p2m_key, long_at, EachEntry, blanked_table, part_total, part_exact, blanked_page, blanked_frame, blanked_part, blank_of, listed_in, listed, place_of, type_at, blanked_context, blanked_shared, Notab, AreP2mFrames}
 use Rattle.mig_pvtables.specs.P2mFrames.{place_in}
-use Rattle.mig_pvtables.specs.WholePv.{AreP2mFrames}
 use Rattle.mig_pvtables.proofs.BlankSays.{same_entry}
 use Rattle.mig_pvtables.proofs.EachValue.{from_each, to_each, some_each, stays_each}
 use Rattle.mig_pvtables.proofs.SameShape.{types_kept, entries_changed}
 use Rattle.mig_pvtables.proofs.Slots.{found_in_range}
+use Rattle.std.specs.FinMap as maps
 
 -- what has a place in the list is listed there
 pub place_listed : (o : Option (List ℕ)) (pfn k : ℕ) → place_in o pfn ≡ Some k → listed_in o k ≡ Some pfn

@@ -1,8 +1,9 @@
 -- Maps with each value changed, by its key.
-use Rattle.mig_pvtables.proofs.Common.{◌≡◌, Bool, is_some, length, length-map, map, kept_shown, Some, None, refl, sym, ap, ◌∙◌, Ordering, FinMap, IsAntisymmetric, same_map, get-from_entries, get-entries, entries_sorted, option_map, IsTotalOrder, find_seen, entries_shown, each_value}
-use Rattle.std.specs.FinMap as maps
+use Rattle.mig_pvtables.proofs.Common.{◌≡◌, Bool, is_some, length, length-map, kept_shown, Some, None, refl, sym, ap, ◌∙◌, Ordering, FinMap, IsAntisymmetric, same_map, get-from_entries, get-entries, entries_sorted, option_map, IsTotalOrder, each_value, is_some-mapped}
+use Rattle.std.proofs.Common.{map}
+use Rattle.mig_guest.proofs.KeyedMaps.{find_seen, entries_shown}
 use Rattle.std.specs.List.{filter}
-use Rattle.mig_guest.proofs.KeyedMaps.{is_some-mapped}
+use Rattle.std.specs.FinMap as maps
 pub use Rattle.mig_guest.proofs.KeyedMaps.{shown}
 
 module _ {K : Type 0} {R : K → K → Ordering} (o : IsTotalOrder R) (exact : IsAntisymmetric R) where

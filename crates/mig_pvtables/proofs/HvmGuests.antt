@@ -1,10 +1,12 @@
 -- An HVM guest at the end of its stream: two causes are tried, of its context and of how many frames it has.
-use Rattle.mig_pvtables.proofs.Common.{◌≡◌, ◌∷◌, [], length, Bool, true, false, cond, nat_lt, Some, None, is_none, IsSome, refl, sym, ap, ◌∙◌, option_or, Missing, TooManyFrames, Hvm, most_frames, IsFew, GuestOf, context_key, IsFormed, blank, blank_of, first_cause, faults_for, fault_of_guest, IsWhole}
+use Rattle.mig_pvtables.proofs.Common.{◌≡◌, ◌∷◌, [], length, Bool, true, false, cond, nat_lt, Some, None, is_none, IsSome, refl, sym, ap, ◌∙◌, option_or, Missing, TooManyFrames, Hvm, most_frames, GuestOf, IsFormed, blank, blank_of, first_cause, faults_for, fault_of_guest, IsWhole}
+use Rattle.mig_guest.specs.Frames.{IsFew}
+use Rattle.mig_guest.specs.PartKeys.{context_key}
 use Rattle.std.specs.Prelude.{◌↔◌}
-use Rattle.std.specs.FinMap as maps
 use Rattle.mig_headers.specs.Rows.{first_fault}
 use Rattle.mig_headers.specs.declared.fault.Cause.{Cause}
 use Rattle.mig_pvtables.proofs.Searches.{all_none, is_there, are_few}
+use Rattle.std.specs.FinMap as maps
 
 pub hvm_blank : (g : GuestOf) → g.kind ≡ Hvm → blank g ≡ g
 hvm_blank g is = ap (λ k. blank_of k g) is

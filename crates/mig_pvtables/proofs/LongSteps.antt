@@ -1,9 +1,5 @@
 -- Numbers of 8 bytes changed one by one.
-use Rattle.mig_pvtables.proofs.Common.{Bool, true, false, ◌≡◌, ◌≢◌, ℕ, ◌+◌, ◌*◌, ◌^◌, ◌<◌, List, length, get_or, cond, sym, ap, subst, ◌∙◌, inl, inr, arith, cases_lt, cases_eq, lt-ltb, le-ltb, nat_lt, long_at, each_long, long_of_longs, each_stays, put_long}
-use Rattle.byteorder.specs.Endian.{little_bytes}
-use Rattle.mig_bytes.specs.Fields.{with_field}
-use Rattle.mig_bytes.proofs.ByteLists.{Bytes, bytes_from, long_below}
-use Rattle.mig_guest.proofs.Longs.{same_longs}
+use Rattle.mig_pvtables.proofs.Common.{Bool, true, false, ◌≡◌, ◌≢◌, ℕ, ◌+◌, ◌*◌, ◌^◌, ◌<◌, List, length, get_or, cond, sym, ap, subst, ◌∙◌, inl, inr, arith, cases_lt, cases_eq, lt-ltb, le-ltb, nat_lt, long_at, each_long, long_of_longs, each_stays, put_long, little_bytes, with_field, Bytes, bytes_from, long_below, same_longs}
 
 -- ---- all numbers changed
 

@@ -1,7 +1,5 @@
 -- Numbers written as 8 bytes each: what stands there is each number modulo 2^64.
-use Rattle.mig_pvtables.proofs.Common.{◌≡◌, ℕ, zero, suc, ◌%◌, ◌^◌, ◌<◌, List, ◌++◌, ◌∷◌, [], refl, sym, ap, ◌∙◌, arith, long_at, each_long, long_of_longs}
-use Rattle.std.specs.Int.{byte_at}
-use Rattle.byteorder.specs.Endian.{little_bytes}
+use Rattle.mig_pvtables.proofs.Common.{◌≡◌, ℕ, zero, suc, ◌%◌, ◌^◌, ◌<◌, List, ◌++◌, ◌∷◌, [], refl, sym, ap, ◌∙◌, arith, long_at, each_long, long_of_longs, byte_at, little_bytes}
 use Rattle.mig_guest.specs.Longs.{longs}
 
 -- the low 8 bytes of a number are those of the number modulo 2^64

@@ -1,8 +1,8 @@
 -- Maps of which one value is changed, by its key.
 use Rattle.mig_pvtables.proofs.Common.{◌≡◌, Bool, true, false, cond, Option, Some, None, refl, sym, ap, subst, ◌∙◌, Ordering, eq_by_cmp, FinMap, IsAntisymmetric, same_map, get-insert, option_map, IsTotalOrder, false_from_ne_true, tied, each_value, only}
-use Rattle.std.specs.FinMap as maps
 use Rattle.std.proofs.lemmas.Cmp.{eq_by_cmp_equiv}
 use Rattle.mig_pvtables.proofs.EachValue.{get_each, each_each, each_same, same_each}
+use Rattle.std.specs.FinMap as maps
 
 module _ {K : Type 0} {R : K → K → Ordering} (o : IsTotalOrder R) (exact : IsAntisymmetric R) where
   pub alike : (k : K) → eq_by_cmp R k k ≡ true

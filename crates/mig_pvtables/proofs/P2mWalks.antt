@@ -1,8 +1,5 @@
 -- A walk along the list of the P2M frames, with a mark for each PFN that was listed.
-use Rattle.mig_pvtables.proofs.Common.{◌≡◌, ℕ, ◌+◌, ◌-◌, ◌*◌, ◌/◌, ◌<◌, ◌≤◌, Bool, true, false, cond, not, List, [], ◌∷◌, length, Option, Some, None, IsSome, is_some, refl, sym, ap, subst, inl, inr, ◌∙◌, arith, ◌==◌, ◌&&◌, ◌||◌, range_with_len, list_any, nat_cmp, eq_by_cmp, nat_cmp_total, nat_cmp-IsAntisymmetric, ltb-false, nat_lt, cases_eq, eq-eqb, ne_eqb, or_parts, get-insert, tied, PageType, FrameOf, FrameMap, PartMap, long_at, p2m_key, is_this, is_needed, is_notab, is_misplaced, find_p2m, type_at, count_in, listed, listed_in, is_listed_before, pfn_limit}
-use Rattle.std.specs.FinMap as maps
-use Rattle.std.proofs.lemmas.List.Folds.{list_any_at}
-use Rattle.std.proofs.lemmas.List.FromFn.{length-range_with_len, get_or-range_with_len}
+use Rattle.mig_pvtables.proofs.Common.{◌≡◌, ℕ, ◌+◌, ◌-◌, ◌*◌, ◌/◌, ◌<◌, ◌≤◌, Bool, true, false, cond, not, List, [], ◌∷◌, length, Option, Some, None, IsSome, is_some, refl, sym, ap, subst, inl, inr, ◌∙◌, arith, ◌==◌, ◌&&◌, ◌||◌, range_with_len, list_any, nat_cmp, eq_by_cmp, nat_cmp_total, nat_cmp-IsAntisymmetric, ltb-false, nat_lt, cases_eq, eq-eqb, ne_eqb, or_parts, get-insert, tied, PageType, FrameOf, FrameMap, PartMap, long_at, p2m_key, is_this, is_needed, is_notab, is_misplaced, find_p2m, type_at, count_in, listed, listed_in, is_listed_before, pfn_limit, list_any_at, length-range_with_len, get_or-range_with_len}
 use Rattle.mig_pagestore_index.specs.Indexed.{ValueMap}
 use Rattle.mig_pvtables.specs.Faults.{slots}
 use Rattle.mig_pvtables.specs.P2mMarks.{clashes}
@@ -10,6 +7,7 @@ use Rattle.mig_pvtables.proofs.Only.{alike}
 use Rattle.mig_pvtables.proofs.PvGuests.{counted, not_needed}
 use Rattle.mig_pvtables.proofs.Searches.{any_more, cond_none, find_in_range}
 use Rattle.mig_pvtables.proofs.Slots.{first_in_range}
+use Rattle.std.specs.FinMap as maps
 
 -- ---- a range that has a frame
 

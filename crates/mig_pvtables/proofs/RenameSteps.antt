@@ -1,11 +1,6 @@
 -- A table renamed, or normalised, slot by slot.
-use Rattle.mig_pvtables.proofs.Common.{◌≡◌, ℕ, ◌+◌, ◌*◌, ◌<◌, Bool, true, false, cond, List, Option, Some, None, refl, sym, ap, ◌∙◌, nat_le, ◌&&◌, long_at, each_long, Entry, Blank, NotPresent, Superpage, Frame, entry, is_blank_slot}
-use Rattle.byteorder.specs.Endian.{little_bytes}
-use Rattle.mig_bytes.specs.Fields.{with_field}
-use Rattle.mig_bytes.proofs.ByteLists.{long_below}
-use Rattle.mig_guest.specs.Tables.{is_present, is_large, named_frame, entry_of, blanked_entry}
-use Rattle.mig_pvtables.specs.Tables.{with_frame}
-use Rattle.mig_pvtables.specs.Renaming.{with_name, named_anew, name_for, normalised_table}
+use Rattle.mig_pvtables.proofs.Common.{◌≡◌, ℕ, ◌+◌, ◌*◌, ◌<◌, Bool, true, false, cond, List, Option, Some, None, refl, sym, ap, ◌∙◌, nat_le, ◌&&◌, long_at, each_long, Entry, Blank, NotPresent, Superpage, Frame, entry, is_blank_slot, little_bytes, with_field, long_below, is_present, is_large, named_frame, with_frame, with_name, named_anew, name_for, normalised_table}
+use Rattle.mig_guest.specs.Tables.{entry_of, blanked_entry}
 use Rattle.mig_pvtables.proofs.BlankSays.{blank_says}
 use Rattle.mig_pvtables.proofs.LongSteps.{each_twice, ChangedBelow, next_below, still, one_changed, one_stays, walk_end}
 use Rattle.mig_pvtables.proofs.Renamed.{says, blanked_small, renamed_long, by_frames, renamed_case}

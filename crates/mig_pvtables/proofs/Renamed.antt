@@ -1,12 +1,7 @@
 -- Tables whose entries name other frames: what they say then, and that they come back.
-use Rattle.mig_pvtables.proofs.Common.{◌≡◌, ◌≢◌, ℕ, ◌*◌, ◌/◌, ◌%◌, ◌^◌, ◌<◌, Bool, true, false, cond, not, nat_le, ◌==◌, ◌&&◌, List, length, Option, Some, None, refl, sym, ap, subst, ◌∙◌, arith, long_at, each_long, Entry, Blank, NotPresent, Superpage, Frame, entry, is_blank_slot, blanked_table}
-use Rattle.std.proofs.lemmas.List.Elements.{recursion_from_All}
-use Rattle.mig_bytes.specs.Bytes.{AreBytes}
-use Rattle.mig_bytes.proofs.ByteLists.{long_below}
-use Rattle.mig_guest.specs.Tables.{is_present, is_large, named_frame, entry_of, blanked_entry}
-use Rattle.mig_guest.proofs.Longs.{same_longs, each_stays}
-use Rattle.mig_pvtables.specs.Tables.{with_frame}
-use Rattle.mig_pvtables.specs.Renaming.{with_name, named_anew, renamed_entry, renamed_by, name_for, renamed_table, normalised_table, entry_named, NamesFit, GoesBack}
+use Rattle.mig_pvtables.proofs.Common.{◌≡◌, ◌≢◌, ℕ, ◌*◌, ◌/◌, ◌%◌, ◌^◌, ◌<◌, Bool, true, false, cond, not, nat_le, ◌==◌, ◌&&◌, List, length, Option, Some, None, refl, sym, ap, subst, ◌∙◌, arith, long_at, each_long, Entry, Blank, NotPresent, Superpage, Frame, entry, is_blank_slot, blanked_table, recursion_from_All, AreBytes, long_below, is_present, is_large, named_frame, same_longs, each_stays, with_frame, with_name, named_anew, name_for, normalised_table}
+use Rattle.mig_guest.specs.Tables.{entry_of, blanked_entry}
+use Rattle.mig_pvtables.specs.Renaming.{renamed_entry, renamed_by, renamed_table, entry_named, NamesFit, GoesBack}
 use Rattle.mig_pvtables.proofs.BlankSays.{blank_says}
 use Rattle.mig_pvtables.proofs.LongSteps.{long_of_each, each_twice}
 

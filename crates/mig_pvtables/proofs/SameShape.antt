@@ -1,16 +1,10 @@
 -- What stays where frames and parts are changed: types, places in the list of P2M frames, and what a frame or a part has to be.
-use Rattle.mig_pvtables.proofs.Common.{◌≡◌, ℕ, ◌<◌, true, List, length, Option, Some, None, refl, sym, ap, subst, ◌∙◌, option_map, nat_cmp_total, nat_cmp-IsAntisymmetric, PartKey, Entry, FrameOf, FrameMap, PartMap, IsPart, level_of, entry, EachEntry, each_value, type_at, listed}
-use Rattle.std.specs.FinMap as maps
-use Rattle.mig_headers.specs.declared.kind.Kind.{Kind}
-use Rattle.mig_guest.specs.declared.part_code.PartCode.{PartCode}
-use Rattle.mig_guest.specs.Formed.{IsContent, IsRawContent}
-use Rattle.mig_guest.specs.Frames.{IsFrame}
+use Rattle.mig_pvtables.proofs.Common.{◌≡◌, ℕ, ◌<◌, true, List, length, Option, Some, None, refl, sym, ap, subst, ◌∙◌, option_map, nat_cmp_total, nat_cmp-IsAntisymmetric, PartKey, Entry, FrameOf, FrameMap, PartMap, IsPart, level_of, entry, EachEntry, each_value, type_at, listed, Kind, PartCode, IsContent, IsFrame, row_of, code_number, is_some-mapped, IsEmptyRange, AreP2mFrames}
+use Rattle.mig_guest.specs.Formed.{IsRawContent}
 use Rattle.mig_guest.specs.Hosts.{IsHostPart}
-use Rattle.mig_guest.specs.PartCodes.{row_of, code_number}
-use Rattle.mig_guest.proofs.KeyedMaps.{is_some-mapped}
 use Rattle.mig_guest.proofs.PartRows.{one_code}
-use Rattle.mig_pvtables.specs.WholePv.{IsEmptyRange, AreP2mFrames}
 use Rattle.mig_pvtables.proofs.EachValue.{get_each}
+use Rattle.std.specs.FinMap as maps
 
 -- ---- frames
 

@@ -1,11 +1,10 @@
 -- Searches in ranges, among entries and along rows of causes: when nothing is found.
-use Rattle.mig_pvtables.proofs.Common.{◌≡◌, ℕ, ◌+◌, ◌<◌, ◌≤◌, Bool, true, false, cond, List, [], ◌∷◌, get_or, nat_lt, Option, Some, None, is_none, is_some, IsSome, refl, sym, ap, ◌∙◌, inl, inr, arith, cases_eq, or_from, or_parts, ◌↔◌, find, ⊤, ◌||◌, All, range_with_len, list_any, option_map, option_or, eq_by_cmp, Ordering, IsTotalOrder, FinMap, IsAntisymmetric, get-entries, entries_sorted, false_from_ne_true, ltb-false, le-ltb, TooManyFrames, most_frames, all_found, tied, first_some, first_cause}
-use Rattle.std.specs.FinMap as maps
+use Rattle.mig_pvtables.proofs.Common.{◌≡◌, ℕ, ◌+◌, ◌<◌, ◌≤◌, Bool, true, false, cond, List, [], ◌∷◌, get_or, nat_lt, Option, Some, None, is_none, is_some, IsSome, refl, sym, ap, ◌∙◌, inl, inr, arith, cases_eq, or_from, or_parts, ◌↔◌, find, ⊤, ◌||◌, range_with_len, list_any, option_map, option_or, eq_by_cmp, Ordering, IsTotalOrder, FinMap, IsAntisymmetric, get-entries, entries_sorted, false_from_ne_true, ltb-false, le-ltb, TooManyFrames, most_frames, tied, first_some, first_cause, list_any_at, length-range_with_len, get_or-range_with_len, both_none}
+use Rattle.std.specs.List.{All}
+use Rattle.mig_guest.proofs.Found.{all_found}
 use Rattle.std.proofs.lemmas.List.Elements.{All-head, All-tail}
-use Rattle.std.proofs.lemmas.List.Folds.{list_any_at}
-use Rattle.std.proofs.lemmas.List.FromFn.{length-range_with_len, get_or-range_with_len}
 use Rattle.std.proofs.lemmas.List.Recursion.{or_from_places}
-use Rattle.mig_headers.proofs.FirstFaults.{both_none}
+use Rattle.std.specs.FinMap as maps
 
 pub none_of : {X : Type 0} (o : Option X) → is_some o ≡ false → o ≡ None
 none_of None is = refl

@@ -1,20 +1,20 @@
 -- The guest of the worked PV stream is whole, so that there is a whole PV guest.
-use Rattle.mig_pvtables.proofs.Common.{◌≡◌, ℕ, ◌-◌, ◌*◌, ◌/◌, ◌^◌, ◌<◌, ◌≤◌, ⊤, true, false, cond, nat_lt, List, [], ◌∷◌, length, length-replicate, Some, None, IsSome, refl, sym, ap, subst, ◌∙◌, inl, inr, arith, le-leb, lit<, ◌==◌, nat_le, option_map, IsTotalOrder, IsAntisymmetric, get-from_entries, nat_cmp, nat_cmp_total, nat_cmp-IsAntisymmetric, cases_eq, cases_lt, ne_eqb, eqb-true, le-ltb, eq-eqb, ltb-true, Pv, level_of, type_has_data, PageType, PartKey, Entry, Blank, NotPresent, Superpage, Frame, IsPart, IsFormed, IsGuestFrame, gdt_ents, FrameOf, FrameMap, is_type_of, GuestOf, long_at, longs, part_cmp, PartMap, p2m_key, vcpu_key, shared_key, EachEntry, entry, IsWithin, is_blank_slot, insert_holds, insert_len, length_longs, long_of_longs, part_total, part_exact, field_value, is_used, is_marked, frame_of_field, listed_in, listed, type_at, fits_field, blank, IsWhole}
-use Rattle.std.specs.Prelude.{not, ◌&&◌}
+use Rattle.mig_pvtables.proofs.Common.{◌≡◌, ℕ, ◌-◌, ◌*◌, ◌/◌, ◌^◌, ◌<◌, ◌≤◌, ⊤, true, false, cond, nat_lt, List, [], ◌∷◌, length, length-replicate, Some, None, IsSome, refl, sym, ap, subst, ◌∙◌, inl, inr, arith, le-leb, lit<, ◌==◌, nat_le, option_map, IsTotalOrder, IsAntisymmetric, get-from_entries, nat_cmp, nat_cmp_total, nat_cmp-IsAntisymmetric, cases_eq, cases_lt, ne_eqb, eqb-true, le-ltb, eq-eqb, ltb-true, Pv, level_of, PageType, PartKey, Entry, Blank, NotPresent, Superpage, Frame, IsPart, IsFormed, IsGuestFrame, gdt_ents, FrameOf, FrameMap, GuestOf, long_at, longs, part_cmp, PartMap, p2m_key, vcpu_key, shared_key, EachEntry, entry, IsWithin, is_blank_slot, length_longs, long_of_longs, part_total, part_exact, field_value, is_used, is_marked, frame_of_field, listed_in, listed, type_at, fits_field, blank, IsWhole, ◌&&◌, Ordering, cond_some, Notab, VcpuBasic, SharedInfo, Part, is_present, is_large, named_frame, AreP2mFrames}
+use Rattle.mig_pagetypes.specs.PageTypes.{type_has_data}
+use Rattle.mig_guest.specs.Frames.{is_type_of}
+use Rattle.mig_guest.proofs.Found.{insert_holds}
+use Rattle.mig_guest.proofs.KeyedMaps.{insert_len}
+use Rattle.std.specs.Prelude.{not}
 use Rattle.std.specs.List.{AllByRecursion}
-use Rattle.std.specs.FinMap as maps
-use Rattle.std.specs.declared.cmp.Ordering.{Ordering}
-use Rattle.std.proofs.lemmas.Option.{cond_some}
 use Rattle.std.proofs.lemmas.List.Filters.{length-filter_both}
-use Rattle.mig_pagetypes.specs.declared.page_type.PageType.TheVariants.{Notab, L1Tab, L2Tab, L3Tab, L4Pinned}
-use Rattle.mig_guest.specs.declared.part_code.PartCode.TheVariants.{P2mFrames, VcpuBasic, SharedInfo}
-use Rattle.mig_guest.specs.Parts.{Part}
-use Rattle.mig_guest.specs.Tables.{entry_of, is_present, is_large, named_frame}
-use Rattle.mig_pvtables.specs.WholePv.{AreP2mFrames}
+use Rattle.mig_pagetypes.specs.declared.page_type.PageType.TheVariants.{L1Tab, L2Tab, L3Tab, L4Pinned}
+use Rattle.mig_guest.specs.declared.part_code.PartCode.TheVariants.{P2mFrames}
+use Rattle.mig_guest.specs.Tables.{entry_of}
 use Rattle.mig_pvtables.specs.WorkedGuest.{number_at, page_of_byte, worked_page, worked_table, worked_frames, worked_parts, worked_context, worked_pv_guest}
 use Rattle.mig_pvtables.proofs.PvGuests.{pv_whole}
 use Rattle.mig_pvtables.proofs.BlankWhole.{whole_blank}
 use Rattle.mig_pvtables.proofs.BlankAgain.{blank_again}
+use Rattle.std.specs.FinMap as maps
 
 -- ---- the map of a list
 

@@ -1,36 +1,22 @@
 -- An image is judged as one of which the whole guest isn't asked, and then the guest is asked, at its last record: for causes
 -- that are left out.
-use Rattle.std.proofs.Common.{◌≡◌, ℕ, zero, suc, ◌-◌, ◌≤◌, Bool, true, false, nat_eq, nat_lt, is_none, List, [], ◌∷◌, ◌++◌, length, Option, Some, None, refl, sym, ap, ◌∙◌, arith, le_refl, length-append}
-use Rattle.std.specs.FinMap as maps
-use Rattle.std.specs.List.{AllByRecursion}
-use Rattle.mig_bytes.specs.Judged.{Judged, ◌>>=◌, tried, placed}
-use Rattle.mig_bytes.specs.Judged.Judged.{Passes, Faulty}
-use Rattle.mig_bytes.specs.Sequences.{onward}
-use Rattle.mig_bytes.proofs.Sequences.{starts, over, goes_on}
-use Rattle.mig_headers.specs.declared.fault.Cause.{Cause}
+use Rattle.mig_relay.proofs.Common.{◌≡◌, ℕ, zero, suc, ◌-◌, ◌≤◌, Bool, true, false, nat_eq, nat_lt, List, [], ◌∷◌, ◌++◌, length, Option, Some, None, refl, sym, ap, ◌∙◌, arith, le_refl, length-append, AllByRecursion, Judged, ◌>>=◌, tried, placed, Passes, Faulty, onward, starts, over, goes_on, Cause, Place, Record, Kind, GuestOf, StreamRecord, is_ended, Opening, before, record_at, sent, ImageOf, image_of, placed_next, ended_more, asks, is_unasked, open_next}
+use Rattle.std.proofs.Common.{is_none}
 use Rattle.mig_headers.specs.declared.fault.Cause.TheVariants.{Missing, P2mFrame, TargetAbsent, VcpuFrame, TooManyFrames}
-use Rattle.mig_headers.specs.declared.fault.Place.{Place}
-use Rattle.mig_headers.specs.declared.fault.Place.TheVariants.{Record}
-use Rattle.mig_headers.specs.declared.kind.Kind.{Kind}
 use Rattle.mig_headers.specs.declared.kind.Kind.TheVariants.{Pv, Hvm}
 use Rattle.mig_pagetypes.specs.Limits.{most_frames}
 use Rattle.mig_guest.specs.Frames.{FrameMap}
-use Rattle.mig_guest.specs.Guests.{GuestOf}
 use Rattle.mig_guest.specs.Parts.{PartMap}
 use Rattle.mig_guest.specs.PartKeys.{p2m_key, vcpu_key, shared_key, context_key}
 use Rattle.mig_guest.specs.declared.part_key.PartKey.{PartKey}
 use Rattle.mig_pvtables.specs.Faults.{first_cause, missing, too_many, find_p2m, find_entry, find_field, is_absent, faults_for, fault_of_guest}
-use Rattle.mig_restore_form.specs.Record.{StreamRecord, is_ended}
-use Rattle.mig_restore_form.specs.Judging.{Opening, before, record_at}
-use Rattle.mig_restore_form.specs.Mean.{sent}
-use Rattle.mig_restore_form.specs.Stream.{ImageOf, image_of, image_at, records_at, opening_at, placed_next}
-use Rattle.mig_restore_form.proofs.Meaning.{ended_more}
-use Rattle.mig_restore_form.proofs.Parts.{asks, behind_record}
-use Rattle.mig_relay.specs.Causes.{is_unasked}
-use Rattle.mig_relay.specs.Images.{open_next, open_records, open_image_at, guest_asked}
+use Rattle.mig_restore_form.specs.Stream.{image_at, records_at, opening_at}
+use Rattle.mig_restore_form.proofs.Parts.{behind_record}
+use Rattle.mig_relay.specs.Images.{open_records, open_image_at, guest_asked}
 use Rattle.mig_relay.proofs.Images.{open_shrinks, next_shrinks}
 use Rattle.mig_relay.proofs.Tells.{Names, names_map, names_one, names_or}
 use Rattle.mig_relay.proofs.Opens.{Opens, opens_as, same, leaves}
+use Rattle.std.specs.FinMap as maps
 
 module _ (o : Opening) where
   abbrev closed : List StreamRecord → List ℕ → Judged (Place × Cause) (List StreamRecord)

@@ -1,45 +1,13 @@
 -- Bodies that are passed on in pieces: what a relay keeps behind a piece, and behind the last one.
-use Rattle.std.proofs.Common.{◌≡◌, ◌≢◌, ℕ, ◌+◌, ◌<◌, ◌≤◌, Bool, true, false, nat_eq, ◌==◌, cond, List, [], ◌∷◌, ◌++◌, length, drop, Option, Some, None, refl, sym, ap, ◌∙◌, arith, length-append}
-use Rattle.std.proofs.lemmas.Bool.{eqb-true, eqb-false}
-use Rattle.std.proofs.lemmas.Grind.{common_steps}
-use Rattle.mig_records.specs.PvBodies.{greater}
-use Rattle.mig_bytes.specs.Bytes.{padding_len}
-use Rattle.mig_bytes.specs.Fields.{le32}
-use Rattle.mig_bytes.specs.Judged.{Judged, ◌>>=◌}
-use Rattle.mig_libxl_form.specs.Content.{LibxlRecord, LibxlContent}
-use Rattle.mig_libxl_form.specs.Content.LibxlContent.{Nothing as NothingWrapped, Pairs, Context}
-use Rattle.mig_guest.specs.declared.part_code.PartCode.{PartCode}
+use Rattle.mig_relay.proofs.Common.{◌≡◌, ◌≢◌, ℕ, ◌+◌, ◌<◌, ◌≤◌, Bool, true, false, nat_eq, ◌==◌, cond, List, [], ◌∷◌, ◌++◌, length, drop, Option, Some, None, refl, sym, ap, ◌∙◌, arith, length-append, eqb-true, eqb-false, common_steps, greater, padding_len, le32, Judged, ◌>>=◌, LibxlRecord, LibxlContent, Pairs, Context, PartCode, numbers_are_inverse, is_optional, type_of_number, Cause, Place, Record, RecordType, X86PvInfo, X86PvP2mFrames, image_in, emulator_key, RecordsBehind, bodies_are_parts, piece_len, fault_of_record_body, coded_content, typed_content, record_content, pairs_in, RecordHead, Opening, before, lists_of, code_of_type, StreamRecord, Content, Nothing, Lists, ImageOf, ComesNext, more, whole, image_next, libxl_next, Keeps, KeepsFirst, KeepsHead, KeepsOpen, KeepsOuter, IsBodied, IsOther, top_with, with_one, AtHead, AtBody, AtPadding, BeginsWithPart, record_with, Outer, Spot, AtLibxlHead, AtLibxlBody, AtLibxlPadding, InImage, spot, carry, Relay}
+use Rattle.mig_libxl_form.specs.Content.LibxlContent.{Nothing as NothingWrapped}
 use Rattle.mig_headers.proofs.ContextTexts.{in32}
-use Rattle.mig_headers.proofs.RecordNumbers.{numbers_are_inverse}
-use Rattle.mig_headers.specs.RecordTypes.{is_optional, type_of_number}
-use Rattle.mig_headers.specs.declared.fault.Cause.{Cause}
-use Rattle.mig_headers.specs.declared.fault.Place.{Place}
-use Rattle.mig_headers.specs.declared.fault.Place.TheVariants.{Record}
-use Rattle.mig_headers.specs.declared.record_type.RecordType.{RecordType}
-use Rattle.mig_headers.specs.declared.record_type.RecordType.TheVariants.{X86PvInfo, X86PvP2mFrames}
-use Rattle.mig_libxl_form.specs.Among.{image_in}
-use Rattle.mig_libxl_form.specs.Judging.{emulator_key}
-use Rattle.mig_libxl_form.specs.declared.head.RecordsBehind.{RecordsBehind}
-use Rattle.mig_relay_bodies.proofs.Types.{bodies_are_parts}
-use Rattle.mig_relay_bodies.specs.Begun.{piece_len}
-use Rattle.mig_relay_bodies.specs.Bodies.{fault_of_record_body, coded_content, typed_content, record_content}
-use Rattle.mig_policy.specs.PairMaps.{pairs_in}
 use Rattle.mig_records.specs.Faults.{type_allows}
-use Rattle.mig_records.specs.declared.head.RecordHead.{RecordHead}
 use Rattle.mig_restore_form.proofs.Laws.{fields_fine}
-use Rattle.mig_restore_form.specs.Judging.{Opening, before, lists_of, code_of_type}
-use Rattle.mig_restore_form.specs.Record.{StreamRecord, Content}
-use Rattle.mig_restore_form.specs.Record.Content.{Nothing, Lists}
-use Rattle.mig_restore_form.specs.Stream.{ImageOf}
-use Rattle.mig_relay.specs.Following.{ComesNext, more, whole, image_next, libxl_next}
-use Rattle.mig_relay.specs.Keeping.{Keeps, KeepsFirst, KeepsHead, KeepsOpen, KeepsOuter, IsBodied, IsOther, top_with, with_one}
-use Rattle.mig_relay.specs.Parts.{AtHead, AtBody, AtPadding, BeginsWithPart, record_with}
-use Rattle.mig_relay.specs.Spots.{Outer, Spot, AtLibxlHead, AtLibxlBody, AtLibxlPadding, InImage, spot, carry}
-use Rattle.mig_relay.specs.declared.state.Coming.TheVariants as comes
-use Rattle.mig_relay.specs.declared.state.Relay.{Relay}
 use Rattle.mig_relay.proofs.Kept.{ListsNone, going_same, wrapped_more, records_more, top_same, top_listed}
 use Rattle.mig_relay.proofs.SpotParts.{lifted, libxl_content, libxl_no_padding, with_libxl}
 use Rattle.mig_relay.proofs.Unrolls.{body_is, no_padding, with}
+use Rattle.mig_relay.specs.declared.state.Coming.TheVariants as comes
 
 -- What comes next behind a whole body of this size, which is judged as its padding is. No more bytes were passed on,
 -- and the words in hand are the same.

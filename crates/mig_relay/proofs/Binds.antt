@@ -1,7 +1,5 @@
 -- Judgements one after another, regrouped.
-use Rattle.std.proofs.Common.{◌≡◌, ℕ, List, refl}
-use Rattle.mig_bytes.specs.Judged.{Judged, ◌>>=◌, placed}
-use Rattle.mig_bytes.specs.Judged.Judged.{Passes, Faulty}
+use Rattle.mig_relay.proofs.Common.{◌≡◌, ℕ, List, refl, Judged, ◌>>=◌, placed, Passes, Faulty}
 
 pub bind_assoc : {C X Y Z : Type 0} (j : Judged C X) (f : X × List ℕ → Judged C Y) (k : Y × List ℕ → Judged C Z) → ((j >>= f) >>= k) ≡ (j >>= λ a. f a >>= k)
 bind_assoc (Passes x rest) f k = refl

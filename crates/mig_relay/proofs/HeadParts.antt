@@ -1,52 +1,15 @@
 -- What comes next behind a record's head.
-use Rattle.std.proofs.Common.{◌≡◌, ◌≢◌, ℕ, ◌+◌, ◌<◌, ◌≤◌, ◌&&◌, not, nat_eq, nat_le, min, Bool, true, false, cond, List, [], ◌∷◌, ◌++◌, length, Option, Some, None, refl, sym, ap, subst, ◌∙◌, arith, length-append}
+use Rattle.mig_relay.proofs.Common.{◌≡◌, ◌≢◌, ℕ, ◌+◌, ◌<◌, ◌≤◌, not, nat_eq, nat_le, min, Bool, true, false, cond, List, [], ◌∷◌, ◌++◌, length, Option, Some, None, refl, sym, ap, subst, ◌∙◌, arith, length-append, leb-true, eqb-true, eqb-false, eq-eqb, ne_eqb, common_steps, option_or, padding_len, Judged, ◌>>=◌, part, tried, placed, Passes, Faulty, LibxlRecord, parts_of_body, PartCode, numbers_are_inverse, type_of_number, is_optional, first_fault, RecordType, X86PvInfo, X86PvP2mFrames, Cause, Truncated, BadLength, Place, Record, is_libxl_ended, image_among, AreBehind, kind_of_image, Bare, RecordsBehind, emulator_more, among_first, IsBegunBody, piece_len, fault_of_record_body, record_content, typed_content, coded_content, bodies_are_parts, fault_of_length, head_in, RecordHead, Opening, before, body_at, code_of_type, fault_of_head, fault_of_fields, Nothing, Sets, Lists, StreamRecord, Content, types_of, is_ended, IsSeen, RecordsSeen, Kind, ImageOf, image_of, ComesBehind, ComesNext, image_next, Keeps, KeepsGoing, KeepsHead, KeepsRecords, KeepsOuter, HasNumber, fault_of_empty, AtHead, AtBody, AtFront, judged_next, record_with, with_body, BeginsWithPart, Outer, Alone, Behind, Spot, AtLibxlHead, InImage, AtEnd, spot, carry, image_record, Relay}
+use Rattle.std.proofs.Common.{◌&&◌}
 use Rattle.std.proofs.Math.Bool.{or-false}
-use Rattle.std.proofs.lemmas.Bool.{leb-true, eqb-true, eqb-false, eq-eqb, ne_eqb}
-use Rattle.std.proofs.lemmas.Grind.{common_steps}
-use Rattle.std.specs.Option.{option_or}
-use Rattle.mig_bytes.specs.Bytes.{padding_len}
-use Rattle.mig_bytes.specs.Judged.{Judged, ◌>>=◌, part, tried, placed}
-use Rattle.mig_bytes.specs.Judged.Judged.{Passes, Faulty}
-use Rattle.mig_libxl_form.specs.Content.{LibxlRecord}
-use Rattle.mig_records.specs.Shapes.{parts_of_body}
-use Rattle.mig_guest.specs.declared.part_code.PartCode.{PartCode}
-use Rattle.mig_headers.proofs.RecordNumbers.{numbers_are_inverse}
-use Rattle.mig_headers.specs.RecordTypes.{most_body, type_of_number, is_optional}
-use Rattle.mig_headers.specs.Rows.{first_fault}
-use Rattle.mig_headers.specs.declared.record_type.RecordType.{RecordType}
-use Rattle.mig_headers.specs.declared.record_type.RecordType.TheVariants.{X86PvInfo, X86PvP2mFrames}
-use Rattle.mig_headers.specs.declared.fault.Cause.{Cause}
-use Rattle.mig_headers.specs.declared.fault.Cause.TheVariants.{Truncated, BadLength}
-use Rattle.mig_headers.specs.declared.fault.Place.{Place}
-use Rattle.mig_headers.specs.declared.fault.Place.TheVariants.{Record}
-use Rattle.mig_libxl_form.specs.Among.{is_libxl_ended, has_emulator, image_among}
-use Rattle.mig_libxl_form.specs.Behind.{AreBehind, kind_of_image}
-use Rattle.mig_libxl_form.specs.Stream.StreamOf.{Bare}
-use Rattle.mig_libxl_form.specs.declared.head.RecordsBehind.{RecordsBehind}
-use Rattle.mig_libxl_form.proofs.Among.{emulator_more, among_first}
-use Rattle.mig_relay_bodies.specs.Begun.{IsBegunBody, piece_len}
-use Rattle.mig_relay_bodies.specs.Bodies.{fault_of_record_body, record_content, typed_content, coded_content}
-use Rattle.mig_relay_bodies.proofs.Types.{bodies_are_parts}
-use Rattle.mig_records.specs.Faults.{fault_of_length}
-use Rattle.mig_records.specs.Heads.{head_in}
-use Rattle.mig_records.specs.declared.head.RecordHead.{RecordHead}
-use Rattle.mig_restore_form.specs.Judging.{Opening, before, body_at, code_of_type, fault_of_head, fault_of_fields}
-use Rattle.mig_restore_form.specs.Record.Content.{Nothing, Sets, Lists}
-use Rattle.mig_restore_form.specs.Record.{StreamRecord, Content, types_of, is_ended}
-use Rattle.mig_restore_form.specs.Seen.{IsSeen}
-use Rattle.mig_restore_form.specs.declared.head.RecordsSeen.{RecordsSeen}
-use Rattle.mig_headers.specs.declared.kind.Kind.{Kind}
+use Rattle.mig_headers.specs.RecordTypes.{most_body}
+use Rattle.mig_libxl_form.specs.Among.{has_emulator}
 use Rattle.std.specs.Prelude.{IfSome}
-use Rattle.mig_restore_form.specs.Stream.{ImageOf, image_of}
-use Rattle.mig_relay.specs.Following.{ComesBehind, ComesNext, image_begins, pages_begin, image_whole, image_next, image_end, inner_end}
-use Rattle.mig_relay.specs.Keeping.{Keeps, KeepsGoing, KeepsHead, KeepsRecords, KeepsOuter, HasNumber, fault_of_empty}
-use Rattle.mig_relay.specs.Parts.{AtHead, AtBody, AtFront, judged_next, record_with, with_body, BeginsWithPart}
-use Rattle.mig_relay.specs.Spots.{Outer, Alone, Behind, Spot, AtLibxlHead, InImage, AtEnd, spot, carry, image_record}
-use Rattle.mig_relay.specs.declared.state.Coming.TheVariants as comes
-use Rattle.mig_relay.specs.declared.state.Relay.{Relay}
+use Rattle.mig_relay.specs.Following.{image_begins, pages_begin, image_whole, image_end, inner_end}
 use Rattle.mig_relay.proofs.Kept.{ListsNone, number_is, seen_more, ending, top_same, outer_same, records_more, libxl_going_on}
 use Rattle.mig_relay.proofs.Unrolls.{head_is, empty_is, no_padding}
 use Rattle.mig_relay.proofs.SpotParts.{alone_ended, wrapped_ended}
+use Rattle.mig_relay.specs.declared.state.Coming.TheVariants as comes
 
 -- ---- the head of an image's record, and an empty body behind it
 

@@ -1,21 +1,9 @@
 -- A record takes at least its head, and judging an image takes a front.
-use Rattle.std.proofs.Common.{◌≡◌, ℕ, ◌<◌, List, ◌∷◌, [], ◌++◌, length, sym, ap, ◌∙◌, arith, length-append}
-use Rattle.mig_bytes.specs.Fields.{le32, be32}
-use Rattle.mig_bytes.specs.Judged.{◌>>=◌, tried, placed}
-use Rattle.mig_bytes.specs.Judged.Judged.{Passes}
-use Rattle.mig_bytes.specs.Sequences.{onward}
-use Rattle.mig_bytes.proofs.Joins.{both_pass, placed_passes, same_passes}
-use Rattle.mig_bytes.proofs.Said.{said_passes}
-use Rattle.mig_bytes.proofs.Fronts.{TakesFronts, front_pass, front_said, front_then, front_placed}
-use Rattle.mig_headers.specs.Headers.{fault_of_marker, fault_of_image, fault_of_domain, kind_of_number}
-use Rattle.mig_headers.specs.declared.fault.Cause.TheVariants.{Truncated}
-use Rattle.mig_headers.specs.declared.fault.Place.TheVariants.{ImageHeader, DomainHeader, Record}
-use Rattle.mig_restore_form.specs.Record.{StreamRecord, is_ended}
-use Rattle.mig_restore_form.specs.Judging.{Opening, Before, opening_of, before, fault_of_head, head_at, record_at, next_at, fault_at_end}
-use Rattle.mig_restore_form.specs.Mean.{sent}
-use Rattle.mig_restore_form.specs.Stream.{image_of, opening_at, opening_behind, marker_at, version_at, kind_at, placed_next}
-use Rattle.mig_restore_form.proofs.Parts.{behind_head, begins, asks, behind_record}
-use Rattle.mig_relay.specs.Images.{open_next, open_records, open_image_at}
+use Rattle.mig_relay.proofs.Common.{◌≡◌, ℕ, ◌<◌, List, ◌∷◌, [], ◌++◌, length, sym, ap, ◌∙◌, arith, length-append, le32, be32, ◌>>=◌, tried, placed, Passes, onward, both_pass, placed_passes, same_passes, said_passes, TakesFronts, front_pass, front_said, front_then, front_placed, fault_of_marker, fault_of_image, fault_of_domain, kind_of_number, Truncated, ImageHeader, DomainHeader, Record, StreamRecord, is_ended, Opening, Before, opening_of, before, fault_of_head, head_at, record_at, sent, image_of, opening_behind, marker_at, version_at, kind_at, placed_next, begins, asks, open_next}
+use Rattle.mig_restore_form.specs.Judging.{next_at, fault_at_end}
+use Rattle.mig_restore_form.specs.Stream.{opening_at}
+use Rattle.mig_restore_form.proofs.Parts.{behind_head, behind_record}
+use Rattle.mig_relay.specs.Images.{open_records, open_image_at}
 use Rattle.mig_relay.proofs.Fronts.{Shrinks, front_onward}
 use Rattle.mig_relay.proofs.RecordFronts.{front_behind, front_record}
 

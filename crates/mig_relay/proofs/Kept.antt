@@ -1,29 +1,10 @@
 -- What a relay keeps once one more record stands behind it.
-use Rattle.std.proofs.Common.{◌≡◌, ◌≢◌, ℕ, ◌-◌, Bool, true, false, ◌||◌, List, [], ◌∷◌, ◌++◌, length, nat_eq, Option, Some, None, refl, sym, ap, subst, ◌∙◌, arith, length-append}
-use Rattle.std.proofs.lemmas.Bool.{ne_eqb, eq-eqb}
-use Rattle.std.proofs.lemmas.List.{length-map, map-append}
-use Rattle.mig_records.specs.PvBodies.{greater}
-use Rattle.mig_libxl_form.specs.Content.{LibxlRecord}
-use Rattle.mig_guest.specs.Guests.{GuestOf}
-use Rattle.mig_libxl_form.specs.Among.{is_libxl_ended, image_in, image_among}
-use Rattle.mig_libxl_form.specs.Behind.{AreBehind, kind_of_image}
-use Rattle.mig_libxl_form.specs.declared.head.RecordsBehind.{RecordsBehind}
-use Rattle.mig_libxl_form.proofs.Among.{emulator_more, among_more, among_first}
+use Rattle.mig_relay.proofs.Common.{◌≡◌, ◌≢◌, ℕ, ◌-◌, Bool, true, false, List, [], ◌∷◌, ◌++◌, length, nat_eq, Option, Some, None, refl, sym, ap, subst, ◌∙◌, arith, length-append, ne_eqb, eq-eqb, map-append, greater, LibxlRecord, GuestOf, is_libxl_ended, image_in, image_among, AreBehind, kind_of_image, RecordsBehind, emulator_more, among_first, RecordHead, Opening, before, sent, put_content, StreamRecord, Content, types_of, is_ended, is_verified, placed_content, Nothing, Frames, Sets, Lists, IsSeen, ImageOf, RecordsSeen, ended_more, one_more_record, HasNumber, KeepsGoing, KeepsOuter, KeepsRecords, with_one, record_with, Outer, Alone, Behind, Relay}
+use Rattle.std.proofs.Common.{◌||◌}
+use Rattle.std.proofs.lemmas.List.{length-map}
+use Rattle.mig_libxl_form.proofs.Among.{among_more}
+use Rattle.mig_restore_form.specs.Record.Content.{Checks}
 use Rattle.mig_libxl_form.proofs.Among as libxl
-use Rattle.mig_records.specs.declared.head.RecordHead.{RecordHead}
-use Rattle.mig_restore_form.specs.Judging.{Opening, before}
-use Rattle.mig_restore_form.specs.Mean.{sent, put_content}
-use Rattle.mig_restore_form.specs.Record.{StreamRecord, Content, types_of, is_ended, is_verified, placed_content}
-use Rattle.mig_restore_form.specs.Record.Content.{Nothing, Frames, Sets, Lists, Checks}
-use Rattle.mig_restore_form.specs.Seen.{IsSeen}
-use Rattle.mig_restore_form.specs.Stream.{ImageOf}
-use Rattle.mig_restore_form.specs.declared.head.RecordsSeen.{RecordsSeen}
-use Rattle.mig_restore_form.proofs.Meaning.{ended_more}
-use Rattle.mig_restore_form.proofs.Meaning.{one_more_record}
-use Rattle.mig_relay.specs.Keeping.{HasNumber, KeepsGoing, KeepsOuter, KeepsRecords, with_one}
-use Rattle.mig_relay.specs.Parts.{record_with}
-use Rattle.mig_relay.specs.Spots.{Outer, Alone, Behind}
-use Rattle.mig_relay.specs.declared.state.Relay.{Relay}
 
 -- ---- the records of an image
 

@@ -1,46 +1,26 @@
 -- No judging of a part tells a cause that is left out.
-use Rattle.std.proofs.Common.{◌≡◌, ℕ, zero, suc, ◌+◌, ◌*◌, Bool, true, false, cond, List, [], length, drop, Option, Some, None, Result, Ok, Err, refl}
-use Rattle.std.specs.Option.{option_or}
-use Rattle.mig_bytes.specs.Bytes.{padding_len}
-use Rattle.mig_bytes.specs.Fields.{le32, be32}
-use Rattle.mig_bytes.specs.Judged.{◌>>=◌, part, tried, plain_at, placed}
-use Rattle.mig_bytes.specs.Judged.Judged.{Passes}
-use Rattle.mig_bytes.specs.Sequences.{onward}
+use Rattle.mig_relay.proofs.Common.{◌≡◌, ℕ, zero, suc, ◌+◌, ◌*◌, Bool, true, false, cond, List, [], length, drop, Option, Some, None, Result, Ok, Err, refl, option_or, padding_len, le32, be32, ◌>>=◌, part, tried, plain_at, placed, Passes, onward, marker_rows, fault_of_marker, fault_of_image, fault_of_domain, kind_of_number, is_optional, type_of_number, Cause, Truncated, BadLength, Place, ImageHeader, DomainHeader, Record, Kind, RecordType, PageData, X86PvInfo, X86PvP2mFrames, word_pfn, word_has_data, PartCode, count_rows, fault_of_length, fault_of_count, fault_of_words, words, fault_of_pv_info, fault_of_p2m, fault_of_body, parts_of_body, Before, opening_of, before, fault_of_head, head_at, fault_of_level, fault_of_page, fault_of_data, page_at, entry_at, entries_at, words_at, with_places, lists_of, type_in_word, code_of_type, coded_at, typed_at, body_at, is_ended, is_verified, placed_content, Nothing, Frames, Sets, image_of, marker_at, version_at, kind_at, opening_behind, is_unasked, open_next}
 use Rattle.mig_headers.specs.Contexts.{scan}
-use Rattle.mig_headers.specs.Headers.{marker_rows, image_rows, domain_rows, fault_of_marker, fault_of_image, fault_of_domain, kind_of_number}
-use Rattle.mig_headers.specs.RecordTypes.{is_optional, type_of_number}
-use Rattle.mig_headers.specs.declared.fault.Cause.{Cause}
-use Rattle.mig_headers.specs.declared.fault.Cause.TheVariants.{Truncated, BadLength, Pv32, BadPvInfo, P2mStart, VcpuId, GdtEnts, ParamIndex, TooManyRecords}
-use Rattle.mig_headers.specs.declared.fault.Cause.TheVariants as told
+use Rattle.mig_headers.specs.Headers.{image_rows, domain_rows}
+use Rattle.mig_headers.specs.declared.fault.Cause.TheVariants.{Pv32, BadPvInfo, P2mStart, VcpuId, GdtEnts, ParamIndex, TooManyRecords}
 use Rattle.mig_headers.specs.declared.fault.ContextFault.{ContextFault}
-use Rattle.mig_headers.specs.declared.fault.Place.{Place}
-use Rattle.mig_headers.specs.declared.fault.Place.TheVariants.{ImageHeader, DomainHeader, Record}
-use Rattle.mig_headers.specs.declared.kind.Kind.{Kind}
-use Rattle.mig_headers.specs.declared.record_type.RecordType.{RecordType}
-use Rattle.mig_headers.specs.declared.record_type.RecordType.TheVariants.{PageData, X86PvInfo, X86PvP2mFrames}
-use Rattle.mig_pagetypes.specs.FrameWords.{word_pfn, word_has_data}
 use Rattle.mig_guest.specs.Formed.{gdt_ents}
 use Rattle.mig_guest.specs.Longs.{long_at}
 use Rattle.mig_guest.specs.Tables.{named_frame}
-use Rattle.mig_guest.specs.declared.part_code.PartCode.{PartCode}
 use Rattle.mig_guest.specs.declared.part_code.PartCode.TheVariants.{VcpuBasic, VcpuExtended, VcpuXsave, HvmParam, VcpuMsrs}
-use Rattle.mig_records.specs.Faults.{long_rows, length_rows, count_rows, word_rows, fault_of_long, fault_of_length, fault_of_count, fault_of_words}
-use Rattle.mig_records.specs.Words.{words}
+use Rattle.mig_records.specs.Faults.{long_rows, length_rows, word_rows, fault_of_long}
 use Rattle.mig_order.specs.Order.{Earlier, earlier_in, causes, fault_of_mandatory, fault_of_type}
 use Rattle.mig_records.specs.Layouts.{fault_of_key, fault_of_entry, fault_of_entries, entry_width, entry_count, front_width}
-use Rattle.mig_records.specs.PvBodies.{fault_of_pv_info, fault_of_p2m}
-use Rattle.mig_records.specs.Shapes.{shape_of, fault_of_content, fault_of_scan, fault_by_shape, fault_of_body, parts_of_body}
+use Rattle.mig_records.specs.Shapes.{shape_of, fault_of_content, fault_of_scan, fault_by_shape}
 use Rattle.mig_records.specs.declared.shape.Shape.{Shape}
 use Rattle.mig_records.specs.declared.shape.Shape.TheVariants.{Table, Single, Named, Chain, Other}
 use Rattle.mig_pvtables.specs.Tables.{first_superpage, first_outside}
-use Rattle.mig_restore_form.specs.Judging.{Before, opening_of, before, fault_of_number, fault_of_fields, fault_of_head, head_at, fault_of_level, fault_of_page, fault_of_data, page_at, entry_at, entries_at, words_at, with_places, lists_of, type_in_word, code_of_type, coded_at, typed_at, body_at, record_at}
-use Rattle.mig_restore_form.specs.Record.{is_ended, is_verified, placed_content}
-use Rattle.mig_restore_form.specs.Record.Content.{Nothing, Frames, Sets}
-use Rattle.mig_restore_form.specs.Stream.{image_of, marker_at, version_at, kind_at, opening_behind, opening_at}
+use Rattle.mig_restore_form.specs.Judging.{fault_of_number, fault_of_fields, record_at}
+use Rattle.mig_restore_form.specs.Stream.{opening_at}
 use Rattle.mig_restore_form.proofs.Parts.{behind_body, behind_head}
-use Rattle.mig_relay.specs.Causes.{is_unasked}
-use Rattle.mig_relay.specs.Images.{open_next, open_records, open_image_at}
+use Rattle.mig_relay.specs.Images.{open_records, open_image_at}
 use Rattle.mig_relay.proofs.Tells.{Names, Tells, names_rows, names_one, names_two, names_or, names_map, tells_then, tells_checked, tells_part, tells_said, tells_plain, tells_each, tells_onward, tells_placed}
+use Rattle.mig_headers.specs.declared.fault.Cause.TheVariants as told
 
 -- a cause that isn't left out, and one at any place
 abbrev pub IsKept : Cause → Type 0

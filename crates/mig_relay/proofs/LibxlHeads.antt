@@ -1,32 +1,16 @@
 -- What comes next behind the head of a libxl record.
-use Rattle.std.proofs.Common.{◌≡◌, ◌≢◌, ◌⊎◌, inl, inr, ℕ, ◌<◌, nat_eq, nat_le, Bool, true, false, List, [], length, Option, Some, None, refl, sym, ap, subst, ◌∙◌, arith}
+use Rattle.mig_relay.proofs.Common.{◌≡◌, ◌≢◌, ℕ, ◌<◌, nat_eq, nat_le, Bool, true, false, List, [], length, Option, Some, None, refl, sym, ap, subst, ◌∙◌, arith, leb-true, eqb-true, eqb-false, common_steps, LibxlRecord, Kind, image_among, AreBehind, kind_of_image, RecordsSeen, Wrapped, RecordsBehind, IsBegunBody, fault_of_libxl_body, head_in, RecordHead, ImageOf, ComesBehind, ComesNext, libxl_next, Keeps, KeepsGoing, KeepsWrapper, HasNumber, with_one, AtMarker, Behind, Spot, AtLibxlHead, AtLibxlBody, InImage, AtEnd, spot, Relay}
+use Rattle.std.proofs.Common.{◌⊎◌, inl, inr}
 use Rattle.std.specs.Prelude.{IsSome}
-use Rattle.std.proofs.lemmas.Bool.{leb-true, eqb-true, eqb-false}
-use Rattle.std.proofs.lemmas.Grind.{common_steps}
-use Rattle.mig_libxl_form.specs.Content.{LibxlRecord}
-use Rattle.mig_headers.specs.declared.kind.Kind.{Kind}
-use Rattle.mig_libxl_form.specs.Among.{image_among}
-use Rattle.mig_libxl_form.specs.Behind.{AreBehind, MayFollow, kind_of_image}
+use Rattle.mig_libxl_form.specs.Behind.{MayFollow}
 use Rattle.mig_libxl_form.specs.Judging.{allows_length}
-use Rattle.mig_restore_form.specs.declared.head.RecordsSeen.{RecordsSeen}
-use Rattle.mig_libxl_form.specs.Stream.StreamOf.{Wrapped}
-use Rattle.mig_libxl_form.specs.declared.head.RecordsBehind.{RecordsBehind}
-use Rattle.mig_relay_bodies.specs.Begun.{IsBegunBody}
-use Rattle.mig_relay_bodies.specs.Bodies.{fault_of_libxl_body}
-use Rattle.mig_records.specs.Heads.{head_in}
-use Rattle.mig_records.specs.declared.head.RecordHead.{RecordHead}
 use Rattle.mig_restore_form.specs.Judging.{most_records}
-use Rattle.mig_restore_form.specs.Stream.{ImageOf}
-use Rattle.mig_relay.specs.Following.{ComesBehind, ComesNext, libxl_begins, libxl_whole, libxl_next, libxl_context, libxl_end}
-use Rattle.mig_relay.specs.Keeping.{Keeps, KeepsGoing, KeepsWrapper, HasNumber, with_one}
-use Rattle.mig_relay.specs.Parts.{AtMarker}
-use Rattle.mig_relay.specs.Spots.{Behind, Spot, AtLibxlHead, AtLibxlBody, InImage, AtEnd, spot}
-use Rattle.mig_relay.specs.declared.state.Coming.TheVariants as comes
-use Rattle.mig_relay.specs.declared.state.Relay.{Relay}
+use Rattle.mig_relay.specs.Following.{libxl_begins, libxl_whole, libxl_context, libxl_end}
 use Rattle.mig_relay.proofs.BehindBodies.{no_image as no_image_said}
 use Rattle.mig_relay.proofs.Kept.{among_same, wrapped_more, libxl_ending}
 use Rattle.mig_relay.proofs.Openings.{wrapper_same}
 use Rattle.mig_relay.proofs.SpotParts.{behind_libxl_head, libxl_content, libxl_image, libxl_bodied, libxl_empty, libxl_ended, with_libxl}
+use Rattle.mig_relay.specs.declared.state.Coming.TheVariants as comes
 
 -- a relay that keeps what comes next, which is judged as what follows this head is
 pub record BegunLibxl (t : Relay) (records : List LibxlRecord) (head : RecordHead) : Type 0 where

@@ -1,27 +1,8 @@
 -- What a step over one part does, whatever the part is.
-use Rattle.std.proofs.Common.{◌≡◌, ℕ, ◌+◌, ◌<◌, ◌≤◌, List, [], ◌++◌, length, take, drop, Bool, true, false, cond, nat_lt, Option, Some, None, Result, Ok, Err, refl, sym, ap, subst, ◌∙◌, arith, append_assoc, append-nil, length-append, length-take-le, length-drop, take-append-drop}
-use Rattle.std.proofs.lemmas.Bool.{lt-ltb, ltb-true}
-use Rattle.std.specs.Io.KnownBytes.{Consumes, Appends}
-use Rattle.mig_bytes.specs.Bytes.{AppendsPart, TakesFew}
-use Rattle.mig_bytes.specs.Judged.{Judged, ◌>>=◌, part, tried, placed, Gives}
-use Rattle.mig_bytes.specs.Judged.Judged.{Passes, Faulty}
-use Rattle.mig_bytes.specs.declared.stop.Stop.{Stop}
-use Rattle.mig_bytes.specs.declared.stop.Stop.TheVariants as stops
-use Rattle.mig_bytes.proofs.Joins.{part_passes, part_whole, same_faulty}
+use Rattle.mig_relay.proofs.Common.{◌≡◌, ℕ, ◌+◌, ◌<◌, ◌≤◌, List, [], ◌++◌, length, take, drop, Bool, true, false, cond, nat_lt, Option, Some, None, Result, Ok, Err, refl, sym, ap, subst, ◌∙◌, arith, append_assoc, append-nil, length-append, length-take-le, length-drop, take-append-drop, lt-ltb, ltb-true, Consumes, Appends, AppendsPart, TakesFew, Judged, ◌>>=◌, part, tried, placed, Gives, Passes, Faulty, Stop, part_passes, part_whole, same_faulty, Cause, Truncated, Place, StreamOf, ComesNext, place_of_spot, Keeps, BeginsWithPart, Spot, spot, held, is_judged_first, counted, FrontsAreCut, PassedPiece, IsUnfinished, Refuses, Stops, StepMoved, MovedBy, answer_of, RelayAnswer, Refused, WriteFault, Memory, Step, Relay}
 use Rattle.mig_headers.specs.Headers.{unless_faulty}
-use Rattle.mig_headers.specs.declared.fault.Cause.{Cause}
-use Rattle.mig_headers.specs.declared.fault.Cause.TheVariants.{Truncated}
-use Rattle.mig_headers.specs.declared.fault.Place.{Place}
-use Rattle.mig_libxl_form.specs.Stream.{StreamOf}
-use Rattle.mig_relay.specs.Following.{ComesNext, place_of_spot}
-use Rattle.mig_relay.specs.Keeping.{Keeps}
-use Rattle.mig_relay.specs.Parts.{BeginsWithPart}
-use Rattle.mig_relay.specs.Spots.{Spot, spot, held}
-use Rattle.mig_relay.specs.Steps.{is_judged_first, counted, FrontsAreCut, PassedPiece, IsStep, IsUnfinished, KeepsWordsInHand, Refuses, Stops, StepMoved, MovedBy, answer_of}
-use Rattle.mig_relay.specs.declared.answer.RelayAnswer.{RelayAnswer}
-use Rattle.mig_relay.specs.declared.answer.RelayAnswer.TheVariants.{Refused, WriteFault, Memory}
-use Rattle.mig_relay.specs.declared.answer.Step.{Step}
-use Rattle.mig_relay.specs.declared.state.Relay.{Relay}
+use Rattle.mig_relay.specs.Steps.{IsStep, KeepsWordsInHand}
+use Rattle.mig_bytes.specs.declared.stop.Stop.TheVariants as stops
 
 -- a part that was taken whole into a buffer
 abbrev pub Buffered : List ℕ → Unit {0} → List ℕ → Type 0

@@ -1,31 +1,12 @@
 -- What a relay keeps behind the first parts of a stream.
-use Rattle.std.proofs.Common.{◌≡◌, ℕ, ◌≤◌, Bool, List, [], ◌++◌, length, take, true, false, cond, Option, None, Some, Ok, Err, refl, sym, ap, subst, ◌∙◌, arith}
-use Rattle.std.specs.Prelude.{nat_le, ◌&&◌}
+use Rattle.mig_relay.proofs.Common.{◌≡◌, ℕ, ◌≤◌, Bool, List, [], ◌++◌, length, take, true, false, cond, Option, None, Some, Ok, Err, refl, sym, ap, subst, ◌∙◌, arith, ◌&&◌, leb-true, Gives, part, Stop, part_passes, fault_of_marker, Cause, Truncated, ImageHeader, Kind, image_among, before, opening_of, IsSeen, RecordsSeen, LibxlRecord, KeepsRecords, KeepsWrapper, HasNumber, AtVersion, Alone, AtLibxlHeader, InImage, spot, is_ident, fault_of_first, IsNotRefused, answer_of, Relay}
+use Rattle.std.specs.Prelude.{nat_le}
 use Rattle.std.proofs.Math.Seq.{take-append_seam}
-use Rattle.std.proofs.lemmas.Bool.{leb-true}
-use Rattle.mig_bytes.specs.Judged.{Gives, part}
-use Rattle.mig_bytes.specs.declared.stop.Stop.{Stop}
-use Rattle.mig_bytes.specs.declared.stop.Stop.TheVariants as stops
-use Rattle.mig_bytes.proofs.Joins.{part_passes}
-use Rattle.mig_headers.specs.Headers.{fault_of_marker}
-use Rattle.mig_headers.specs.declared.fault.Cause.{Cause}
-use Rattle.mig_headers.specs.declared.fault.Cause.TheVariants.{Truncated}
-use Rattle.mig_headers.specs.declared.fault.Place.TheVariants.{ImageHeader}
-use Rattle.mig_headers.specs.declared.kind.Kind.{Kind}
-use Rattle.mig_libxl_form.specs.Among.{image_among}
-use Rattle.mig_restore_form.specs.Judging.{before, opening_of}
 use Rattle.mig_restore_form.specs.Mean.{sent}
-use Rattle.mig_restore_form.specs.Seen.{IsSeen}
-use Rattle.mig_restore_form.specs.declared.head.RecordsSeen.{RecordsSeen}
-use Rattle.mig_libxl_form.specs.Content.{LibxlRecord}
-use Rattle.mig_relay.specs.Keeping.{KeepsRecords, KeepsWrapper, HasNumber}
-use Rattle.mig_relay.specs.Parts.{AtVersion}
-use Rattle.mig_relay.specs.Spots.{Alone, AtLibxlHeader, InImage, spot, is_ident, begins_with_ident, fault_of_first}
-use Rattle.mig_relay.specs.Standing.{IsNotRefused}
-use Rattle.mig_relay.specs.Steps.{answer_of}
-use Rattle.mig_relay.specs.declared.state.Relay.{Relay}
+use Rattle.mig_relay.specs.Spots.{begins_with_ident}
 use Rattle.mig_relay.proofs.Moves.{Buffered, short_is}
 use Rattle.mig_relay.proofs.SpotParts.{start_follows}
+use Rattle.mig_bytes.specs.declared.stop.Stop.TheVariants as stops
 
 -- the form that the first 8 bytes tell
 pub wrapped_form : (bytes : List ℕ) → is_ident bytes ≡ true → (more : List ℕ) → start_follows bytes more ≡ spot AtLibxlHeader more

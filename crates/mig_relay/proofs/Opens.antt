@@ -1,10 +1,5 @@
 -- Two judgings of which one leaves causes out: they agree, or the first refuses for such a cause.
-use Rattle.std.proofs.Common.{◌≡◌, ℕ, zero, suc, ◌≤◌, Bool, true, false, List, [], ◌∷◌, ◌++◌, length, Option, refl, sym, subst, arith, le_refl}
-use Rattle.mig_bytes.specs.Judged.{Judged, ◌>>=◌, part, tried, said_at, placed}
-use Rattle.mig_bytes.specs.Judged.Judged.{Passes, Faulty}
-use Rattle.mig_bytes.specs.Sequences.{onward}
-use Rattle.mig_bytes.proofs.Joins.{passes_not, same_faulty}
-use Rattle.mig_bytes.proofs.Sequences.{over, goes_on}
+use Rattle.mig_relay.proofs.Common.{◌≡◌, ℕ, zero, suc, ◌≤◌, Bool, true, false, List, [], ◌∷◌, ◌++◌, length, Option, refl, sym, subst, arith, le_refl, Judged, ◌>>=◌, part, tried, said_at, placed, Passes, Faulty, onward, passes_not, same_faulty, over, goes_on}
 use Rattle.mig_relay.proofs.Fronts.{Shrinks}
 
 -- the second is what the first is; or the first refuses for a cause that is left out

@@ -1,20 +1,8 @@
 -- The front, the words and the pages of a PAGE_DATA are parts, one after another.
-use Rattle.std.proofs.Common.{◌≡◌, ℕ, ◌*◌, List, [], ◌∷◌, ◌++◌, true, false, Option, Some, None, refl, sym, ap, ◌∙◌, append_assoc, append-nil, length}
-use Rattle.std.specs.Option.{option_or}
-use Rattle.mig_bytes.specs.Fields.{le32}
-use Rattle.mig_bytes.specs.Judged.{Judged, ◌>>=◌, part, tried, placed, said_at, each}
-use Rattle.mig_bytes.specs.Judged.Judged.{Passes, Faulty}
-use Rattle.mig_headers.specs.declared.fault.Cause.{Cause}
-use Rattle.mig_headers.specs.declared.fault.Cause.TheVariants.{Truncated}
-use Rattle.mig_headers.specs.declared.fault.Place.TheVariants.{Record}
-use Rattle.mig_pagetypes.specs.FrameWords.{word_has_data}
-use Rattle.mig_records.specs.Faults.{fault_of_count, fault_of_words}
-use Rattle.mig_records.specs.Words.{words}
-use Rattle.mig_records.specs.declared.head.RecordHead.{RecordHead}
-use Rattle.mig_restore_form.specs.Record.{StreamRecord, FrameEntry, Content}
-use Rattle.mig_restore_form.specs.Record.Content.{Frames}
-use Rattle.mig_restore_form.specs.Judging.{Opening, before, fault_of_data, fault_of_page, with_places, entry_at, words_at, pages_at}
-use Rattle.mig_relay.specs.Parts.{AtPadding, judged_next, with_body, pages_behind, words_behind, fault_of_list, entry_of_word}
+use Rattle.mig_relay.proofs.Common.{◌≡◌, ℕ, ◌*◌, List, [], ◌∷◌, ◌++◌, true, false, Option, Some, None, refl, sym, ap, ◌∙◌, append_assoc, append-nil, length, option_or, le32, Judged, ◌>>=◌, part, tried, placed, said_at, Passes, Faulty, Cause, Truncated, Record, word_has_data, fault_of_count, fault_of_words, words, RecordHead, StreamRecord, FrameEntry, Content, Frames, Opening, before, fault_of_data, fault_of_page, with_places, entry_at, words_at, AtPadding, judged_next, with_body, fault_of_list, entry_of_word}
+use Rattle.mig_bytes.specs.Judged.{each}
+use Rattle.mig_restore_form.specs.Judging.{pages_at}
+use Rattle.mig_relay.specs.Parts.{pages_behind, words_behind}
 
 module _ (o : Opening) (records : List StreamRecord) (head : RecordHead) where
   abbrev kind_top : List (ℕ × ℕ) → List ℕ → Judged Cause (List FrameEntry)

@@ -1,49 +1,21 @@
 -- A PAGE_DATA on its way: its count, its words and its pages are parts, and words without a page are passed over.
-use Rattle.std.proofs.Common.{◌≡◌, ℕ, zero, suc, ◌+◌, ◌*◌, ◌-◌, ◌<◌, ◌≤◌, ◌^◌, ◌≢◌, Bool, true, false, cond, nat_eq, nat_lt, not, List, [], ◌∷◌, ◌++◌, length, drop, slice_index, replicate, Option, Some, None, Ok, Err, refl, sym, ap, subst, ◌∙◌, arith}
-use Rattle.std.specs.Option.{option_or}
+use Rattle.mig_relay.proofs.Common.{◌≡◌, ℕ, zero, suc, ◌+◌, ◌*◌, ◌-◌, ◌<◌, ◌≤◌, ◌^◌, ◌≢◌, Bool, true, false, cond, nat_eq, nat_lt, not, List, [], ◌∷◌, ◌++◌, length, drop, slice_index, Option, Some, None, Ok, Err, refl, sym, ap, subst, ◌∙◌, arith, option_or, ltb-true, ltb-false, eqb-true, eqb-false, not-false, map-append, padding_len, TakesFew, le32, Judged, ◌>>=◌, part, Gives, Stop, GuestOf, rows_fine, Cause, Truncated, BadLength, Place, Record, Kind, image_among, word_has_data, fault_of_count, fault_of_words, count_rows, words, RecordHead, ended_more, one_more_record, Opening, before, type_in_word, fault_of_data, fault_of_level, fault_of_page, with_places, sent, put_content, meant_type, StreamRecord, FrameEntry, types_of, is_verified, placed_content, Frames, IsSeen, ImageOf, RecordsSeen, ComesBehind, ComesNext, in_hand, more, image_next, Keeps, KeepsWords, HasNumber, KeepsRecords, KeepsHead, KeepsOuter, IsPages, AtHead, AtFront, AtWords, AtPages, judged_next, record_with, fault_of_list, entry_of_word, BeginsWithPart, Outer, Alone, Behind, Spot, InImage, spot, carry, Relay}
+use Rattle.std.proofs.Common.{replicate}
 use Rattle.std.specs.Prelude.{count_by}
-use Rattle.std.proofs.lemmas.Bool.{ltb-true, ltb-false, eqb-true, eqb-false, not-false}
 use Rattle.std.proofs.lemmas.List.FromFn.{length-map-range_with_len}
 use Rattle.std.proofs.lemmas.List.Sums.{sum_by-cons}
-use Rattle.std.proofs.lemmas.List.{drop_more, drop_all, map-append, length-append, length-replicate}
-use Rattle.mig_bytes.specs.Bytes.{padding_len, TakesFew}
-use Rattle.mig_bytes.specs.Fields.{le32, le64}
-use Rattle.mig_bytes.specs.Judged.{Judged, ◌>>=◌, part, Gives}
-use Rattle.mig_bytes.specs.declared.stop.Stop.{Stop}
+use Rattle.std.proofs.lemmas.List.{drop_more, drop_all, length-append, length-replicate}
+use Rattle.mig_bytes.specs.Fields.{le64}
 use Rattle.mig_bytes.proofs.Joins.{any_stop}
-use Rattle.mig_guest.specs.Guests.{GuestOf}
-use Rattle.mig_headers.proofs.FirstFaults.{rows_fine}
-use Rattle.mig_headers.specs.declared.fault.Cause.{Cause}
-use Rattle.mig_headers.specs.declared.fault.Cause.TheVariants.{Truncated, BadLength}
-use Rattle.mig_headers.specs.declared.fault.Place.{Place}
-use Rattle.mig_headers.specs.declared.fault.Place.TheVariants.{Record}
-use Rattle.mig_headers.specs.declared.kind.Kind.{Kind}
-use Rattle.mig_libxl_form.specs.Among.{image_among}
-use Rattle.mig_pagetypes.specs.FrameWords.{word_has_data}
 use Rattle.mig_pagetypes.specs.PageTypes.{level_of}
 use Rattle.mig_pagetypes.specs.declared.page_type.PageType.{PageType}
-use Rattle.mig_records.specs.Faults.{fault_of_count, fault_of_words, count_rows}
-use Rattle.mig_records.specs.Words.{words, data_len_of}
-use Rattle.mig_records.specs.declared.head.RecordHead.{RecordHead}
-use Rattle.mig_restore_form.proofs.Meaning.{ended_more}
-use Rattle.mig_restore_form.proofs.Meaning.{one_more_record}
-use Rattle.mig_restore_form.specs.Judging.{Opening, before, type_in_word, fault_of_data, fault_of_level, fault_of_page, with_places}
-use Rattle.mig_restore_form.specs.Mean.{sent, put_content, meant_type}
-use Rattle.mig_restore_form.specs.Record.{StreamRecord, FrameEntry, types_of, is_verified, placed_content}
-use Rattle.mig_restore_form.specs.Record.Content.{Frames}
-use Rattle.mig_restore_form.specs.Seen.{IsSeen}
-use Rattle.mig_restore_form.specs.Stream.{ImageOf}
-use Rattle.mig_restore_form.specs.declared.head.RecordsSeen.{RecordsSeen}
-use Rattle.mig_relay.specs.Following.{ComesBehind, ComesNext, CountDue, FillsBody, WordsDue, bytes_behind_head, due, head_spot, in_hand, pages_to_come, to_come, more, whole as last_bytes, image_next}
-use Rattle.mig_relay.specs.Keeping.{Keeps, KeepsWords, HasNumber, KeepsRecords, KeepsHead, KeepsOuter, IsPages}
-use Rattle.mig_relay.specs.Parts.{AtHead, AtFront, AtWords, AtPages, judged_next, record_with, fault_of_list, entry_of_word, BeginsWithPart}
-use Rattle.mig_relay.specs.Spots.{Outer, Alone, Behind, Spot, InImage, spot, carry}
-use Rattle.mig_relay.specs.declared.state.Relay.{Relay}
-use Rattle.mig_relay.specs.declared.state.Coming.TheVariants as comes
+use Rattle.mig_records.specs.Words.{data_len_of}
+use Rattle.mig_relay.specs.Following.{CountDue, FillsBody, WordsDue, bytes_behind_head, due, head_spot, pages_to_come, to_come, whole as last_bytes}
 use Rattle.mig_relay.proofs.Moves.{Buffered}
 use Rattle.mig_relay.proofs.PageParts.{front_part, words_part, page_part, no_page, pages_over}
 use Rattle.mig_relay.proofs.SpotParts.{lifted}
 use Rattle.mig_relay.proofs.Unrolls.{with, no_padding}
+use Rattle.mig_relay.specs.declared.state.Coming.TheVariants as comes
 
 -- the word that has the next page, and those behind it, with their places
 abbrev pub next_word : Relay → ℕ

@@ -1,19 +1,7 @@
 -- Which place a relay keeps, by what comes next.
-use Rattle.std.proofs.Common.{◌≡◌, ◌≢◌, ℕ, List, [], ◌∷◌, ◌++◌, None, sym, subst, ◌∙◌}
-use Rattle.std.specs.Prelude.{⊤}
-use Rattle.mig_bytes.specs.Bytes.{padding_len}
-use Rattle.mig_libxl_form.specs.Content.{LibxlRecord, LibxlContent}
-use Rattle.mig_libxl_form.specs.Among.{image_in}
-use Rattle.mig_libxl_form.specs.Stream.{StreamOf}
-use Rattle.mig_relay_bodies.specs.Bodies.{fault_of_record_body, fault_of_libxl_body}
-use Rattle.mig_restore_form.specs.Judging.{Opening, before}
-use Rattle.mig_restore_form.specs.Record.{StreamRecord, FrameEntry, Content, types_of}
-use Rattle.mig_relay.specs.Keeping.{Keeps, KeepsNext, KeepsOuter, KeepsGoing, KeepsOpen, KeepsRecords, KeepsHead, KeepsBody, KeepsFirst, KeepsWords, IsBodied, IsOther, IsPages, HasRecords, top_with}
-use Rattle.mig_relay.specs.Parts.{Next, AtMarker, AtVersion, AtKind, AtHead, AtBody, AtFront, AtWords, AtPages, AtPadding, record_with}
-use Rattle.mig_relay.specs.Spots.{Outer, Spot, AtStart, AtLibxlHeader, AtLibxlHead, AtLibxlBody, AtLibxlPadding, InImage, AtEnd}
-use Rattle.mig_relay.specs.declared.state.Coming.{Coming}
+use Rattle.mig_relay.proofs.Common.{◌≡◌, ◌≢◌, ℕ, List, [], ◌∷◌, ◌++◌, None, sym, subst, ◌∙◌, ⊤, padding_len, LibxlRecord, LibxlContent, image_in, StreamOf, fault_of_record_body, fault_of_libxl_body, Opening, before, StreamRecord, FrameEntry, Content, types_of, Keeps, KeepsNext, KeepsOuter, KeepsGoing, KeepsOpen, KeepsRecords, KeepsHead, KeepsFirst, KeepsWords, IsBodied, IsOther, IsPages, HasRecords, top_with, Next, AtMarker, AtVersion, AtKind, AtHead, AtBody, AtFront, AtWords, AtPages, AtPadding, record_with, Outer, Spot, AtStart, AtLibxlHeader, AtLibxlHead, AtLibxlBody, AtLibxlPadding, InImage, AtEnd, Coming, Relay}
+use Rattle.mig_relay.specs.Keeping.{KeepsBody}
 use Rattle.mig_relay.specs.declared.state.Coming.TheVariants as comes
-use Rattle.mig_relay.specs.declared.state.Relay.{Relay}
 
 -- ---- what comes next at a place
 

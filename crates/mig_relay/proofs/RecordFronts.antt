@@ -1,24 +1,7 @@
 -- Judging a record of an image takes a front, and looks at nothing behind it.
-use Rattle.std.proofs.Common.{ℕ, ◌*◌, List, Bool, true, false, cond, Option, Some, None}
-use Rattle.mig_bytes.specs.Bytes.{padding_len}
-use Rattle.mig_bytes.specs.Fields.{le32}
-use Rattle.mig_bytes.specs.Judged.{◌>>=◌, part, tried, plain_at}
-use Rattle.mig_bytes.specs.Judged.Judged.{Passes}
-use Rattle.mig_bytes.proofs.Fronts.{TakesFronts, front_pass, front_part, front_said, front_then, front_each}
-use Rattle.mig_headers.specs.RecordTypes.{is_optional, type_of_number}
-use Rattle.mig_headers.specs.declared.kind.Kind.{Kind}
-use Rattle.mig_headers.specs.declared.record_type.RecordType.{RecordType}
-use Rattle.mig_headers.specs.declared.record_type.RecordType.TheVariants.{PageData, X86PvInfo, X86PvP2mFrames}
-use Rattle.mig_headers.specs.declared.fault.Cause.TheVariants.{Truncated}
-use Rattle.mig_guest.specs.declared.part_code.PartCode.{PartCode}
-use Rattle.mig_pagetypes.specs.FrameWords.{word_pfn, word_has_data}
-use Rattle.mig_records.specs.PvBodies.{fault_of_pv_info, fault_of_p2m}
-use Rattle.mig_records.specs.Shapes.{fault_of_body, parts_of_body}
-use Rattle.mig_records.specs.Faults.{fault_of_count, fault_of_words}
-use Rattle.mig_records.specs.Words.{words}
-use Rattle.mig_restore_form.specs.Record.{is_verified, placed_content}
-use Rattle.mig_restore_form.specs.Record.Content.{Nothing, Frames, Sets}
-use Rattle.mig_restore_form.specs.Judging.{Before, fault_of_head, head_at, fault_of_page, page_at, entry_at, entries_at, words_at, with_places, fault_of_data, lists_of, code_of_type, coded_at, typed_at, body_at, record_at, type_in_word}
+use Rattle.mig_relay.proofs.Common.{ℕ, ◌*◌, List, Bool, true, false, cond, Option, Some, None, padding_len, le32, ◌>>=◌, part, tried, plain_at, Passes, TakesFronts, front_pass, front_part, front_said, front_then, is_optional, type_of_number, Kind, RecordType, PageData, X86PvInfo, X86PvP2mFrames, Truncated, PartCode, word_pfn, word_has_data, fault_of_pv_info, fault_of_p2m, fault_of_body, parts_of_body, fault_of_count, fault_of_words, words, is_verified, placed_content, Nothing, Frames, Sets, Before, fault_of_head, head_at, fault_of_page, page_at, entry_at, entries_at, words_at, with_places, fault_of_data, lists_of, code_of_type, coded_at, typed_at, body_at, type_in_word}
+use Rattle.mig_bytes.proofs.Fronts.{front_each}
+use Rattle.mig_restore_form.specs.Judging.{record_at}
 use Rattle.mig_restore_form.proofs.Parts.{behind_body, behind_head}
 use Rattle.mig_relay.proofs.Fronts.{front_checked, front_plain}
 

@@ -1,28 +1,12 @@
 -- A record of a libxl stream takes at least its head, and a front; and it is judged so with the causes left out.
-use Rattle.std.proofs.Common.{ℕ, Bool, true, false, cond, nat_eq, nat_le, nat_lt, List, [], ◌∷◌, length, drop, Option, Some, None, refl, ap, arith, length-append}
-use Rattle.std.specs.Option.{option_or}
-use Rattle.mig_bytes.specs.Bytes.{padding_len}
-use Rattle.mig_bytes.specs.Fields.{le32}
-use Rattle.mig_bytes.specs.Judged.{Judged, ◌>>=◌, part, tried, placed}
-use Rattle.mig_bytes.specs.Judged.Judged.{Passes}
-use Rattle.mig_bytes.proofs.Fronts.{TakesFronts, front_pass, front_part, front_said, front_then, front_placed}
-use Rattle.mig_bytes.proofs.Joins.{both_pass, placed_passes}
-use Rattle.mig_bytes.proofs.Said.{said_passes}
-use Rattle.mig_libxl_form.specs.Content.{LibxlRecord, LibxlContent}
-use Rattle.mig_libxl_form.specs.Content.LibxlContent.{Nothing, Image, Pairs, Context}
+use Rattle.mig_relay.proofs.Common.{ℕ, Bool, true, false, cond, nat_eq, nat_le, nat_lt, List, [], ◌∷◌, length, drop, Option, Some, None, refl, ap, arith, length-append, option_or, padding_len, le32, Judged, ◌>>=◌, part, tried, placed, Passes, TakesFronts, front_pass, front_part, front_said, front_then, front_placed, both_pass, placed_passes, said_passes, LibxlRecord, LibxlContent, Image, Pairs, Context, first_fault, Cause, Truncated, BadEmulator, EmulatorIndex, Place, is_libxl_ended, emulator_key, fault_of_libxl_head, libxl_head_at, context_at, skipped_at, pairs_in, image_at, open_image_at, open_fault_of_pairs, open_pairs_at, open_body, open_inner, open_content}
+use Rattle.mig_libxl_form.specs.Content.LibxlContent.{Nothing}
 use Rattle.mig_libxl_form.specs.Emulators.{EmulatorsOf, emulators_of, most_pairs, spelled_with}
-use Rattle.mig_headers.specs.Rows.{first_fault}
-use Rattle.mig_headers.specs.declared.fault.Cause.{Cause}
-use Rattle.mig_headers.specs.declared.fault.Cause.TheVariants.{Truncated, BadEmulator, TooManyPairs, EmulatorIndex}
-use Rattle.mig_headers.specs.declared.fault.Place.{Place}
+use Rattle.mig_headers.specs.declared.fault.Cause.TheVariants.{TooManyPairs}
 use Rattle.mig_headers.specs.declared.fault.Place.TheVariants.{LibxlRecord as AtRecord}
-use Rattle.mig_libxl_form.specs.Among.{is_libxl_ended}
-use Rattle.mig_libxl_form.specs.Judging.{emulator_key, fault_of_context, fault_of_pairs, fault_of_libxl_head, libxl_head_at, context_at, pairs_at, skipped_at, inner_at, body_of_type, libxl_content_at, libxl_record_at}
+use Rattle.mig_libxl_form.specs.Judging.{fault_of_context, fault_of_pairs, pairs_at, inner_at, body_of_type, libxl_content_at, libxl_record_at}
 use Rattle.mig_policy.specs.PairFaults.{pairs_fault}
-use Rattle.mig_policy.specs.PairMaps.{pairs_in}
-use Rattle.mig_restore_form.specs.Stream.{image_at}
-use Rattle.mig_relay.specs.Images.{open_image_at}
-use Rattle.mig_relay.specs.Streams.{open_fault_of_pairs, open_pairs_at, open_body, open_inner, open_content, open_libxl_record}
+use Rattle.mig_relay.specs.Streams.{open_libxl_record}
 use Rattle.mig_relay.proofs.Asked.{IsLeft, IsLeftCause, image_opens}
 use Rattle.mig_relay.proofs.Fronts.{Shrinks, front_plain}
 use Rattle.mig_relay.proofs.Images.{front_image}

@@ -1,38 +1,13 @@
 -- What comes next in a stream is a part of so many bytes, and what is judged behind it.
-use Rattle.std.proofs.Common.{◌≡◌, ◌≢◌, ℕ, ◌<◌, nat_le, nat_lt, ◌==◌, Bool, cond, List, [], ◌∷◌, ◌++◌, length, take, drop, true, false, Option, Some, None, refl, sym, ap, ◌∙◌, arith, length-append, length-take-le, take-append-drop, drop_at}
-use Rattle.std.proofs.lemmas.Bool.{lt-ltb, ltb-true, ltb-false, le-leb, lt-leb, ne_eqb, eq-eqb}
-use Rattle.mig_bytes.specs.Bytes.{padding_len}
-use Rattle.mig_bytes.specs.Fields.{le32, be64}
-use Rattle.mig_bytes.specs.Judged.{Judged, ◌>>=◌, part, tried, placed, said_at, plain_at}
-use Rattle.mig_bytes.specs.Judged.Judged.{Passes, Faulty}
-use Rattle.mig_bytes.specs.Sequences.{onward}
-use Rattle.mig_bytes.proofs.Joins.{said_part, no_bytes, part_whole}
+use Rattle.mig_relay.proofs.Common.{◌≡◌, ◌≢◌, ℕ, ◌<◌, nat_le, nat_lt, ◌==◌, Bool, cond, List, [], ◌∷◌, ◌++◌, length, take, drop, true, false, Option, Some, None, refl, sym, ap, ◌∙◌, arith, length-append, length-take-le, take-append-drop, lt-ltb, ltb-true, ltb-false, le-leb, ne_eqb, eq-eqb, padding_len, le32, be64, Judged, ◌>>=◌, part, tried, placed, said_at, plain_at, Passes, Faulty, onward, said_part, no_bytes, part_whole, over, goes_on, LibxlRecord, LibxlContent, Image, Pairs, Context, marker_of, fault_of_marker, fault_of_libxl, Cause, Truncated, Place, ImageHeader, LibxlHeader, is_libxl_ended, emulator_key, fault_of_libxl_head, libxl_head_at, StreamOf, Bare, Wrapped, open_image_at, open_bare, open_content, open_inner, open_body, fault_of_libxl_body, pairs_in, head_in, RecordHead, Opening, StreamRecord, is_ended, ImageOf, image_of, AtMarker, AtVersion, AtHead, BeginsWithPart, Alone, Behind, AtLibxlHeader, AtLibxlHead, AtLibxlBody, AtLibxlPadding, AtStart, InImage, AtEnd, spot, carry, image_record, is_ident, fault_of_first}
+use Rattle.std.proofs.Common.{drop_at}
+use Rattle.std.proofs.lemmas.Bool.{lt-leb}
 use Rattle.mig_relay.proofs.Binds.{bind_assoc}
-use Rattle.mig_bytes.proofs.Sequences.{over, goes_on}
-use Rattle.mig_libxl_form.specs.Content.{LibxlRecord, LibxlContent}
-use Rattle.mig_libxl_form.specs.Content.LibxlContent.{Nothing, Image, Pairs, Context}
-use Rattle.mig_headers.proofs.HeaderLaws.{marker_of}
-use Rattle.mig_headers.specs.Headers.{fault_of_marker, fault_of_libxl}
-use Rattle.mig_headers.specs.declared.fault.Cause.{Cause}
-use Rattle.mig_headers.specs.declared.fault.Cause.TheVariants.{Truncated}
-use Rattle.mig_headers.specs.declared.fault.Place.{Place}
-use Rattle.mig_headers.specs.declared.fault.Place.TheVariants.{ImageHeader, LibxlHeader, LibxlRecord as AtRecord}
-use Rattle.mig_libxl_form.specs.Among.{is_libxl_ended}
-use Rattle.mig_libxl_form.specs.Judging.{emulator_key, fault_of_libxl_head, libxl_head_at}
-use Rattle.mig_libxl_form.specs.Stream.{StreamOf}
-use Rattle.mig_libxl_form.specs.Stream.StreamOf.{Bare, Wrapped}
-use Rattle.mig_relay.specs.Images.{open_image_at}
-use Rattle.mig_relay.specs.Streams.{open_stream_at, open_wrapped, open_bare, open_libxl_records, open_libxl_record, open_content, open_inner, open_body}
+use Rattle.mig_libxl_form.specs.Content.LibxlContent.{Nothing}
+use Rattle.mig_headers.specs.declared.fault.Place.TheVariants.{LibxlRecord as AtRecord}
+use Rattle.mig_relay.specs.Streams.{open_stream_at, open_wrapped, open_libxl_records, open_libxl_record}
 use Rattle.mig_relay.proofs.Records.{libxl_shrinks}
-use Rattle.mig_relay_bodies.specs.Bodies.{fault_of_libxl_body}
-use Rattle.mig_policy.specs.PairMaps.{pairs_in}
-use Rattle.mig_records.specs.Heads.{head_in}
-use Rattle.mig_records.specs.declared.head.RecordHead.{RecordHead}
-use Rattle.mig_restore_form.specs.Judging.{Opening}
-use Rattle.mig_restore_form.specs.Record.{StreamRecord, is_ended}
-use Rattle.mig_restore_form.specs.Stream.{ImageOf, image_of}
-use Rattle.mig_relay.specs.Parts.{AtMarker, AtVersion, AtHead, BeginsWithPart}
-use Rattle.mig_relay.specs.Spots.{Alone, Behind, AtLibxlHeader, AtLibxlHead, AtLibxlBody, AtLibxlPadding, AtStart, InImage, AtEnd, spot, carry, image_record, libxl_padded, is_ident, fault_of_first}
+use Rattle.mig_relay.specs.Spots.{libxl_padded}
 use Rattle.mig_relay.proofs.Unrolls.{marker_is, ended}
 
 -- a part of an image is one of the stream around it, too

@@ -1,45 +1,26 @@
 -- From what a relay keeps to the bytes that it stands for.
-use Rattle.std.proofs.Common.{◌≡◌, ◌≢◌, ℕ, ◌≤◌, Bool, true, false, List, [], ◌∷◌, ◌++◌, length, take, drop, min, ◌+◌, ◌-◌, ◌^◌, ◌<◌, Option, Some, None, Result, Ok, Err, refl, sym, ap, subst, ◌∙◌, arith, append_assoc, append-nil, length-append, length-drop, take-append-drop}
+use Rattle.mig_relay.proofs.Common.{◌≡◌, ◌≢◌, ℕ, ◌≤◌, Bool, true, false, List, [], ◌∷◌, ◌++◌, length, take, drop, min, ◌+◌, ◌-◌, ◌^◌, ◌<◌, Option, Some, None, Result, Ok, Err, refl, sym, ap, subst, ◌∙◌, arith, append_assoc, append-nil, length-append, length-drop, take-append-drop, Consumes, Appends, AppendsPart, Judged, Passes, passes_not, Cause, Truncated, Place, StreamOf, IsPassable, fault_of_record_body, record_content, bodies_are_parts, before, with_places, ImageOf, in_hand, place_of_spot, Keeps, KeepsNext, HasRecords, Next, AtMarker, AtVersion, AtKind, AtHead, AtBody, AtFront, AtWords, AtPages, AtPadding, judged_next, BeginsWithPart, HasPassed, IsRelayed, Turned, RisesOnAnswer, WritesOnReadFault, Outer, Spot, AtStart, AtLibxlHeader, AtLibxlHead, AtLibxlBody, AtLibxlPadding, InImage, AtEnd, spot, held, carry, FrontsAreCut, PassedPiece, IsUnfinished, is_judged_first, Refuses, Stops, StepMoved, MovedBy, counted, Fits, RelayAnswer, Refused, WriteFault, Memory, Relayed, Step, Coming, Relay}
 use mathlib.Core.Logic.{inl, inr}
 use Rattle.std.specs.Prelude.{OnOk, is_some}
-use Rattle.std.specs.Io.KnownBytes.{Consumes, Appends, Keeps as Stays}
-use Rattle.mig_bytes.specs.Bytes.{AppendsPart}
+use Rattle.std.specs.Io.KnownBytes.{Keeps as Stays}
 use Rattle.mig_bytes.specs.Faults.{Rose}
-use Rattle.mig_bytes.specs.Judged.{Judged}
-use Rattle.mig_bytes.specs.Judged.Judged.{Passes}
-use Rattle.mig_bytes.proofs.Joins.{passes_not}
-use Rattle.mig_headers.specs.declared.fault.Cause.{Cause}
-use Rattle.mig_headers.specs.declared.fault.Cause.TheVariants.{Truncated}
-use Rattle.mig_headers.specs.declared.fault.Place.{Place}
-use Rattle.mig_libxl_form.specs.Stream.{StreamOf}
-use Rattle.mig_relay.specs.Streams.{open_stream_at, IsPassable}
+use Rattle.mig_relay.specs.Streams.{open_stream_at}
 use Rattle.mig_relay.proofs.Streams.{unfinished_is_not_accepted}
-use Rattle.mig_relay_bodies.specs.Bodies.{fault_of_record_body, record_content}
-use Rattle.mig_relay_bodies.proofs.Types.{bodies_are_parts}
 use Rattle.mig_restore_form.proofs.Batches.{places_len}
-use Rattle.mig_restore_form.specs.Judging.{before, with_places}
-use Rattle.mig_restore_form.specs.Stream.{ImageOf}
-use Rattle.mig_relay.specs.Following.{head_of_next, in_hand, place_of_spot}
-use Rattle.mig_relay.specs.Keeping.{Keeps, KeepsNext, HasRecords, Stands}
-use Rattle.mig_relay.specs.Parts.{Next, AtMarker, AtVersion, AtKind, AtHead, AtBody, AtFront, AtWords, AtPages, AtPadding, judged_next, BeginsWithPart}
-use Rattle.mig_relay.specs.Relaying.{HasPassed, IsRelayed, RelayedBy, PassedPart as IsWritten, RefusedPart, NoneIsAccepted, NoneWaits, IsCutPart, IsWrittenPart, Turned, TurnedBy, RisesOnAnswer, WritesOnReadFault, held_answer, unwritten}
-use Rattle.mig_relay.specs.Spots.{Outer, Spot, AtStart, AtLibxlHeader, AtLibxlHead, AtLibxlBody, AtLibxlPadding, InImage, AtEnd, spot, held, carry}
+use Rattle.mig_relay.specs.Following.{head_of_next}
+use Rattle.mig_relay.specs.Keeping.{Stands}
+use Rattle.mig_relay.specs.Relaying.{RelayedBy, PassedPart as IsWritten, RefusedPart, NoneIsAccepted, NoneWaits, IsCutPart, IsWrittenPart, TurnedBy, held_answer, unwritten}
 use Rattle.mig_relay.specs.Standing.{StandsForBytes, StepSays, PassesOn, IsRefusedBehind, WritesSomeBehind, StopsInside, is_at_end, is_within, goes_on}
-use Rattle.mig_relay.specs.Steps.{FrontsAreCut, RisesOnFault, PassedPiece, EndsInside, IsUnfinished, is_judged_first, Refuses, Stops, WritesSome, StepMoved, MovedBy, counted}
-use Rattle.mig_relay.specs.Waiting.{Fits, may_wait, most_waiting}
-use Rattle.mig_relay.specs.declared.answer.RelayAnswer.{RelayAnswer}
-use Rattle.mig_relay.specs.declared.answer.RelayAnswer.TheVariants.{Refused, ReadFault, WriteFault, Memory}
-use Rattle.mig_relay.specs.declared.answer.Relayed.{Relayed}
-use Rattle.mig_relay.specs.declared.answer.Step.{Step}
-use Rattle.mig_relay.specs.declared.answer.Step.TheVariants as steps
-use Rattle.mig_relay.specs.declared.state.Coming.{Coming}
-use Rattle.mig_relay.specs.declared.state.Coming.TheVariants as comes
-use Rattle.mig_relay.specs.declared.state.Relay.{Relay}
+use Rattle.mig_relay.specs.Steps.{RisesOnFault, EndsInside, WritesSome}
+use Rattle.mig_relay.specs.Waiting.{may_wait, most_waiting}
+use Rattle.mig_relay.specs.declared.answer.RelayAnswer.TheVariants.{ReadFault}
 use Rattle.mig_relay.proofs.Moves.{cut, nothing}
 use Rattle.mig_relay.proofs.Paging.{front_is, words_is, page_is}
 use Rattle.mig_relay.proofs.Places.{Told, told}
 use Rattle.mig_relay.proofs.SpotParts.{lifted, start_is, header_is, libxl_head_is, libxl_body_is, libxl_padding_is}
 use Rattle.mig_relay.proofs.Unrolls.{marker_is, version_is, kind_is, head_is, body_is, padding_is}
+use Rattle.mig_relay.specs.declared.answer.Step.TheVariants as steps
+use Rattle.mig_relay.specs.declared.state.Coming.TheVariants as comes
 
 -- ---- a relay that isn't at the end stands in a part that isn't whole
 

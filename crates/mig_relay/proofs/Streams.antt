@@ -1,32 +1,13 @@
 -- Judging a stream of either form takes a front, and no front of bytes that are refused is accepted.
-use Rattle.std.proofs.Common.{◌≡◌, ℕ, Bool, true, false, cond, nat_eq, nat_le, List, [], ◌++◌, length, take, drop, None, refl, sym, ap, ◌∙◌, arith, append_assoc, append-nil, length-append, length-take-le, take-append-drop}
-use Rattle.std.proofs.lemmas.Bool.{eqb-true, le-leb, leb-true, not-false}
+use Rattle.mig_relay.proofs.Common.{◌≡◌, ℕ, Bool, true, false, cond, nat_eq, nat_le, List, [], ◌++◌, length, take, drop, None, refl, sym, ap, ◌∙◌, arith, append_assoc, append-nil, length-append, length-take-le, take-append-drop, eqb-true, le-leb, leb-true, not-false, ◌&&◌, be64, ◌>>=◌, placed, Passes, onward, Front, TakesFronts, front_pass, front_said, front_then, front_placed, both_pass, passes_not, placed_passes, same_passes, said_passes, starts, LibxlRecord, rows_fine, marker_of, libxl_ident, marker_rows, fault_of_marker, fault_of_libxl, Cause, Truncated, Place, ImageHeader, LibxlHeader, is_libxl_ended, StreamOf, header_at, Bare, Wrapped, ImageOf, image_at, marker_at, opening_behind, is_unasked, open_bare, IsPassable, IsOpenRefused}
 use Rattle.std.proofs.lemmas.List.{drop_at}
-use Rattle.std.specs.Prelude.{◌&&◌}
-use Rattle.mig_bytes.specs.Fields.{be64}
-use Rattle.mig_bytes.specs.Judged.{◌>>=◌, placed}
-use Rattle.mig_bytes.specs.Judged.Judged.{Passes}
-use Rattle.mig_bytes.specs.Sequences.{sequence_at, onward}
-use Rattle.mig_bytes.proofs.Fronts.{Front, TakesFronts, front_pass, front_said, front_then, front_placed}
-use Rattle.mig_bytes.proofs.Joins.{both_pass, passes_not, placed_passes, same_passes}
-use Rattle.mig_bytes.proofs.Said.{said_passes}
-use Rattle.mig_bytes.proofs.Sequences.{starts}
-use Rattle.mig_libxl_form.specs.Content.{LibxlRecord}
-use Rattle.mig_headers.proofs.FirstFaults.{rows_fine}
-use Rattle.mig_headers.proofs.HeaderLaws.{marker_of}
-use Rattle.mig_headers.specs.Headers.{libxl_ident, marker, marker_rows, fault_of_marker, fault_of_libxl}
-use Rattle.mig_headers.specs.declared.fault.Cause.{Cause}
-use Rattle.mig_headers.specs.declared.fault.Cause.TheVariants.{Truncated}
-use Rattle.mig_headers.specs.declared.fault.Place.{Place}
-use Rattle.mig_headers.specs.declared.fault.Place.TheVariants.{ImageHeader, LibxlHeader}
-use Rattle.mig_libxl_form.specs.Among.{is_libxl_ended}
+use Rattle.mig_bytes.specs.Sequences.{sequence_at}
+use Rattle.mig_headers.specs.Headers.{marker}
 use Rattle.mig_libxl_form.specs.Judging.{libxl_record_at}
-use Rattle.mig_libxl_form.specs.Stream.{StreamOf, header_at, bare_at, wrapped_at, stream_at, IsStreamRefused}
-use Rattle.mig_libxl_form.specs.Stream.StreamOf.{Bare, Wrapped}
-use Rattle.mig_restore_form.specs.Stream.{ImageOf, image_at, marker_at, opening_at, opening_behind}
-use Rattle.mig_relay.specs.Causes.{is_unasked}
+use Rattle.mig_libxl_form.specs.Stream.{bare_at, wrapped_at, stream_at, IsStreamRefused}
+use Rattle.mig_restore_form.specs.Stream.{opening_at}
 use Rattle.mig_relay.specs.Images.{open_records, open_image_at}
-use Rattle.mig_relay.specs.Streams.{open_libxl_record, open_libxl_records, open_wrapped, open_bare, open_stream_at, IsPassable, IsOpenRefused}
+use Rattle.mig_relay.specs.Streams.{open_libxl_record, open_libxl_records, open_wrapped, open_stream_at}
 use Rattle.mig_relay.proofs.Asked.{IsLeft, image_opens}
 use Rattle.mig_relay.proofs.Fronts.{front_onward, joined}
 use Rattle.mig_relay.proofs.Images.{front_image}

@@ -1,28 +1,12 @@
 -- A refusal of a stream never tells a cause that is left out.
-use Rattle.std.proofs.Common.{◌≡◌, ℕ, Bool, true, false, cond, nat_eq, nat_le, List, [], length, drop, Option, Some, None, refl, subst}
-use Rattle.std.specs.Prelude.{◌&&◌}
-use Rattle.mig_bytes.specs.Bytes.{padding_len}
-use Rattle.mig_bytes.specs.Fields.{le32, be64}
-use Rattle.mig_bytes.specs.Judged.{part, placed}
-use Rattle.mig_bytes.specs.Judged.Judged.{Passes}
-use Rattle.mig_bytes.specs.Sequences.{onward}
-use Rattle.mig_libxl_form.specs.Content.{LibxlRecord}
-use Rattle.mig_libxl_form.specs.Content.LibxlContent.{Nothing, Image, Pairs, Context}
-use Rattle.mig_headers.specs.Headers.{libxl_ident, libxl_rows, fault_of_libxl}
+use Rattle.mig_relay.proofs.Common.{◌≡◌, ℕ, Bool, true, false, cond, nat_eq, nat_le, List, [], length, drop, Option, Some, None, refl, subst, ◌&&◌, padding_len, le32, be64, part, placed, Passes, onward, LibxlRecord, Image, Pairs, Context, libxl_ident, fault_of_libxl, Cause, Truncated, BadEmulator, EmulatorIndex, Place, LibxlHeader, is_libxl_ended, emulator_key, fault_of_libxl_head, libxl_head_at, context_at, skipped_at, header_at, Bare, Wrapped, pairs_in, is_unasked, open_image_at, open_fault_of_pairs, open_pairs_at, open_body, open_inner, open_content, open_bare, IsOpenRefused}
+use Rattle.mig_libxl_form.specs.Content.LibxlContent.{Nothing}
+use Rattle.mig_headers.specs.Headers.{libxl_rows}
 use Rattle.mig_headers.specs.Pairs.{texts_in}
-use Rattle.mig_headers.specs.declared.fault.Cause.{Cause}
-use Rattle.mig_headers.specs.declared.fault.Cause.TheVariants.{Truncated, BadEmulator, EmulatorIndex}
-use Rattle.mig_headers.specs.declared.fault.Place.{Place}
-use Rattle.mig_headers.specs.declared.fault.Place.TheVariants.{LibxlHeader, LibxlRecord as AtRecord}
-use Rattle.mig_libxl_form.specs.Among.{is_libxl_ended}
-use Rattle.mig_libxl_form.specs.Judging.{emulator_key, field_rows, order_rows, fault_of_libxl_fields, fault_of_order, fault_of_context, fault_of_libxl_head, libxl_head_at, context_at, skipped_at}
-use Rattle.mig_libxl_form.specs.Stream.{header_at}
-use Rattle.mig_libxl_form.specs.Stream.StreamOf.{Bare, Wrapped}
+use Rattle.mig_headers.specs.declared.fault.Place.TheVariants.{LibxlRecord as AtRecord}
+use Rattle.mig_libxl_form.specs.Judging.{field_rows, order_rows, fault_of_libxl_fields, fault_of_order, fault_of_context}
 use Rattle.mig_policy.specs.PairFaults.{torn_at, bad_key_at, first_of, pairs_fault}
-use Rattle.mig_policy.specs.PairMaps.{pairs_in}
-use Rattle.mig_relay.specs.Causes.{is_unasked}
-use Rattle.mig_relay.specs.Images.{open_image_at}
-use Rattle.mig_relay.specs.Streams.{open_fault_of_pairs, open_pairs_at, open_body, open_inner, open_content, open_libxl_record, open_libxl_records, open_wrapped, open_bare, open_stream_at, IsOpenRefused}
+use Rattle.mig_relay.specs.Streams.{open_libxl_record, open_libxl_records, open_wrapped, open_stream_at}
 use Rattle.mig_relay.proofs.KeptCauses.{IsKept, IsKeptAt, image_kept}
 use Rattle.mig_relay.proofs.Records.{behind_content, behind_head}
 use Rattle.mig_relay.proofs.Tells.{Names, Tells, names_rows, names_two, names_or, tells_then, tells_part, tells_said, tells_plain, tells_onward, tells_placed}

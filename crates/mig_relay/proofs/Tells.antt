@@ -1,13 +1,9 @@
 -- Judgings that tell no causes but some.
-use Rattle.std.proofs.Common.{ℕ, Bool, true, false, cond, List, [], ◌∷◌, length, take, drop, nat_lt, Option, Some, None}
-use Rattle.std.specs.Prelude.{⊤}
-use Rattle.std.specs.List.{AllByRecursion}
-use Rattle.std.specs.Option.{option_map, option_or}
-use Rattle.mig_bytes.specs.Judged.{Judged, ◌>>=◌, part, tried, said_at, plain_at, each, placed}
-use Rattle.mig_bytes.specs.Judged.Judged.{Passes, Faulty}
+use Rattle.mig_relay.proofs.Common.{ℕ, Bool, true, false, cond, List, [], ◌∷◌, length, take, drop, nat_lt, Option, Some, None, ⊤, AllByRecursion, option_or, Judged, ◌>>=◌, part, tried, said_at, plain_at, placed, Passes, Faulty, first_fault}
+use Rattle.std.specs.Option.{option_map}
+use Rattle.mig_bytes.specs.Judged.{each}
 use Rattle.mig_bytes.specs.Sequences.{Front, grown, ended_at, onward}
 use Rattle.mig_bytes.specs.Walk.{walk_end}
-use Rattle.mig_headers.specs.Rows.{first_fault}
 
 -- no cause stands, or one of these
 abbrev pub Names : {C : Type 0} → (C → Type 0) → Option C → Type 0

@@ -1,27 +1,12 @@
 -- What comes next in an image is a part of so many bytes, and what is judged behind it.
-use Rattle.std.proofs.Common.{◌≡◌, ℕ, ◌<◌, List, [], ◌∷◌, ◌++◌, length, true, false, Option, None, refl, ap, ◌∙◌, arith}
-use Rattle.mig_bytes.specs.Bytes.{padding_len}
-use Rattle.mig_bytes.specs.Fields.{le32, be32}
-use Rattle.mig_bytes.specs.Judged.{Judged, ◌>>=◌, part, tried, placed, said_at}
-use Rattle.mig_bytes.specs.Judged.Judged.{Passes, Faulty}
-use Rattle.mig_bytes.specs.Sequences.{onward}
-use Rattle.mig_bytes.proofs.Joins.{said_part, plain_part, no_bytes}
+use Rattle.mig_relay.proofs.Common.{◌≡◌, ℕ, ◌<◌, List, [], ◌∷◌, ◌++◌, length, true, false, Option, None, refl, ap, ◌∙◌, arith, padding_len, le32, be32, Judged, ◌>>=◌, part, tried, placed, said_at, Passes, Faulty, onward, said_part, no_bytes, over, goes_on, fault_of_marker, fault_of_image, fault_of_domain, kind_of_number, Cause, Truncated, Place, ImageHeader, DomainHeader, Record, open_next, head_in, RecordHead, Opening, opening_of, before, fault_of_head, head_at, record_at, body_at, StreamRecord, Content, is_ended, image_of, opening_behind, marker_at, version_at, kind_at, begins, AtMarker, AtVersion, AtKind, AtHead, AtBody, AtPadding, judged_next, record_with, with_body, BeginsWithPart}
+use Rattle.mig_bytes.proofs.Joins.{plain_part}
 use Rattle.mig_relay.proofs.Binds.{bind_assoc, placed_bind}
-use Rattle.mig_bytes.proofs.Sequences.{over, goes_on}
-use Rattle.mig_headers.specs.Headers.{fault_of_marker, fault_of_image, fault_of_domain, kind_of_number}
-use Rattle.mig_headers.specs.declared.fault.Cause.{Cause}
-use Rattle.mig_headers.specs.declared.fault.Cause.TheVariants.{Truncated}
-use Rattle.mig_headers.specs.declared.fault.Place.{Place}
-use Rattle.mig_headers.specs.declared.fault.Place.TheVariants.{ImageHeader, DomainHeader, Record}
-use Rattle.mig_relay.specs.Images.{open_next, open_records, open_image_at}
+use Rattle.mig_relay.specs.Images.{open_records, open_image_at}
 use Rattle.mig_relay.proofs.Images.{open_shrinks}
-use Rattle.mig_records.specs.Heads.{head_in}
-use Rattle.mig_records.specs.declared.head.RecordHead.{RecordHead}
-use Rattle.mig_restore_form.specs.Judging.{Opening, opening_of, before, fault_of_head, head_at, record_at, body_at}
-use Rattle.mig_restore_form.specs.Record.{StreamRecord, Content, is_ended}
-use Rattle.mig_restore_form.specs.Stream.{image_of, opening_at, opening_behind, marker_at, version_at, kind_at}
-use Rattle.mig_restore_form.proofs.Parts.{begins, behind_head, behind_body}
-use Rattle.mig_relay.specs.Parts.{AtMarker, AtVersion, AtKind, AtHead, AtBody, AtPadding, judged_next, record_with, with_record, with_body, padded, BeginsWithPart}
+use Rattle.mig_restore_form.specs.Stream.{opening_at}
+use Rattle.mig_restore_form.proofs.Parts.{behind_head, behind_body}
+use Rattle.mig_relay.specs.Parts.{with_record, padded}
 
 -- ---- headers
 

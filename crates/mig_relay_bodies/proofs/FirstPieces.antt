@@ -1,24 +1,8 @@
 -- What is known behind the first piece of a body.
-use Rattle.std.proofs.Common.{◌≡◌, ◌≢◌, ℕ, ◌+◌, ◌-◌, ◌*◌, ◌≤◌, min, List, ◌++◌, length, take, drop, fold, Option, Some, sym, ap, subst, ◌∙◌, arith, length-drop}
-use Rattle.std.specs.Option.{option_or}
-use Rattle.std.specs.Prelude.{◌/◌}
-use Rattle.mig_bytes.specs.Fields.{le32}
-use Rattle.mig_records.specs.Layouts.{fault_of_entries}
-use Rattle.mig_records.specs.PvBodies.{fault_of_pv_info, fault_of_p2m}
-use Rattle.mig_records.specs.Shapes.{fault_of_body, fault_of_content}
-use Rattle.mig_guest.specs.declared.part_code.PartCode.TheVariants.{VcpuBasic, VcpuExtended, HvmParam}
-use Rattle.mig_headers.proofs.ContextTexts.{in32}
-use Rattle.mig_headers.specs.declared.fault.Cause.{Cause}
-use Rattle.mig_headers.specs.declared.fault.Cause.TheVariants.{BadLength}
+use Rattle.mig_relay_bodies.proofs.Common.{◌≡◌, ◌≢◌, ℕ, ◌+◌, ◌-◌, ◌*◌, ◌≤◌, min, List, ◌++◌, length, take, drop, fold, Option, Some, sym, ap, subst, ◌∙◌, arith, length-drop, option_or, ◌/◌, le32, fault_of_entries, fault_of_pv_info, fault_of_body, fault_of_content, VcpuBasic, VcpuExtended, HvmParam, in32, Cause, BadLength, pairs_fault, piece_of, params, IsKnown, no_bytes, then_byte, BodyForm, PvInfo, P2mFrames, BasicVcpu, OtherVcpu, HvmParams, EmulatorPairs, EmulatorContext, Knows, Nothing, Texts, Params, Basic, Verdict, Pairs}
+use Rattle.mig_records.specs.PvBodies.{fault_of_p2m}
 use Rattle.mig_libxl_form.specs.Judging.{fault_of_context}
-use Rattle.mig_policy.specs.PairFaults.{pairs_fault}
-use Rattle.mig_relay_bodies.specs.Begun.{piece_of, FitsForm, fault_of_form, params, IsKnown}
-use Rattle.mig_relay_bodies.specs.PairPieces.{no_bytes, then_byte}
-use Rattle.mig_relay_bodies.specs.declared.known.BodyForm.{BodyForm}
-use Rattle.mig_relay_bodies.specs.declared.known.BodyForm.TheVariants.{PvInfo, P2mFrames, BasicVcpu, OtherVcpu, HvmParams, EmulatorPairs, EmulatorContext}
-use Rattle.mig_relay_bodies.specs.declared.known.Knows.{Knows}
-use Rattle.mig_relay_bodies.specs.declared.known.Knows.TheVariants.{Nothing, Texts, Params, Basic, Verdict}
-use Rattle.mig_relay_bodies.specs.declared.pairs.Pairs.{Pairs}
+use Rattle.mig_relay_bodies.specs.Begun.{FitsForm, fault_of_form}
 use Rattle.mig_relay_bodies.proofs.Fronts.{none_left, info_told, other_told, basic_told, params_misfit, params_told}
 
 -- ---- behind a first piece

@@ -1,25 +1,13 @@
 -- What the first bytes of a body tell of its fault.
-use Rattle.std.proofs.Common.{◌≡◌, ◌≢◌, ℕ, zero, suc, ◌+◌, ◌*◌, ◌<◌, ◌≤◌, true, false, not, nat_eq, nat_lt, List, [], ◌∷◌, ◌++◌, length, take, drop, get_or, Option, Some, None, refl, sym, ap, ◌∙◌, arith, length-append, length-drop, length-take-le, zero-add}
-use Rattle.std.proofs.lemmas.Bool.{eq-eqb, ne_eqb}
+use Rattle.mig_relay_bodies.proofs.Common.{◌≡◌, ◌≢◌, ℕ, zero, suc, ◌+◌, ◌*◌, ◌<◌, ◌≤◌, true, false, not, nat_eq, nat_lt, List, [], ◌∷◌, ◌++◌, length, take, drop, Option, Some, None, refl, sym, ap, ◌∙◌, arith, length-append, length-drop, eq-eqb, ne_eqb, option_or, common_steps, drop-append-le, ◌/◌, little_number, le32, fault_of_key, fault_of_entry, fault_of_entries, fault_of_table, fault_of_pv_info, fault_of_body, fault_of_content, PartCode, VcpuBasic, VcpuExtended, HvmParam, first_fault, Cause, BadLength, in32, params}
+use Rattle.std.proofs.Common.{get_or, length-take-le, zero-add}
 use Rattle.std.proofs.Math.Seq.{drop-append-add}
-use Rattle.std.specs.Option.{option_or}
-use Rattle.std.proofs.lemmas.Grind.{common_steps}
-use Rattle.std.proofs.lemmas.List.{get_or_append_left, get_or-take, drop-append-le, drop-drop}
-use Rattle.std.specs.Prelude.{◌/◌}
-use Rattle.byteorder.specs.Endian.{little_number}
+use Rattle.std.proofs.lemmas.List.{get_or_append_left, get_or-take, drop-drop}
 use Rattle.byteorder.specs.Numbers.{little_from-append, little_from-take}
-use Rattle.mig_bytes.specs.Fields.{le32, le64}
-use Rattle.mig_records.specs.Layouts.{fault_of_key, fault_of_entry, fault_of_entries, fault_of_table}
-use Rattle.mig_records.specs.PvBodies.{fault_of_pv_info}
-use Rattle.mig_records.specs.Shapes.{fault_by_shape, fault_of_body, fault_of_content}
+use Rattle.mig_bytes.specs.Fields.{le64}
+use Rattle.mig_records.specs.Shapes.{fault_by_shape}
 use Rattle.mig_records.specs.declared.shape.Shape.TheVariants.{Named}
-use Rattle.mig_guest.specs.declared.part_code.PartCode.{PartCode}
-use Rattle.mig_guest.specs.declared.part_code.PartCode.TheVariants.{VcpuBasic, VcpuExtended, HvmParam}
-use Rattle.mig_headers.specs.Rows.{first_fault}
-use Rattle.mig_headers.specs.declared.fault.Cause.{Cause}
-use Rattle.mig_headers.specs.declared.fault.Cause.TheVariants.{BadLength, GdtEnts}
-use Rattle.mig_headers.proofs.ContextTexts.{in32}
-use Rattle.mig_relay_bodies.specs.Begun.{params}
+use Rattle.mig_headers.specs.declared.fault.Cause.TheVariants.{GdtEnts}
 
 -- ---- numbers in the first bytes
 

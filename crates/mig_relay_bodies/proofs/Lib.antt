@@ -1,3 +1,4 @@
+pub mod Common
 pub mod ContextChain
 pub mod PairPieces
 pub mod Fronts

@@ -1,24 +1,9 @@
 -- What is known behind a piece more, and of the whole body.
-use Rattle.std.proofs.Common.{◌≡◌, ℕ, ◌+◌, ◌-◌, ◌*◌, ◌<◌, ◌^◌, min, List, [], ◌∷◌, ◌++◌, length, drop, fold, Option, sym, ap, subst, ◌∙◌, arith, append_assoc, append-nil, length-append, length-drop}
-use Rattle.std.specs.Option.{option_or}
-use Rattle.std.specs.Prelude.{◌/◌}
-use Rattle.std.proofs.lemmas.List.{drop-append-le}
+use Rattle.mig_relay_bodies.proofs.Common.{◌≡◌, ℕ, ◌+◌, ◌-◌, ◌*◌, ◌<◌, ◌^◌, min, List, [], ◌∷◌, ◌++◌, length, drop, fold, Option, sym, ap, subst, ◌∙◌, arith, append_assoc, append-nil, length-append, length-drop, option_or, ◌/◌, drop-append-le, fault_of_entries, fault_of_content, VcpuBasic, HvmParam, scan, Cause, pairs_fault, piece_of, params, IsKnown, IsBegunContext, no_bytes, then_byte, Chain, BodyForm, Knows, Nothing, Entries, Texts, Params, Basic, Verdict, Pairs}
 use Rattle.std.proofs.lemmas.List.Sums.{fold-append}
-use Rattle.mig_records.specs.Layouts.{fault_of_entries}
-use Rattle.mig_records.specs.Shapes.{fault_of_content, fault_of_scan}
-use Rattle.mig_guest.specs.declared.part_code.PartCode.TheVariants.{VcpuBasic, HvmParam}
-use Rattle.mig_headers.specs.Contexts.{scan}
-use Rattle.mig_headers.specs.declared.fault.Cause.{Cause}
-use Rattle.mig_policy.specs.PairFaults.{pairs_fault}
-use Rattle.mig_relay_bodies.specs.Begun.{piece_of, piece_len, fault_behind, params, IsKnown, IsBegunBody}
-use Rattle.mig_relay_bodies.specs.ContextChain.{IsBegunContext}
-use Rattle.mig_relay_bodies.specs.PairPieces.{no_bytes, then_byte}
+use Rattle.mig_records.specs.Shapes.{fault_of_scan}
+use Rattle.mig_relay_bodies.specs.Begun.{piece_len, fault_behind, IsBegunBody}
 use Rattle.mig_relay_bodies.specs.declared.body.BodySeen.{BodySeen}
-use Rattle.mig_relay_bodies.specs.declared.chain.Chain.{Chain}
-use Rattle.mig_relay_bodies.specs.declared.known.BodyForm.{BodyForm}
-use Rattle.mig_relay_bodies.specs.declared.known.Knows.{Knows}
-use Rattle.mig_relay_bodies.specs.declared.known.Knows.TheVariants.{Nothing, Entries, Texts, Params, Basic, Verdict}
-use Rattle.mig_relay_bodies.specs.declared.pairs.Pairs.{Pairs}
 use Rattle.mig_relay_bodies.proofs.Fronts.{none_left, or_none, params_further}
 use Rattle.mig_relay_bodies.proofs.FirstPieces.{KnownFirst, FirstOf}
 

@@ -1,21 +1,17 @@
 -- Bodies of which only the length is asked, and what each type of record is judged by.
-use Rattle.std.proofs.Common.{◌≡◌, ◌≢◌, ℕ, zero, suc, ◌+◌, ◌*◌, true, false, not, nat_eq, List, [], ◌∷◌, length, drop, Option, Some, None, refl, sym, ap, subst, ◌∙◌, arith, inl}
-use Rattle.std.specs.Prelude.{◌/◌, ◌%◌}
-use Rattle.std.specs.Option.{option_or}
-use Rattle.std.proofs.lemmas.Bool.{and_parts, eqb-true, eq-eqb}
+use Rattle.mig_relay_bodies.proofs.Common.{◌≡◌, ◌≢◌, ℕ, zero, suc, ◌+◌, ◌*◌, true, false, not, nat_eq, List, [], ◌∷◌, length, drop, Option, Some, None, refl, sym, ap, subst, ◌∙◌, arith, inl, ◌/◌, option_or, eq-eqb, fault_of_key, fault_of_entries, fault_of_table, PartCode, first_fault, Cause, BadLength, IsKnown, Entry, Entries, Verdict}
+use Rattle.std.specs.Prelude.{◌%◌}
+use Rattle.std.proofs.lemmas.Bool.{and_parts, eqb-true}
 use Rattle.mig_bytes.proofs.Joins.{part_whole}
 use Rattle.mig_bytes.specs.Judged.{Judged, ◌>>=◌, part, tried, said_at}
 use Rattle.mig_bytes.specs.Judged.Judged.{Passes, Faulty}
 use Rattle.mig_bytes.specs.Walk.Reaches.{here}
-use Rattle.mig_records.specs.Layouts.{layout, fault_of_key, fault_of_entries, fault_of_table}
+use Rattle.mig_records.specs.Layouts.{layout}
 use Rattle.mig_records.specs.declared.layout.Layout.{Layout}
-use Rattle.mig_guest.specs.declared.part_code.PartCode.{PartCode}
 use Rattle.mig_guest.specs.declared.part_code.PartCode.TheVariants.{CpuidLeaf, Msr}
 use Rattle.mig_headers.proofs.RecordNumbers.{numbers_are_inverse}
 use Rattle.mig_headers.specs.RecordTypes.{record_row_of, type_number, type_of_number, is_optional}
-use Rattle.mig_headers.specs.Rows.{first_fault}
-use Rattle.mig_headers.specs.declared.fault.Cause.{Cause}
-use Rattle.mig_headers.specs.declared.fault.Cause.TheVariants.{BadLength, Truncated}
+use Rattle.mig_headers.specs.declared.fault.Cause.TheVariants.{Truncated}
 use Rattle.mig_headers.specs.declared.kind.Kind.{Kind}
 use Rattle.mig_headers.specs.declared.record_type.RecordType.{RecordType}
 use Rattle.mig_headers.specs.declared.record_type.RecordType.TheVariants.{End, PageData, X86PvInfo, X86PvP2mFrames, X86PvVcpuBasic, X86PvVcpuExtended, X86PvVcpuXsave, SharedInfo, X86TscInfo, HvmContext, HvmParams, Toolstack, X86PvVcpuMsrs, Verify, Checkpoint, CheckpointDirtyPfnList, StaticDataEnd, X86CpuidPolicy, X86MsrPolicy}
@@ -27,11 +23,8 @@ use Rattle.mig_restore_form.specs.Judging.{typed_at, body_at}
 use Rattle.mig_restore_form.specs.Record.{Content}
 use Rattle.mig_restore_form.specs.Record.Content.{Nothing}
 use Rattle.mig_records.specs.Faults.{type_allows}
-use Rattle.mig_relay_bodies.specs.Begun.{IsKnown}
 use Rattle.mig_relay_bodies.specs.Bodies.{fault_of_typed, fault_of_record_body, typed_content, record_content}
 use Rattle.mig_relay_bodies.specs.Laws.{BodiesAreParts}
-use Rattle.mig_relay_bodies.specs.declared.chain.Chain.TheVariants.{Entry}
-use Rattle.mig_relay_bodies.specs.declared.known.Knows.TheVariants.{Entries, Verdict}
 
 -- ---- bodies of which only the length is asked
 

@@ -1,26 +1,22 @@
 -- An accepted guest is whole: each content that is spelled keeps it well formed, and its END asks for the rest.
-use Rattle.mig_restore_form.proofs.Common.{◌≡◌, ℕ, zero, suc, ◌^◌, ◌<◌, ◌≤◌, Bool, true, false, List, [], ◌∷◌, ◌++◌, length, Option, Some, is_some, refl, sym, ap, subst, ◌∙◌, arith, eqb-true, none-some, same_Some, All, common_steps, AreBytes, le32, record_row_of, type_number, type_of_number, Kind, Pv, Hvm, RecordType, numbers_are_inverse, pfn_limit, word_has_data, type_has_data, PageType, IsInside, HasNoEmulators, GuestOf, words, IsInOrder, shape_of, bodies_are_spelled, is_shaped, Opening, meant_type, put_entry, put_entries, put_content, IsBegun, Grows, FrameEntry, Content, StreamRecord, types_of, is_verified, is_ended, Sets, Lists, IsPage, IsEntry, AreEntries, IsGoodWord, HasContent, IsComplete, Follows, Accepted, Spells}
-use Rattle.std.proofs.lemmas.List.Elements.{All-head, All-tail}
-use Rattle.mig_headers.specs.declared.record_type.RecordType.TheVariants.{X86PvP2mFrames}
-use Rattle.mig_pagetypes.specs.declared.page_type.PageType.TheVariants.{Notab}
+use Rattle.mig_restore_form.proofs.Common.{◌≡◌, ℕ, zero, suc, ◌^◌, ◌<◌, ◌≤◌, Bool, true, false, List, [], ◌∷◌, ◌++◌, length, Option, Some, is_some, refl, sym, ap, subst, ◌∙◌, arith, eqb-true, none-some, same_Some, All, common_steps, AreBytes, le32, record_row_of, type_number, type_of_number, Kind, Pv, Hvm, RecordType, numbers_are_inverse, pfn_limit, word_has_data, type_has_data, PageType, IsInside, GuestOf, words, IsInOrder, shape_of, bodies_are_spelled, is_shaped, Opening, meant_type, put_entry, put_entries, put_content, IsBegun, Grows, FrameEntry, Content, StreamRecord, types_of, is_verified, is_ended, Sets, Lists, IsPage, IsEntry, AreEntries, HasContent, IsComplete, Follows, Accepted, Spells, All-head, All-tail, X86PvP2mFrames, Notab, bytes_back, blank, optional, ends, pages, sets, info, p2m_frames, static_end, verify, no_part, one_more}
+use Rattle.mig_guest.specs.Formed.{HasNoEmulators}
+use Rattle.mig_restore_form.specs.Spelled.{IsGoodWord}
 use Rattle.mig_order.specs.Order.IsInOrder.{optional as is_optional, ordered as is_ordered}
-use Rattle.mig_records.proofs.BodyBytes.{bytes_front, bytes_back}
+use Rattle.mig_records.proofs.BodyBytes.{bytes_front}
 use Rattle.mig_records.proofs.Reading.{AreOctets}
 use Rattle.mig_records.proofs.Small.{small_parts}
-use Rattle.mig_pvtables.specs.Blank.{blank, IsOfBytes}
+use Rattle.mig_pvtables.specs.Blank.{IsOfBytes}
 use Rattle.mig_pvtables.specs.Whole.{IsWhole}
 use Rattle.mig_pvtables.proofs.BlankAgain.{blank_again}
 use Rattle.mig_pvtables.proofs.BlankBytesKept.{blank_bytes}
 use Rattle.mig_pvtables.proofs.BlankWhole.{whole_blank, blank_plain}
 use Rattle.mig_restore_form.specs.Mean.{sent}
-use Rattle.mig_restore_form.specs.Spelled.HasContent.{optional, ends, pages, sets, info, p2m_frames, static_end, verify}
-use Rattle.mig_bytes.specs.Sequences.Spells.{no_part, one_more}
-use Rattle.mig_restore_form.proofs.Meaning.{ended_more}
+use Rattle.mig_restore_form.proofs.Meaning.{ended_more, one_more_record, sent_kind, meant_as_sent}
 use Rattle.mig_restore_form.proofs.Bodies.{no_type}
 use Rattle.mig_restore_form.proofs.Growth.{empty_begun, grows_not, grows_on, word_inside, grows_frame, grows_sets, grows_list, has_length, same_kinds, sets_no_emulator}
 use Rattle.mig_restore_form.proofs.Batches.{carries}
 use Rattle.mig_restore_form.proofs.Laws.{complete_faultless}
-use Rattle.mig_restore_form.proofs.Meaning.{one_more_record, sent_kind, meant_as_sent}
 use Rattle.mig_restore_form.proofs.Compared.{placed_is}
 
 -- ---- bytes

@@ -1,18 +1,20 @@
 -- What is spelled as the format says is accepted.
-use Rattle.mig_restore_form.proofs.Common.{◌≡◌, ℕ, ◌≤◌, ◌<◌, ◌^◌, List, [], ◌∷◌, ◌++◌, length, true, false, nat_le, not, Option, None, refl, sym, ap, subst, ◌∙◌, arith, append_assoc, take, drop, take-append-drop, length-take-le, length-drop, ◌⊎◌, inl, inr, common_steps, le-ltb, lt-leb, length-map, padding_len, le32, be32, Judged, ◌>>=◌, part, placed, Passes, Faulty, part_whole, same_passes, fault_of_marker, fault_of_image, fault_of_domain, kind_of_number, IsImageHeader, IsDomainHeader, type_of_number, Cause, TooManyRecords, Truncated, Place, Kind, GuestOf, long_rows, length_rows, type_allows, fault_of_long, fault_of_length, IsInOrder, fault_of_type, fault_of_guest, StreamRecord, is_ended, is_verified, placed_content, types_of, Opening, Before, opening_of, before, fault_of_head, head_at, fault_at_end, body_at, Follows, IsImage, Accepted, ImageOf, image_of, records_at, IsRefused, then_passes, tried_none, no_fault, neither_some, said_at, said_goes, Spells}
-use Rattle.mig_bytes.proofs.Sequences as fronts
-use Rattle.mig_headers.proofs.HeaderLaws.{image_is_spelled, domain_is_spelled, unless_ok}
-use Rattle.mig_headers.specs.declared.fault.Place.TheVariants as places
+use Rattle.mig_restore_form.proofs.Common.{◌≡◌, ℕ, ◌≤◌, ◌<◌, ◌^◌, List, [], ◌∷◌, ◌++◌, length, true, false, nat_le, not, Option, None, refl, sym, ap, subst, ◌∙◌, arith, append_assoc, drop, length-drop, ◌⊎◌, inl, inr, common_steps, le-ltb, length-map, padding_len, le32, be32, Judged, ◌>>=◌, part, placed, Passes, Faulty, part_whole, same_passes, fault_of_marker, fault_of_image, fault_of_domain, kind_of_number, IsImageHeader, IsDomainHeader, type_of_number, Cause, TooManyRecords, Truncated, Place, Kind, GuestOf, long_rows, length_rows, type_allows, fault_of_long, fault_of_length, IsInOrder, fault_of_type, fault_of_guest, StreamRecord, is_ended, is_verified, placed_content, types_of, Opening, Before, opening_of, before, fault_of_head, head_at, fault_at_end, body_at, Follows, IsImage, Accepted, ImageOf, image_of, records_at, then_passes, tried_none, no_fault, said_at, said_goes, Spells, image_is_spelled, domain_is_spelled, faultless_is_in_order, record_at, next_at, sent, placed_next}
+use Rattle.std.proofs.Common.{take, take-append-drop, length-take-le}
+use Rattle.std.proofs.lemmas.Bool.{lt-leb}
+use Rattle.mig_restore_form.specs.Stream.{IsRefused, opening_at, image_at}
+use Rattle.mig_headers.proofs.FirstFaults.{neither_some}
+use Rattle.mig_headers.proofs.HeaderLaws.{unless_ok}
 use Rattle.mig_headers.specs.declared.header.ImageHeader.{ImageHeader}
 use Rattle.mig_headers.specs.declared.header.DomainHeader.{DomainHeader}
-use Rattle.mig_order.proofs.OrderLaw.{faultless_is_in_order}
 use Rattle.mig_restore_form.proofs.Meaning.{sent_kind}
-use Rattle.mig_restore_form.specs.Judging.{fault_of_fields, record_at, next_at}
-use Rattle.mig_restore_form.specs.Mean.{sent, mean}
-use Rattle.mig_restore_form.specs.Stream.{opening_at, image_at, placed_next}
+use Rattle.mig_restore_form.specs.Judging.{fault_of_fields}
+use Rattle.mig_restore_form.specs.Mean.{mean}
 use Rattle.mig_restore_form.proofs.Parts.{begins, behind_head, behind_body, asks, behind_record}
 use Rattle.mig_restore_form.proofs.Bodies.{body_goes, length_fits}
 use Rattle.mig_restore_form.proofs.Laws.{complete_faultless, finds, accepted_is_image, behind_marker, behind_version, behind_kind}
+use Rattle.mig_bytes.proofs.Sequences as fronts
+use Rattle.mig_headers.specs.declared.fault.Place.TheVariants as places
 
 -- ---- a record
 

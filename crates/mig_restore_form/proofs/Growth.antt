@@ -1,27 +1,21 @@
 -- What reading keeps of a guest: each frame, part or list of P2M frames that is set leaves it on its way.
-use Rattle.mig_restore_form.proofs.Common.{◌≡◌, ◌≢◌, ℕ, ◌^◌, ◌≤◌, ◌<◌, List, [], ◌∷◌, length, Bool, true, false, cond, nat_eq, Option, Some, None, is_some, refl, sym, ap, subst, ◌∙◌, AllByRecursion, same_Some, none-some, ltb-false, arith, ne_eqb, unwrap_or, AreBytes, Kind, Pv, Hvm, pfn_limit, type_has_data, PageType, AreParts, is_emulator_code, width_of, IsInside, EachEntry, IsWithin, GuestOf, Part, PartMap, p2m_key, part_cmp, empty_formed, frames_keep, record_row_of, type_number, type_of_number, RecordType, numbers_are_inverse, PartCode, row_of, code_number, shape_of, has_shape, fault_of_body, parts_of_body, set_parts, set_p2m, IsP2m, IsBody, HasBodyLength, bodies_are_spelled, code_of_type, meant_type, Sets, says_of_part, last_bytes, parts_say_of_part, policy_says_of_part, empty_guest, IsBegun, Grows}
-use Rattle.mig_pagetypes.specs.FrameWords.{word_pfn}
-use Rattle.std.specs.FinMap as fin
-use Rattle.std.specs.Option.{option_map, option_or}
-use Rattle.std.specs.Ordering.{eq_by_cmp, nat_cmp}
-use Rattle.std.specs.Cmp.{nat_cmp_total}
+use Rattle.mig_restore_form.proofs.Common.{◌≡◌, ◌≢◌, ℕ, ◌^◌, ◌≤◌, ◌<◌, List, [], ◌∷◌, length, Bool, true, false, cond, nat_eq, Option, Some, None, is_some, refl, sym, ap, subst, ◌∙◌, AllByRecursion, same_Some, none-some, ltb-false, arith, ne_eqb, unwrap_or, AreBytes, Kind, Pv, Hvm, pfn_limit, type_has_data, PageType, IsInside, EachEntry, IsWithin, GuestOf, Part, PartMap, p2m_key, part_cmp, record_row_of, type_number, type_of_number, RecordType, numbers_are_inverse, PartCode, code_number, shape_of, has_shape, fault_of_body, parts_of_body, set_p2m, IsP2m, IsBody, bodies_are_spelled, code_of_type, meant_type, Sets, says_of_part, last_bytes, parts_say_of_part, policy_says_of_part, empty_guest, IsBegun, Grows, word_pfn, option_map, option_or, eq_by_cmp, nat_cmp, nat_cmp_total, is_policy, FrameMap, FrameOf, framed, PartKey, tied, part_total, part_exact, End, listed_over, bytes_back}
+use Rattle.mig_guest.specs.Formed.{AreParts, is_emulator_code, width_of}
+use Rattle.mig_guest.proofs.Kept.{empty_formed, frames_keep}
+use Rattle.mig_guest.specs.PartCodes.{row_of}
+use Rattle.mig_records.specs.Shapes.{set_parts, HasBodyLength}
 use Rattle.std.specs.FinMap.{nat_cmp-IsAntisymmetric}
 use Rattle.mig_pagetypes.specs.declared.page_type.PageType.TheVariants.{Xtab}
-use Rattle.mig_guest.specs.Formed.{is_policy}
-use Rattle.mig_guest.specs.Frames.{FrameMap, FrameOf, framed, is_type_of}
-use Rattle.mig_guest.specs.declared.part_key.PartKey.{PartKey}
+use Rattle.mig_guest.specs.Frames.{is_type_of}
 use Rattle.mig_guest.proofs.Found.{Each, insert_holds, remove_holds}
-use Rattle.mig_guest.proofs.KeyedMaps.{tied}
-use Rattle.mig_guest.proofs.PartOrder.{part_total, part_exact}
 use Rattle.mig_guest.proofs.PartRows.{number_found}
-use Rattle.mig_headers.specs.declared.record_type.RecordType.TheVariants.{End}
 use Rattle.mig_records.specs.Words.{is_outside}
 use Rattle.mig_records.specs.Layouts.{IsSmallKey}
-use Rattle.mig_records.specs.PvBodies.{listed_over}
-use Rattle.mig_records.proofs.BodyBytes.{bytes_back, bodies_say_bytes, sets_bytes, list_bytes}
+use Rattle.mig_records.proofs.BodyBytes.{bodies_say_bytes, sets_bytes, list_bytes}
 use Rattle.mig_records.proofs.Kept.{bodies_say_parts, bodies_keep_formed, set_plain, sets_nothing}
 use Rattle.mig_records.proofs.P2mFormed.{p2m_keeps}
 use Rattle.mig_restore_form.proofs.Meaning.{said}
+use Rattle.std.specs.FinMap as fin
 
 -- ---- steps
 

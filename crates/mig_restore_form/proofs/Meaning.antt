@@ -1,22 +1,14 @@
 -- What one more entry, or one more record, means; and that of each frame number and of each part the last decides.
-use Rattle.mig_restore_form.proofs.Common.{is_ended, types_of, map-append, ◌||◌, ◌≡◌, ℕ, List, [], ◌∷◌, ◌++◌, Bool, true, false, cond, not, nat_eq, Option, Some, None, refl, sym, ap, ◌∙◌, arith, option_and_then, unwrap_or, fold, common_steps, Kind, PageType, GuestOf, part_cmp, Part, PartMap, put_part, put_parts, replace_code, leb-false, le_refl, nat_le, ◌≤◌, ◌≢◌, ◌⊎◌, inl, inr, subst, All, p2m_key, set_p2m, word_pfn, type_in_word, FrameEntry, StreamRecord, Content, Nothing, Frames, Sets, Lists, Checks, code_number, ends_in, ends_of, meant_type, put_entry, put_entries, put_content, put_record, empty_guest, entries_in, entries_of, last_entry, frame_in, same_key, last_bytes, parts_say_of_part, policy_says_of_part, says_of_part, last_said}
-use Rattle.std.proofs.lemmas.Bool.{leb-true}
-use Rattle.std.proofs.lemmas.List.Elements.{All-nil, All-cons, All-append, Contains-append_left, Contains-append_right}
-use Rattle.std.specs.List.{Contains, list_any}
-use Rattle.std.specs.Option.{option_or}
-use Rattle.std.specs.Ordering.{nat_cmp, eq_by_cmp}
-use Rattle.std.specs.Cmp.{nat_cmp_total}
-use Rattle.std.specs.FinMap as fin
+use Rattle.mig_restore_form.proofs.Common.{is_ended, types_of, map-append, ◌||◌, ◌≡◌, ℕ, List, [], ◌∷◌, ◌++◌, Bool, true, false, cond, not, nat_eq, Option, Some, None, refl, sym, ap, ◌∙◌, arith, unwrap_or, common_steps, Kind, PageType, GuestOf, part_cmp, Part, PartMap, put_part, put_parts, leb-false, nat_le, ◌≤◌, ◌≢◌, ◌⊎◌, inl, inr, subst, All, p2m_key, set_p2m, word_pfn, type_in_word, FrameEntry, StreamRecord, Content, Nothing, Frames, Sets, Lists, Checks, code_number, meant_type, put_entry, put_entries, put_content, empty_guest, entries_in, entries_of, frame_in, last_bytes, parts_say_of_part, policy_says_of_part, says_of_part, leb-true, All-nil, All-cons, option_or, nat_cmp, eq_by_cmp, nat_cmp_total, PartKey, listed_over, is_policy, FrameMap, FrameOf, framed, tied, part_total, part_exact, blank, list_any-append}
+use Rattle.std.specs.Prelude.{option_and_then}
+use Rattle.std.specs.List.{fold, Contains, list_any}
+use Rattle.mig_guest.specs.Parts.{replace_code}
+use Rattle.std.proofs.Common.{le_refl}
+use Rattle.mig_restore_form.specs.Mean.{ends_in, ends_of, put_record, last_entry, same_key, last_said, sent, mean}
+use Rattle.std.proofs.lemmas.List.Elements.{All-append, Contains-append_left, Contains-append_right}
 use Rattle.std.proofs.lemmas.List.Sums.{fold-append}
-use Rattle.mig_guest.specs.declared.part_key.PartKey.{PartKey}
-use Rattle.mig_records.specs.PvBodies.{listed_over, greater}
-use Rattle.mig_guest.specs.Formed.{is_policy}
-use Rattle.mig_guest.specs.Frames.{FrameMap, FrameOf, framed}
-use Rattle.mig_guest.proofs.KeyedMaps.{tied}
-use Rattle.mig_guest.proofs.PartOrder.{part_total, part_exact}
-use Rattle.mig_pvtables.specs.Blank.{blank}
-use Rattle.std.proofs.lemmas.List.Folds.{list_any-append}
-use Rattle.mig_restore_form.specs.Mean.{sent, mean}
+use Rattle.mig_records.specs.PvBodies.{greater}
+use Rattle.std.specs.FinMap as fin
 
 pub one_more_entry : (g h k : GuestOf) (es : List FrameEntry) (e : FrameEntry) → h ≡ record g { frames = put_entries g.kind g.frames es } → k ≡ record h { frames = put_entry h.kind h.frames e }
     → k ≡ record g { frames = put_entries g.kind g.frames (es ++ e ∷ []) }

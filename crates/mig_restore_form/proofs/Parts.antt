@@ -1,8 +1,7 @@
 -- A record behind its head and behind its body, and the whole guest behind the last record.
-use Rattle.mig_restore_form.proofs.Common.{◌≡◌, ℕ, List, [], ◌∷◌, ◌++◌, false, nat_eq, Option, Some, None, length, refl, sym, ap, ◌∙◌, arith, common_steps, padding_len, le32, Judged, ◌>>=◌, part, tried, Passes, Faulty, both_pass, part_passes, tried_passes, Cause, Truncated, Kind, fault_of_guest, StreamRecord, Content, is_verified, placed_content, Opening, Before, before, head_at, body_at, fault_of_head, fault_at_end}
+use Rattle.mig_restore_form.proofs.Common.{◌≡◌, ℕ, List, [], ◌∷◌, ◌++◌, false, nat_eq, Option, Some, None, length, refl, sym, ap, ◌∙◌, arith, common_steps, padding_len, le32, Judged, ◌>>=◌, part, tried, Passes, Faulty, both_pass, part_passes, tried_passes, Cause, Truncated, Kind, fault_of_guest, StreamRecord, Content, is_verified, placed_content, Opening, Before, before, head_at, body_at, fault_of_head, fault_at_end, sent}
 use Rattle.mig_records.specs.declared.head.RecordHead.{RecordHead}
 use Rattle.mig_records.specs.Heads.{head_in}
-use Rattle.mig_restore_form.specs.Mean.{sent}
 use Rattle.mig_restore_form.specs.Judging.{record_at, next_at}
 
 unfoldable pub behind_body : Before → List ℕ → Content × List ℕ → Judged Cause StreamRecord

@@ -1,15 +1,11 @@
 -- Parts set one after another in the order of their keys: the map has them, and else what it had.
-use Rattle.mig_restore_form.proofs.Common.{◌≡◌, List, [], ◌∷◌, Option, None, Some, refl, ap, ◌∙◌, part_cmp, Part, PartMap, put_part, put_parts}
-use Rattle.std.specs.FinMap as maps
+use Rattle.mig_restore_form.proofs.Common.{◌≡◌, List, [], ◌∷◌, Option, None, Some, refl, ap, ◌∙◌, part_cmp, Part, PartMap, put_part, put_parts, option_or, eq_by_cmp, PartKey, part_total, part_exact}
 use Rattle.std.specs.FinMap.{find, is_sorted}
 use Rattle.std.specs.FinMap.Entries.{below_all}
-use Rattle.std.specs.Option.{option_or}
-use Rattle.std.specs.Ordering.{eq_by_cmp}
 use Rattle.std.specs.Prelude.{T}
-use Rattle.mig_guest.specs.declared.part_key.PartKey.{PartKey}
 use Rattle.mig_guest.proofs.Found.{found_first}
 use Rattle.mig_guest.proofs.PartCursor.{both_of}
-use Rattle.mig_guest.proofs.PartOrder.{part_total, part_exact}
+use Rattle.std.specs.FinMap as maps
 
 pub or_none : {X : Type 0} (o : Option X) → option_or o None ≡ o
 or_none None = refl

@@ -1,13 +1,8 @@
 -- No number of a tree is a float.
-use Rattle.std.proofs.Common.{◌≡◌, ℕ, Bool, true, false, cond, List, [], ◌∷◌, map, Option, Some, None, refl}
-use Rattle.serde_json.specs.View.{items_of}
-use Rattle.serde_json.specs.Written.{has_float, items_have_float, members_have_float}
-use Rattle.mig_headers.specs.declared.fault.Place.{Place}
-use Rattle.mig_headers.specs.declared.fault.Cause.{Cause}
-use Rattle.mig_headers.specs.declared.kind.Kind.{Kind}
+use Rattle.mig_show.proofs.Common.{◌≡◌, ℕ, Bool, true, false, cond, List, [], ◌∷◌, map, Option, Some, None, refl, items_of, has_float, Place, Cause, Kind, Seen1, is_page_data, record_tree, kind_tree, version_tree, refused_tree, shown_tree}
+use Rattle.serde_json.specs.Written.{items_have_float, members_have_float}
 use Rattle.mig_headers.specs.declared.kind.Kind.TheVariants.{Pv, Hvm}
-use Rattle.mig_show.specs.declared.record.Seen1.{Seen1}
-use Rattle.mig_show.specs.Tree.{is_page_data, common_members, with_pages, record_tree, kind_tree, version_tree, refused_tree, shown_tree}
+use Rattle.mig_show.specs.Tree.{common_members, with_pages}
 
 of_members : (pages : Bool) (shown : Seen1) → members_have_float (cond pages (with_pages shown (common_members shown)) (common_members shown)) ≡ false
 of_members true shown = refl

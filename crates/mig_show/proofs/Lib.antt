@@ -1,3 +1,4 @@
+pub mod Common
 pub mod Floats
 pub mod Spacing
 pub mod Stages

@@ -1,13 +1,6 @@
 -- What is shown of an input is the only thing that can be.
-use Rattle.std.proofs.Common.{◌≡◌, ℕ, ◌≤◌, Bool, true, false, List, ◌++◌, length, Option, Some, None, refl, sym, ap, ◌∙◌, arith, length-append}
-use Rattle.std.specs.Io.KnownBytes.{Consumes}
-use Rattle.serde_json.specs.Data.{Data}
-use Rattle.mig_headers.specs.declared.fault.Cause.{Cause}
-use Rattle.mig_headers.specs.declared.fault.Place.{Place}
-use Rattle.mig_relay.specs.Spots.{begins_with_ident}
-use Rattle.mig_show.specs.Fronts.{ShownFront, StandsBefore, StandsWhole, image_first, header_first, libxl_header, libxl_record, libxl_context, libxl_end, image_header, domain_header, image_record, image_end}
-use Rattle.mig_show.specs.Shows.{Shows, ShowsWhole, front_tree}
-use Rattle.mig_show.specs.declared.record.Seen1.{Seen1}
+use Rattle.mig_show.proofs.Common.{◌≡◌, ℕ, ◌≤◌, Bool, true, false, List, ◌++◌, length, Option, Some, None, refl, sym, ap, ◌∙◌, arith, length-append, Consumes, Data, Cause, Place, begins_with_ident, ShownFront, StandsBefore, StandsWhole, image_first, header_first, libxl_header, libxl_record, libxl_context, libxl_end, image_header, domain_header, image_record, image_end, Shows, front_tree, Seen1}
+use Rattle.mig_show.specs.Shows.{ShowsWhole}
 use Rattle.mig_show.proofs.OneFront.{only_one_front}
 use Rattle.mig_show.proofs.Passing.{form_on}
 

@@ -1,35 +1,22 @@
 -- What a viewer has seen behind a step of the relay.
-use Rattle.std.proofs.Common.{◌≡◌, ◌≢◌, ◌⊎◌, inl, inr, ℕ, ◌+◌, ◌*◌, ◌≤◌, Bool, true, false, List, [], ◌∷◌, ◌++◌, length, take, Option, Some, None, refl, sym, ap, subst, ◌∙◌, arith, append_assoc, append-nil, length-append}
-use Rattle.std.specs.Prelude.{count_by, is_some, nat_le, ◌&&◌, ◌||◌, option_map}
+use Rattle.mig_show.proofs.Common.{◌≡◌, ◌≢◌, ◌⊎◌, inl, inr, ℕ, ◌+◌, ◌*◌, ◌≤◌, Bool, true, false, List, [], ◌∷◌, ◌++◌, length, take, Option, Some, None, refl, sym, ap, subst, ◌∙◌, arith, append_assoc, append-nil, length-append, count_by, is_some, padding_len, le32, LibxlRecord, ImageHeader, DomainHeader, LibxlHeader, Record, kind_of_number, head_in, RecordHead, Due, ComesBehind, NothingDue, CountDue, WordsDue, bytes_behind_head, due, head_spot, in_hand, place_of_spot, to_come, words_in_hand, Next, AtMarker, AtVersion, AtKind, AtHead, AtBody, AtFront, AtWords, AtPages, AtPadding, Outer, Alone, Behind, Spot, AtStart, AtLibxlHeader, AtLibxlHead, AtLibxlBody, AtLibxlPadding, InImage, AtEnd, begins_with_ident, Step, Relay, ShownFront, StandsBefore, StandsWhole, of_form, libxl_number, image_first, header_first, libxl_header, image_header, domain_header, SeenState, with_step, with_end, is_page_data, Seen1}
+use Rattle.std.specs.Prelude.{nat_le, ◌&&◌, ◌||◌, option_map}
 use Rattle.std.proofs.Math.Seq.{drop-append-add, take-append-le, take_all}
 use Rattle.std.proofs.lemmas.Bool.{le-leb, ne_eqb, eq-eqb}
 use Rattle.std.proofs.lemmas.List.FromFn.{length-map-range_with_len}
 use Rattle.byteorder.specs.Endian.{big_number}
-use Rattle.mig_bytes.specs.Bytes.{padding_len}
-use Rattle.mig_bytes.specs.Fields.{le32, le64, be32}
-use Rattle.mig_libxl_form.specs.Content.{LibxlRecord}
-use Rattle.mig_headers.specs.declared.fault.Place.TheVariants.{ImageHeader, DomainHeader, LibxlHeader, Record}
-use Rattle.mig_headers.specs.Headers.{kind_of_number}
+use Rattle.mig_bytes.specs.Fields.{le64, be32}
 use Rattle.mig_headers.specs.declared.kind.Kind.{Kind as KindOf}
 use Rattle.mig_pagetypes.specs.FrameWords.{word_has_data}
-use Rattle.mig_records.specs.Heads.{head_in}
 use Rattle.mig_records.specs.Words.{words}
-use Rattle.mig_records.specs.declared.head.RecordHead.{RecordHead}
 use Rattle.mig_restore_form.specs.Judging.{Opening}
 use Rattle.mig_restore_form.specs.Record.{StreamRecord}
-use Rattle.mig_relay.specs.Following.{Due, FillsBody, ComesNext, image_opens, wrapper_opens, wrapper_header, marker, version, kind, libxl_begins, libxl_whole, image_begins, pages_begin, image_whole, count, more, whole, ComesBehind, NothingDue, CountDue, WordsDue, bytes_behind_head, due, head_spot, in_hand, place_of_spot, to_come}
-use Rattle.mig_relay.specs.Keeping.{words_in_hand}
-use Rattle.mig_relay.specs.Parts.{Next, AtMarker, AtVersion, AtKind, AtHead, AtBody, AtFront, AtWords, AtPages, AtPadding}
-use Rattle.mig_relay.specs.Spots.{Outer, Alone, Behind, Spot, AtStart, AtLibxlHeader, AtLibxlHead, AtLibxlBody, AtLibxlPadding, InImage, AtEnd, is_ident, begins_with_ident}
+use Rattle.mig_relay.specs.Following.{FillsBody, ComesNext, image_opens, wrapper_opens, wrapper_header, marker, version, kind, libxl_begins, libxl_whole, image_begins, pages_begin, image_whole, count, more, whole}
+use Rattle.mig_relay.specs.Spots.{is_ident}
 use Rattle.mig_relay.specs.Steps.{IsStep}
-use Rattle.mig_relay.specs.declared.answer.Step.{Step}
-use Rattle.mig_relay.specs.declared.answer.Step.TheVariants as steps
-use Rattle.mig_relay.specs.declared.state.Relay.{Relay}
-use Rattle.mig_show.specs.Fronts.{ShownFront, StandsBefore, StandsWhole, of_form, libxl_number, image_first, header_first, libxl_header, image_header, domain_header}
-use Rattle.mig_show.specs.Seeing.{SeenState, begun_record, counted_record, with_hand, with_step, with_end}
-use Rattle.mig_show.specs.Tree.{is_page_data}
-use Rattle.mig_show.specs.declared.record.Seen1.{Seen1}
+use Rattle.mig_show.specs.Seeing.{begun_record, counted_record, with_hand}
 use Rattle.mig_show.proofs.Stages.{Has, HandOf, HasSome, InHand, IsAround, IsAroundImage, finished, head_around, head_layer, head_place, is_libxl, is_start, more_some, opened, stood}
+use Rattle.mig_relay.specs.declared.answer.Step.TheVariants as steps
 
 apart : true ≡ false → ⊥
 apart e = cc

@@ -1,5 +1,6 @@
 -- Words that are parted by spaces, and the text that a call made of them.
-use Rattle.std.proofs.Common.{◌≡◌, ℕ, List, [], ◌∷◌, ◌++◌, codes, Result, String, Global, string_bytes, IfOk, ap, sym, subst, append-nil}
+use Rattle.mig_show.proofs.Common.{◌≡◌, ℕ, List, [], ◌∷◌, ◌++◌, codes, string_bytes, ap, sym, subst, append-nil}
+use Rattle.std.proofs.Common.{Result, String, Global, IfOk}
 use Rattle.mig_headers_text.specs.Texts.{spaced}
 
 -- each with no end behind its last word

@@ -1,25 +1,16 @@
 -- What a viewer has seen, for the place that the relay stands at.
-use Rattle.std.proofs.Common.{◌≡◌, ℕ, ◌+◌, ◌-◌, ◌*◌, ◌≤◌, Bool, true, false, cond, List, [], ◌∷◌, ◌++◌, length, take, drop, Option, Some, None, refl, sym, ap, subst, ◌∙◌, arith, append_assoc, length-append, length-take-le, length-drop, take-append-drop}
+use Rattle.mig_show.proofs.Common.{◌≡◌, ℕ, ◌+◌, ◌*◌, ◌≤◌, Bool, true, false, cond, List, [], ◌∷◌, ◌++◌, length, take, drop, Option, Some, None, refl, sym, ap, subst, ◌∙◌, arith, append_assoc, length-append, sum_by_push, padding_len, le32, LibxlRecord, Record, head_in, RecordHead, ComesBehind, Due, NothingDue, CountDue, WordsDue, bytes_behind_head, due, head_spot, in_hand, place_of_spot, to_come, Next, AtMarker, AtVersion, AtKind, AtHead, AtBody, AtFront, AtWords, AtPages, AtPadding, Outer, Alone, Behind, Spot, AtStart, AtLibxlHeader, AtLibxlHead, AtLibxlBody, AtLibxlPadding, InImage, AtEnd, begins_with_ident, ShownFront, HasWords, StandsWhole, StandsBefore, of_form, with_shown, libxl_number, libxl_record, image_record, SeenState, is_page_data, Seen1}
+use Rattle.std.proofs.Common.{◌-◌, length-take-le, length-drop, take-append-drop}
 use Rattle.std.specs.Option.{option_or}
 use Rattle.std.specs.Prelude.{⊤}
-use Rattle.std.proofs.lemmas.List.Sums.{sum_by_push}
 use Rattle.std.proofs.Math.Seq.{take-append-add}
-use Rattle.mig_bytes.specs.Bytes.{padding_len}
-use Rattle.mig_bytes.specs.Fields.{le32}
-use Rattle.mig_libxl_form.specs.Content.{LibxlRecord}
-use Rattle.mig_headers.specs.declared.fault.Place.TheVariants.{Record, LibxlRecord as AtRecord}
-use Rattle.mig_records.specs.Heads.{head_in}
-use Rattle.mig_records.specs.declared.head.RecordHead.{RecordHead}
-use Rattle.mig_relay.specs.Following.{ComesBehind, libxl_next, libxl_context, libxl_end, image_next, image_end, inner_end, Due, NothingDue, CountDue, WordsDue, bytes_behind_head, due, head_spot, in_hand, place_of_spot, to_come}
-use Rattle.mig_relay.specs.Parts.{Next, AtMarker, AtVersion, AtKind, AtHead, AtBody, AtFront, AtWords, AtPages, AtPadding}
+use Rattle.mig_headers.specs.declared.fault.Place.TheVariants.{LibxlRecord as AtRecord}
+use Rattle.mig_relay.specs.Following.{libxl_next, libxl_context, libxl_end, image_next, image_end, inner_end}
 use Rattle.mig_libxl_form.specs.Among.{image_among, image_in}
 use Rattle.mig_restore_form.specs.Stream.{ImageOf}
-use Rattle.mig_relay.specs.Spots.{Outer, Alone, Behind, Spot, AtStart, AtLibxlHeader, AtLibxlHead, AtLibxlBody, AtLibxlPadding, InImage, AtEnd, begins_with_ident, image_record as record_of_image}
+use Rattle.mig_relay.specs.Spots.{image_record as record_of_image}
 use Rattle.mig_relay.proofs.Kept.{among_same}
-use Rattle.mig_show.specs.Fronts.{ShownFront, HasWords, StandsWhole, StandsBefore, of_form, with_shown, libxl_number, libxl_record, libxl_context as context_stands, libxl_end as libxl_stands, image_record, image_end as image_stands}
-use Rattle.mig_show.specs.Seeing.{SeenState}
-use Rattle.mig_show.specs.Tree.{is_page_data}
-use Rattle.mig_show.specs.declared.record.Seen1.{Seen1}
+use Rattle.mig_show.specs.Fronts.{libxl_context as context_stands, libxl_end as libxl_stands, image_end as image_stands}
 
 -- ---- the record in hand
 

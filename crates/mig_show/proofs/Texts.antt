@@ -1,17 +1,10 @@
 -- The text of a tree from the texts of its parts.
-use Rattle.std.proofs.Common.{arith, zero, suc, length, take, get_or, nat_lt, ◌≡◌, ℕ, ◌+◌, ◌<◌, Bool, true, false, List, [], ◌∷◌, ◌++◌, map, codes, Option, refl, sym, ap, ◌∙◌, append_assoc, append-nil}
+use Rattle.mig_show.proofs.Common.{arith, length, take, ◌≡◌, ℕ, ◌+◌, Bool, true, false, List, [], ◌∷◌, ◌++◌, map, codes, Option, refl, sym, ap, ◌∙◌, append_assoc, append-nil, Data, boolean, items_of, compact_text, Cause, Place, Kind, records_text, record_tree, kind_tree, refused_tree, version_tree, shown_tree, Seen1}
+use Rattle.std.proofs.Common.{zero, suc, get_or, nat_lt, ◌<◌}
 use Rattle.std.proofs.lemmas.Bool.{lt-ltb}
 use Rattle.std.proofs.lemmas.List.{take_more}
-use Rattle.serde_json.specs.Data.{Data, boolean}
-use Rattle.serde_json.specs.View.{items_of}
-use Rattle.serde_json.specs.Written.{comma_if, compact_text, items_text}
+use Rattle.serde_json.specs.Written.{comma_if, items_text}
 use Rattle.serde_json.proofs.OnLiterals.{serde_json_on_literals}
-use Rattle.mig_headers.specs.declared.fault.Cause.{Cause}
-use Rattle.mig_headers.specs.declared.fault.Place.{Place}
-use Rattle.mig_headers.specs.declared.kind.Kind.{Kind}
-use Rattle.mig_show.specs.Lines.{records_text}
-use Rattle.mig_show.specs.Tree.{record_tree, kind_tree, refused_tree, version_tree, shown_tree}
-use Rattle.mig_show.specs.declared.record.Seen1.{Seen1}
 
 -- one record more
 later_more : (list : List Seen1) (shown : Seen1) → records_text true (list ++ shown ∷ []) ≡ records_text true list ++ (comma_if true ++ compact_text (record_tree shown))

@@ -3,6 +3,5 @@ pub mod Walks
 pub mod Reporting
 pub mod Walking
 pub mod Once
-pub mod PassingCommon
 pub mod Relaying
 pub mod Showing

@@ -1,11 +1,10 @@
 -- An input isn't both accepted and refused, whatever is read of it.
+use Rattle.mig_tool_guest.proofs.Common.{AcceptedLegacy, HostHasFrame, StreamHasFrame}
 use Rattle.mig_tool_guest.proofs.Common.{ℕ, List, GuestOf, AcceptedStream, Refusal, HasLegacyRefusal, HasStreamRefusal, HasWalkImageRefusal, HasWalkRefusal}
 use Rattle.mig_legacy.proofs.Laws.{never_both as never_both_legacy}
-use Rattle.mig_legacy.specs.Spelled.{AcceptedLegacy}
 use Rattle.mig_libxl_form.proofs.Laws.{never_both}
-use Rattle.mig_tool_report.specs.declared.outcome.Refusal.TheVariants as refusals
 use Rattle.mig_tool_guest.proofs.Walks.{stream_once, image_once, host_once, address_once}
-use Rattle.mig_tool_guest.specs.Addresses.{HostHasFrame, StreamHasFrame}
+use Rattle.mig_tool_report.specs.declared.outcome.Refusal.TheVariants as refusals
 
 pub accepted_once : (input : List ℕ) (guest : GuestOf) (rest more : List ℕ) (refusal : Refusal) → AcceptedStream input guest rest → HasStreamRefusal input refusal more → ⊥
 accepted_once input guest rest more (refusals.Stream place cause) accepted refused = never_both input guest rest place cause more accepted refused

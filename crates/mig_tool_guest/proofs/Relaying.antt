@@ -1,30 +1,23 @@
 -- What a relay's answer says.
-use Rattle.mig_tool_guest.proofs.PassingCommon.{◌≡◌, ◌⊎◌, ◌++◌, ℕ, List, Option, Some, None, Ok, Err, refl, sym, ap, subst, ◌∙◌, Written, OutcomeSays, HasOpenRefusal, RelaySays}
-use mathlib.Core.Logic.{inl, inr}
-use Rattle.std.specs.Io.KnownBytes.{Consumes, Appends}
-use Rattle.mig_bytes.specs.Bytes.{AppendsPart}
+use Rattle.mig_tool_guest.proofs.Common.{◌≡◌, ◌⊎◌, ℕ, List, Option, Some, None, sym, subst, Written, inl, inr, Appends, AppendsPart, Passes, Cause, Place, StreamOf, status_of, Outcome, Status}
+use Rattle.std.proofs.Common.{◌++◌, Ok, Err, refl, ap, ◌∙◌}
+use Rattle.mig_tool_report.specs.Statuses.{OutcomeSays, PutsLineOrFault}
+use Rattle.mig_tool_guest.specs.PassingSays.{HasOpenRefusal, RelaySays}
+use Rattle.std.specs.Io.KnownBytes.{Consumes}
 use Rattle.mig_bytes.specs.Faults.{Rose}
-use Rattle.mig_bytes.specs.Judged.Judged.{Passes}
-use Rattle.mig_headers.specs.declared.fault.Cause.{Cause}
-use Rattle.mig_headers.specs.declared.fault.Place.{Place}
-use Rattle.mig_libxl_form.specs.Stream.{StreamOf}
 use Rattle.mig_relay.specs.Streams.{open_stream_at, IsOpenRefused}
 use Rattle.mig_relay.specs.Relaying.{PassedWhole, PassedPart, IsRelayed}
 use Rattle.mig_relay.specs.declared.answer.RelayAnswer.{RelayAnswer}
-use Rattle.mig_relay.specs.declared.answer.RelayAnswer.TheVariants as answers
 use Rattle.mig_relay.specs.declared.answer.Relayed.{Relayed}
-use Rattle.mig_tool_report.specs.Outcome.{status_of}
 use Rattle.mig_tool_report.specs.Report.{relayed_line}
-use Rattle.mig_tool_report.specs.declared.outcome.Outcome.{Outcome}
 use Rattle.mig_tool_report.specs.declared.outcome.Refusal.{Refusal}
-use Rattle.mig_tool_report.specs.declared.outcome.Refusal.TheVariants as refusals
 use Rattle.mig_tool_report.specs.declared.outcome.RelaySummary.{RelaySummary}
-use Rattle.mig_tool_report.specs.declared.status.Status.{Status}
-use Rattle.mig_tool_report.specs.declared.status.Status.TheVariants as statuses
 use Rattle.mig_bytes.proofs.Joins.{passes_not}
 use Rattle.mig_tool_guest.specs.RelaySteps.{outcome_of_relay, summary_of_relay}
 use Rattle.mig_tool_guest.specs.Relays.{FrontRelayed, ReportStopped, PassableFront, PassedOn, SaysRelayed, counts_of}
-use Rattle.mig_tool_report.specs.Statuses.{PutsLineOrFault}
+use Rattle.mig_relay.specs.declared.answer.RelayAnswer.TheVariants as answers
+use Rattle.mig_tool_report.specs.declared.outcome.Refusal.TheVariants as refusals
+use Rattle.mig_tool_report.specs.declared.status.Status.TheVariants as statuses
 
 -- ---- what was passed on
 

@@ -1,15 +1,9 @@
 -- What a command answers.
+use Rattle.mig_tool_guest.proofs.Common.{inl, inr, Appends, AppendsPart, Passes, Cause, Place, AcceptedLegacy, StreamOf, ReadsStream, Outcome, Status, Reading}
 use Rattle.mig_tool_guest.proofs.Common.{◌⊎◌, ◌≡◌, ℕ, ◌++◌, List, length, arith, Option, Some, None, Result, Ok, Err, refl, sym, ap, subst, ◌∙◌, GuestOf, AcceptedStream, HasStreamRefusal, HasLegacyRefusal, Kind, Hvm, Pv, Accepting, Normalised, PartWritten, IsCarried, IsFew, IsBase, restored_text, OutcomeSays, NormaliseComes, ConvertComes, RestoreComes, VerifySays, summary_of, mean_kind, outcome_of}
-use mathlib.Core.Logic.{inl, inr}
-use Rattle.std.specs.FinMap as maps
-use Rattle.std.specs.Io.KnownBytes.{Appends}
-use Rattle.mig_bytes.specs.Bytes.{AppendsPart, Puts}
-use Rattle.mig_bytes.specs.Judged.Judged.{Passes}
+use Rattle.mig_bytes.specs.Bytes.{Puts}
 use Rattle.mig_bytes.specs.declared.answer.Answer.{Answer}
-use Rattle.mig_bytes.specs.declared.answer.Answer.TheVariants as answers
 use Rattle.mig_bytes.specs.declared.failure.WriteFailed.{WriteFailed}
-use Rattle.mig_headers.specs.declared.fault.Cause.{Cause}
-use Rattle.mig_headers.specs.declared.fault.Place.{Place}
 use Rattle.mig_headers.specs.declared.legacy_fault.LegacyCause.{LegacyCause}
 use Rattle.mig_headers.specs.declared.legacy_fault.LegacyPlace.{LegacyPlace}
 use Rattle.mig_host.proofs.HostedGuests.{whole_valid, whole_sound, whole_seen}
@@ -18,26 +12,24 @@ use Rattle.mig_image.proofs.ImageReads.{held, image_reads}
 use Rattle.mig_image.specs.declared.version.ImageVersion.TheVariants.{Two}
 use Rattle.mig_legacy.proofs.Laws.{accepted_is_legacy}
 use Rattle.mig_legacy.specs.Legacy.{LegacyStream, mean_legacy}
-use Rattle.mig_legacy.specs.Spelled.{AcceptedLegacy}
 use Rattle.mig_legacy.specs.Stream.{ReadsLegacy, legacy_at}
 use Rattle.mig_libxl.proofs.AnyCanons.{canon_is_accepted, canon_is_one_to_one}
 use Rattle.mig_libxl_form.proofs.Laws.{accepted_is_stream}
 use Rattle.mig_canon.specs.CanonStream.{canon_any}
-use Rattle.mig_libxl_form.specs.Stream.{StreamOf, stream_at}
-use Rattle.mig_libxl.specs.Reads.{IsStreamReading, ReadsStream}
+use Rattle.mig_libxl_form.specs.Stream.{stream_at}
+use Rattle.mig_libxl.specs.Reads.{IsStreamReading}
 use Rattle.mig_pvtables.proofs.HvmGuests.{hvm_complete}
 use Rattle.mig_pvtables.proofs.PvGuests.{pv_complete}
 use Rattle.mig_pvtables.specs.Whole.{IsWhole}
 use Rattle.mig_tool_report.specs.Report.{ok_line}
-use Rattle.mig_tool_report.specs.declared.outcome.Outcome.{Outcome}
-use Rattle.mig_tool_report.specs.declared.outcome.Outcome.TheVariants as outcomes
-use Rattle.mig_tool_report.specs.declared.outcome.Refusal.TheVariants as refusals
 use Rattle.mig_tool_report.specs.declared.outcome.Summary.{Summary}
-use Rattle.mig_tool_report.specs.declared.status.Status.{Status}
-use Rattle.mig_tool_report.specs.declared.status.Status.TheVariants as statuses
 use Rattle.mig_restore_form.specs.Mean.{differs_of}
 use Rattle.mig_restore_form.specs.Stream.{ImageOf}
-use Rattle.mig_restore.specs.declared.read.Reading.{Reading}
+use Rattle.std.specs.FinMap as maps
+use Rattle.mig_bytes.specs.declared.answer.Answer.TheVariants as answers
+use Rattle.mig_tool_report.specs.declared.outcome.Outcome.TheVariants as outcomes
+use Rattle.mig_tool_report.specs.declared.outcome.Refusal.TheVariants as refusals
+use Rattle.mig_tool_report.specs.declared.status.Status.TheVariants as statuses
 
 -- ---- no stream was read
 

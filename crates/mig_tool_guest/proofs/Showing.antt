@@ -1,19 +1,14 @@
 -- What the showing of a stream comes to.
-use Rattle.mig_tool_guest.proofs.PassingCommon.{◌≡◌, ◌⊎◌, ℕ, List, Option, Some, None, sym, subst, ShowComes, status_of}
-use mathlib.Core.Logic.{inl, inr}
-use Rattle.std.specs.Io.KnownBytes.{Appends}
+use Rattle.mig_tool_guest.proofs.Common.{◌≡◌, ◌⊎◌, ℕ, List, Option, Some, None, sym, subst, status_of, inl, inr, Appends, AppendsPart, Cause, Place, Outcome}
+use Rattle.mig_tool_guest.specs.PassingSays.{ShowComes}
 use Rattle.serde_json.specs.Data.{Data}
-use Rattle.mig_bytes.specs.Bytes.{AppendsPart}
-use Rattle.mig_headers.specs.declared.fault.Cause.{Cause}
-use Rattle.mig_headers.specs.declared.fault.Place.{Place}
-use Rattle.mig_tool_report.specs.declared.outcome.Outcome.{Outcome}
-use Rattle.mig_tool_report.specs.declared.outcome.Outcome.TheVariants as outcomes
 use Rattle.mig_show.specs.Shows.{Shows, tree_line}
 use Rattle.mig_show.specs.declared.viewer.ShowAnswer.{ShowAnswer}
-use Rattle.mig_show.specs.declared.viewer.ShowAnswer.TheVariants as answers
 use Rattle.mig_tool_guest.proofs.Relaying.{taken_front}
 use Rattle.mig_tool_guest.specs.Shown.{FrontShown, SaysShown}
 use Rattle.mig_tool_guest.specs.ShownSteps.{outcome_of_shown, outcome_of_unshown}
+use Rattle.mig_tool_report.specs.declared.outcome.Outcome.TheVariants as outcomes
+use Rattle.mig_show.specs.declared.viewer.ShowAnswer.TheVariants as answers
 
 -- this is the line of what is shown
 abbrev Lines : Option (List ℕ) → Option (List ℕ) → Option (Place × Cause) → List ℕ → Type 0

@@ -1,27 +1,17 @@
 -- What a walk comes to, says and reports.
+use Rattle.mig_tool_guest.proofs.Common.{inl, inr, Appends, AppendsPart, Passes, HostOf, ReadsStream, Reading, Outcome, WalkSummary, Status, in_stream, in_host, MeansFrame, any_host_at, line_reported, says_of}
 use Rattle.mig_tool_guest.proofs.Common.{◌≡◌, ℕ, List, Option, Some, None, Result, Ok, Err, sym, ap, subst, ◌∙◌, OutcomeSays, InputRises}
-use mathlib.Core.Logic.{inl, inr}
 use Rattle.std.specs.Prelude.{IfOk, IfErr, OnOk}
-use Rattle.std.specs.Io.KnownBytes.{Appends}
-use Rattle.mig_bytes.specs.Bytes.{AppendsPart}
-use Rattle.mig_bytes.specs.Judged.Judged.{Passes}
-use Rattle.mig_guest.specs.Hosts.{HostOf, most_width}
+use Rattle.mig_guest.specs.Hosts.{most_width}
 use Rattle.mig_host.specs.HostView.{HostAndSpare}
 use Rattle.mig_host_view.specs.Sound.{IsSound}
 use Rattle.mig_image.specs.Answer.{ReadsHost}
-use Rattle.mig_libxl.specs.Reads.{ReadsStream}
-use Rattle.mig_restore.specs.declared.read.Reading.{Reading}
-use Rattle.mig_tool_report.specs.declared.outcome.Outcome.{Outcome}
-use Rattle.mig_tool_report.specs.declared.outcome.Outcome.TheVariants as outcomes
-use Rattle.mig_tool_report.specs.declared.outcome.Refusal.TheVariants as refusals
-use Rattle.mig_tool_report.specs.declared.outcome.WalkSummary.{WalkSummary}
-use Rattle.mig_tool_report.specs.declared.status.Status.{Status}
-use Rattle.mig_host_laws.specs.Standing.{in_stream, in_host}
 use Rattle.mig_tool_report.specs.Statuses.{EndsWithOwnLine, Refusing, ReportsStatus, StatusSays}
-use Rattle.mig_tool_guest.specs.Addresses.{AddressReported, MeansFrame, any_host_at}
+use Rattle.mig_tool_guest.specs.Addresses.{AddressReported}
 use Rattle.mig_tool_guest.specs.AddressSteps.{EndsWalk, EndsInHost, FindsFrame, FindsInImage, FindsInStream, IsUnfound, TellsFound, status_found}
 use Rattle.mig_tool_guest.proofs.Reporting.{accepted_front}
-use Rattle.mig_tool_report.proofs.Statuses.{line_reported, says_of}
+use Rattle.mig_tool_report.specs.declared.outcome.Outcome.TheVariants as outcomes
+use Rattle.mig_tool_report.specs.declared.outcome.Refusal.TheVariants as refusals
 
 -- ---- what is found
 

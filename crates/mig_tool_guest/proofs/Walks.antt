@@ -1,25 +1,24 @@
 -- An address that means a frame of an input doesn't come to a refusal, and the other way round.
+use Rattle.mig_tool_guest.proofs.Common.{Passes, HostOf, WalkSummary, in_stream, in_host, MeansFrame, StreamHasFrame, FrameInStream, HostHasFrame, FrameInHost, any_host_at}
 use Rattle.mig_tool_guest.proofs.Common.{◌≡◌, ℕ, List, Option, Some, None, refl, sym, ap, subst, ◌∙◌, GuestOf}
 use Rattle.mig_bytes.specs.Judged.{Judged}
-use Rattle.mig_bytes.specs.Judged.Judged.{Passes, Faulty}
+use Rattle.mig_bytes.specs.Judged.Judged.{Faulty}
 use Rattle.mig_headers.specs.declared.image_fault.ImageCause.{ImageCause}
 use Rattle.mig_headers.specs.declared.image_fault.ImagePlace.{ImagePlace}
 use Rattle.mig_headers.specs.declared.unsound.Unsound.{Unsound}
-use Rattle.mig_guest.specs.Hosts.{HostOf}
 use Rattle.mig_host_view.specs.Sound.{unsoundness}
 use Rattle.mig_host_view.specs.View.{view}
 use Rattle.mig_host_view.proofs.SoundRows.{sound_is_faultless}
 use Rattle.mig_libxl_form.proofs.Laws.{one_front}
 use Rattle.mig_tool_report.specs.declared.outcome.WalkEnd.{WalkEnd}
-use Rattle.mig_tool_report.specs.declared.outcome.WalkEnd.TheVariants as ends
-use Rattle.mig_tool_report.specs.declared.outcome.WalkSummary.{WalkSummary}
-use Rattle.mig_host_laws.specs.Standing.{Standing, in_stream, in_host}
+use Rattle.mig_host_laws.specs.Standing.{Standing}
 use Rattle.mig_walk.specs.Walks.{IsWalked}
 use Rattle.mig_walk.specs.declared.walk.Walked.{Walked}
-use Rattle.mig_walk.specs.declared.walk.Walked.TheVariants as walks
 use Rattle.mig_walk.proofs.OneAnswer.{one_answer}
 use Rattle.mig_walk.proofs.Standings.{one_number, one_machine}
-use Rattle.mig_tool_guest.specs.Addresses.{MeansFrame, MeansNone, StreamHasFrame, StreamHasNone, FrameInStream, HasUnsoundHost, HostHasFrame, HostHasNone, FrameInHost, any_host_at}
+use Rattle.mig_tool_guest.specs.Addresses.{MeansNone, StreamHasNone, HasUnsoundHost, HostHasNone}
+use Rattle.mig_tool_report.specs.declared.outcome.WalkEnd.TheVariants as ends
+use Rattle.mig_walk.specs.declared.walk.Walked.TheVariants as walks
 
 -- an address doesn't mean a frame and none
 module _ (s : Standing) (id at : ℕ) (one_name : (n m pfn : ℕ) → s.names n ≡ Some pfn → s.names m ≡ Some pfn → n ≡ m) (summary : WalkSummary) (means : MeansFrame s id at summary) where

@@ -1,32 +1,19 @@
 -- What an exercise comes to.
-use Rattle.mig_tool_save.proofs.Common.{◌≡◌, ◌⊎◌, ℕ, ◌++◌, List, [], length, Option, Some, None, Ok, Err, refl, sym, ap, subst, ◌∙◌, arith, GuestOf, AcceptedStream}
-use mathlib.Core.Logic.{inl, inr}
-use mathlib.Core.List.{append-nil}
+use Rattle.mig_tool_save.proofs.Common.{◌≡◌, ◌⊎◌, ℕ, ◌++◌, List, [], length, Option, Some, None, Ok, Err, refl, sym, ap, subst, ◌∙◌, arith, GuestOf, AcceptedStream, inl, inr, append-nil, HostOf, unsoundness, Outcome, LineOf, ◌≤◌, view, canon_any, Paced, IsExerciseSize, host_of_exercise, script_of_exercise, SaveSummary, WroteLive, WroteLiveTo, paused_host, ComesToNone}
 use Rattle.mig_bytes.specs.Answers.{or_stop}
 use Rattle.mig_bytes.specs.Faults.{RisesOnReadFault}
-use Rattle.mig_bytes.specs.declared.answer.Answer.TheVariants as answers
 use Rattle.mig_headers.specs.declared.fault.Cause.{Cause}
 use Rattle.mig_headers.specs.declared.fault.Place.{Place}
-use Rattle.mig_guest.specs.Hosts.{HostOf}
-use Rattle.mig_host_view.specs.Sound.{unsoundness}
 use Rattle.mig_libxl.specs.Reads.{ReadsStream}
 use Rattle.mig_libxl_form.proofs.Laws.{accepted_is_stream, one_front, never_both}
 use Rattle.mig_restore.specs.declared.read.Reading.{Reading}
 use Rattle.mig_bytes.specs.declared.answer.Answer.{Answer}
-use Rattle.mig_tool_report.specs.declared.outcome.Outcome.{Outcome}
+use Rattle.std.specs.Prelude.{◌*◌}
+use Rattle.mig_exercise.specs.ExerciseHosts.{data_count, exercise_canon_len}
+use Rattle.mig_tool_save.specs.Exercises.{Exercises, ExerciseSaved}
+use Rattle.mig_bytes.specs.declared.answer.Answer.TheVariants as answers
 use Rattle.mig_tool_report.specs.declared.outcome.Outcome.TheVariants as outcomes
 use Rattle.mig_tool_report.specs.declared.outcome.Refusal.TheVariants as refusals
-use Rattle.mig_machine_script.specs.ScriptLines.{LineOf}
-use Rattle.std.specs.Prelude.{◌*◌, ◌≤◌}
-use Rattle.mig_host_view.specs.View.{view}
-use Rattle.mig_canon.specs.CanonStream.{canon_any}
-use Rattle.mig_machine.specs.Paced.{Paced}
-use Rattle.mig_exercise.specs.ExerciseHosts.{IsExerciseSize, host_of_exercise, data_count, exercise_canon_len}
-use Rattle.mig_exercise.specs.ExerciseScripts.{script_of_exercise}
-use Rattle.mig_tool_report.specs.declared.outcome.SaveSummary.{SaveSummary}
-use Rattle.mig_tool_save.specs.Exercises.{Exercises, ExerciseSaved}
-use Rattle.mig_tool_save.specs.LiveSaves.{WroteLive, WroteLiveTo, paused_host}
-use Rattle.mig_tool_save.specs.SaveSteps.{ComesToNone}
 
 -- ---- a stream is read again
 

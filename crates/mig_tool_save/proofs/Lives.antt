@@ -1,32 +1,20 @@
 -- A machine that was saved, and what was written of it.
-use Rattle.mig_tool_save.proofs.Common.{Kind, ◌≡◌, ℕ, ◌++◌, List, [], length, Option, Some, None, Result, Err, refl, sym, ap, subst, ◌∙◌, arith}
-use Rattle.mig_tool_report.specs.declared.outcome.Refusal.TheVariants as refusals
-use mathlib.Core.Logic.{inl}
-use Rattle.std.specs.Prelude.{◌+◌, ◌∷◌, map}
-use Rattle.mig_bytes.specs.Faults.{Rose}
-use Rattle.mig_headers.specs.declared.unsound.Unsound.{Unsound}
-use Rattle.mig_guest.specs.Hosts.{HostOf}
-use Rattle.mig_canon.specs.Canon.{headers}
+use Rattle.mig_tool_save.proofs.Common.{◌≡◌, ℕ, ◌++◌, List, [], length, Option, Some, None, Err, refl, sym, ap, subst, ◌∙◌, arith, inl, ◌+◌, Rose, Unsound, HostOf, headers, unsoundness, view, AcceptedStream, HasRounds, LineOf, history_of, machine_state, Paced, IsTrusted, SaveAnswer, Outcome, WroteLive, WroteLiveTo, paused_host, ComesToNone}
+use Rattle.mig_headers.specs.declared.kind.Kind.{Kind}
+use Rattle.std.proofs.Common.{Result}
+use Rattle.std.specs.Prelude.{◌∷◌, map}
 use Rattle.mig_records.specs.Records.{text_of}
 use Rattle.mig_records_pages.specs.Told.{telling_record}
-use Rattle.mig_host_view.specs.Sound.{unsoundness}
-use Rattle.mig_host_view.specs.View.{view}
 use Rattle.mig_canon.specs.CanonStream.{wrapper_opening, wrapper_closing}
-use Rattle.mig_libxl_form.specs.Spelled.{AcceptedStream}
 use Rattle.mig_guest.specs.MachineStates.{IsSameShape}
 use Rattle.mig_guest.specs.Rounds.{Rounds, Tight, all_read}
-use Rattle.mig_dirtysave_rounds.specs.Live.{HasRounds}
-use Rattle.mig_machine_script.specs.ScriptLines.{LineOf}
-use Rattle.mig_machine.specs.MachineSeen.{MachineSeen, history_of, machine_state}
+use Rattle.mig_machine.specs.MachineSeen.{MachineSeen}
 use Rattle.mig_machine.specs.Exact.{IsExactFrom}
-use Rattle.mig_machine.specs.Paced.{Paced, HasPaces, pfns_paced}
-use Rattle.mig_dirtysave.specs.SaveAnswers.{IfUnsound, IsTrusted, OnEnd, SaveWritten}
-use Rattle.mig_dirtysave.specs.declared.answer.SaveAnswer.{SaveAnswer}
+use Rattle.mig_machine.specs.Paced.{HasPaces, pfns_paced}
+use Rattle.mig_dirtysave.specs.SaveAnswers.{IfUnsound, OnEnd, SaveWritten}
+use Rattle.mig_tool_report.specs.declared.outcome.Refusal.TheVariants as refusals
 use Rattle.mig_dirtysave.specs.declared.answer.SaveAnswer.TheVariants as answers
-use Rattle.mig_tool_report.specs.declared.outcome.Outcome.{Outcome}
 use Rattle.mig_tool_report.specs.declared.outcome.Outcome.TheVariants as outcomes
-use Rattle.mig_tool_save.specs.LiveSaves.{WroteLive, WroteLiveTo, paused_host}
-use Rattle.mig_tool_save.specs.SaveSteps.{ComesToNone}
 
 -- the machine shows the types as they are
 pub honest : (m : MachineSeen) → IsTrusted (machine_state m)

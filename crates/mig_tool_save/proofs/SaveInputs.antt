@@ -1,17 +1,14 @@
 -- An input that is a host and a script isn't refused.
-use Rattle.mig_tool_save.proofs.Common.{◌≡◌, ℕ, List, length, sym, ap, subst, ◌∙◌, arith, Refusal, HasSaveRefusal}
-use Rattle.mig_tool_report.specs.declared.outcome.Refusal.TheVariants as refusals
+use Rattle.mig_tool_save.proofs.Common.{◌≡◌, ℕ, List, length, sym, ap, subst, ◌∙◌, arith, Refusal, HasSaveRefusal, Passes, Unsound, HostOf, LineOf, HasHostAndScript, saved_host_at}
 use Rattle.mig_bytes.specs.Judged.{Judged}
-use Rattle.mig_bytes.specs.Judged.Judged.{Passes, Faulty}
+use Rattle.mig_bytes.specs.Judged.Judged.{Faulty}
 use Rattle.mig_headers.specs.declared.image_fault.ImageCause.{ImageCause}
 use Rattle.mig_headers.specs.declared.image_fault.ImagePlace.{ImagePlace}
-use Rattle.mig_headers.specs.declared.unsound.Unsound.{Unsound}
-use Rattle.mig_guest.specs.Hosts.{HostOf}
-use Rattle.mig_machine_script.specs.ScriptLines.{LineOf}
 use Rattle.mig_machine_script.specs.Scripts.{IsBadLine}
 use Rattle.mig_machine_script.proofs.OneScript.{never_both}
 use Rattle.mig_tool_save.specs.Saves.{IsOfInput}
-use Rattle.mig_tool_save.specs.LiveSaves.{HasHostAndScript, HasUnsoundPause, saved_host_at}
+use Rattle.mig_tool_save.specs.LiveSaves.{HasUnsoundPause}
+use Rattle.mig_tool_report.specs.declared.outcome.Refusal.TheVariants as refusals
 
 abbrev HostJudged : Type 0
 HostJudged = Judged (ImagePlace × ImageCause) HostOf

@@ -1,39 +1,30 @@
 -- What a live save comes to, says and reports.
-use Rattle.std.specs.Prelude.{◌+◌, drop}
-use Rattle.mig_tool_save.proofs.Common.{◌⊎◌, ◌≡◌, ℕ, List, [], length, arith, Option, Some, None, Ok, Err, refl, sym, ap, subst, ◌∙◌, Hvm, Refusal, Written, HasSaveRefusal, OutcomeSays, SaveBroke, SaveDone, SaysSaved, status_of, line_of}
-use Rattle.mig_tool_report.specs.declared.outcome.Refusal.TheVariants as refusals
-use mathlib.Core.Logic.{inl, inr}
-use mathlib.Core.List.{append-nil}
+use Rattle.mig_tool_save.proofs.Common.{◌+◌, ◌⊎◌, ◌≡◌, ℕ, List, [], length, arith, Option, Some, None, Ok, Err, refl, sym, ap, subst, ◌∙◌, Refusal, Written, HasSaveRefusal, inl, inr, append-nil, Rose, Passes, Unsound, HostOf, most_saved_width, headers, LineOf, Outcome, SaveSummary, HasHostAndScript, WroteLive, saved_host_at, ComesToNone}
+use Rattle.std.specs.Prelude.{drop}
+use Rattle.mig_headers.specs.declared.kind.Kind.TheVariants.{Hvm}
+use Rattle.mig_tool_report.specs.Statuses.{OutcomeSays, NamesRefusal}
+use Rattle.mig_tool_save.specs.Saves.{SaveBroke, SaveDone, SaysSaved, RefusesPause, BreaksOff}
+use Rattle.mig_tool_report.specs.Outcome.{status_of, line_of}
 use Rattle.std.specs.Io.KnownBytes.{Appends}
 use Rattle.mig_bytes.specs.Bytes.{AppendsPart}
-use Rattle.mig_bytes.specs.Faults.{Rose}
 use Rattle.mig_bytes.specs.declared.stop.Stop.{Stop}
-use Rattle.mig_bytes.specs.declared.stop.Stop.TheVariants as stops
-use Rattle.mig_bytes.specs.Judged.Judged.{Passes}
-use Rattle.mig_headers.specs.declared.unsound.Unsound.{Unsound}
 use Rattle.mig_headers.specs.Headers.{image_header_of, domain_header_of}
-use Rattle.mig_guest.specs.Hosts.{HostOf, most_saved_width}
-use Rattle.mig_canon.specs.Canon.{headers}
 use Rattle.mig_host.specs.HostView.{HostAndSpare}
 use Rattle.mig_image.specs.Answer.{ReadsHost}
 use Rattle.mig_dirtysave.specs.Unread.{WroteNoStream}
 use Rattle.mig_dirtysave.proofs.Written.{bare_headers}
 use Rattle.mig_machine_script.specs.ScriptAnswers.{ReadsScript}
-use Rattle.mig_machine_script.specs.ScriptLines.{LineOf}
 use Rattle.mig_machine_script.specs.Scripts.{most_script_bytes}
 use Rattle.mig_machine_script.specs.declared.script.ScriptAnswer.{ScriptAnswer}
-use Rattle.mig_machine_script.specs.declared.script.ScriptAnswer.TheVariants as scripts
 use Rattle.mig_tool_report.specs.Report.{Reports, saved_line}
-use Rattle.mig_tool_report.specs.declared.outcome.Outcome.{Outcome}
-use Rattle.mig_tool_report.specs.declared.outcome.Outcome.TheVariants as outcomes
-use Rattle.mig_tool_report.specs.declared.outcome.SaveSummary.{SaveSummary}
 use Rattle.mig_tool_report.specs.declared.status.Status.{Status}
-use Rattle.mig_tool_report.specs.declared.status.Status.TheVariants as statuses
-use Rattle.mig_tool_report.specs.Statuses.{NamesRefusal}
-use Rattle.mig_tool_save.specs.Saves.{RefusesPause, BreaksOff}
-use Rattle.mig_tool_save.specs.LiveSaves.{HasHostAndScript, WroteLive, saved_host_at}
-use Rattle.mig_tool_save.specs.SaveSteps.{StopsAt, ReadsHostToSave, ReadsHostAndScript, stop_of_script, outcome_of_stop, ComesToNone}
+use Rattle.mig_tool_save.specs.SaveSteps.{StopsAt, ReadsHostToSave, ReadsHostAndScript, stop_of_script, outcome_of_stop}
 use Rattle.mig_tool_save.specs.declared.saving.HostAndScript.{HostAndScript}
+use Rattle.mig_tool_report.specs.declared.outcome.Refusal.TheVariants as refusals
+use Rattle.mig_bytes.specs.declared.stop.Stop.TheVariants as stops
+use Rattle.mig_machine_script.specs.declared.script.ScriptAnswer.TheVariants as scripts
+use Rattle.mig_tool_report.specs.declared.outcome.Outcome.TheVariants as outcomes
+use Rattle.mig_tool_report.specs.declared.status.Status.TheVariants as statuses
 
 -- ---- nothing was written
 

@@ -1,17 +1,10 @@
 -- The slots that an address selects are its bits from 12 on; addresses of one page select the same.
-use Rattle.std.proofs.Common.{◌≡◌, ℕ, ◌+◌, ◌-◌, ◌*◌, ◌/◌, ◌%◌, ◌^◌, ◌≤◌, ◌<◌, zero, suc, Option, Some, None, sym, ap, subst, ◌∙◌, arith, inl, inr, option_and_then}
-use Rattle.std.specs.Prelude.{◌⊎◌}
+use Rattle.mig_walk.proofs.Common.{◌≡◌, ℕ, ◌+◌, ◌-◌, ◌*◌, ◌/◌, ◌^◌, ◌≤◌, ◌<◌, zero, suc, Option, Some, None, sym, ap, subst, ◌∙◌, arith, inl, inr, option_and_then, ◌⊎◌, Frame, level_of, PageType, Standing, Walked, IsCanonical, IsTableOf, NamesNothing, Reach, IsWalked, by_root, by_entry, no_vcpu, not_canonical, absent, not_table, frame}
+use Rattle.std.proofs.Common.{◌%◌}
 use Rattle.std.proofs.Math.Nat.{div-div-eq-div-mul}
 use Rattle.std.proofs.lemmas.Nat.{pow-add, mod-pow-add}
-use Rattle.mig_guest.specs.declared.table.Entry.TheVariants.{Frame}
-use Rattle.mig_pagetypes.specs.PageTypes.{level_of}
-use Rattle.mig_pagetypes.specs.declared.page_type.PageType.{PageType}
+use Rattle.mig_walk.specs.Walks.{slot_of}
 use Rattle.mig_pagetypes.specs.declared.page_type.PageType.TheVariants as types
-use Rattle.mig_host_laws.specs.Standing.{Standing}
-use Rattle.mig_walk.specs.declared.walk.Walked.{Walked}
-use Rattle.mig_walk.specs.Walks.{slot_of, IsCanonical, IsTableOf, NamesNothing, Reach, IsWalked}
-use Rattle.mig_walk.specs.Walks.Reach.{by_root, by_entry}
-use Rattle.mig_walk.specs.Walks.IsWalked.{no_vcpu, not_canonical, absent, not_table, frame}
 
 slot_and_below : (address level : ℕ) → address % 2 ^ (9 + (3 + 9 * level)) ≡ slot_of address level * 2 ^ (3 + 9 * level) + address % 2 ^ (3 + 9 * level)
 unfolding slot_of

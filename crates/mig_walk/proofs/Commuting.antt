@@ -1,56 +1,32 @@
 -- The way of an address is the same in a guest and in the host that it becomes, with machine frames for frame numbers.
-use Rattle.std.proofs.Common.{◌≡◌, ℕ, ◌+◌, ◌*◌, ◌/◌, ◌<◌, ◌^◌, List, Option, Some, None, IsSome, is_some, refl, sym, ap, subst, ◌∙◌, arith, inl, inr, option_and_then}
-use Rattle.std.specs.Cmp.{nat_cmp_total}
-use Rattle.std.specs.FinMap as maps
-use Rattle.std.specs.FinMap.{nat_cmp-IsAntisymmetric}
-use Rattle.std.specs.Option.{option_map}
-use Rattle.mig_headers.specs.declared.kind.Kind.{Kind}
-use Rattle.mig_headers.specs.declared.kind.Kind.TheVariants.{Pv, Hvm}
-use Rattle.mig_pagetypes.specs.PageTypes.{level_of}
-use Rattle.mig_guest.specs.declared.table.Entry.{Entry}
-use Rattle.mig_guest.specs.declared.table.Entry.TheVariants as entries
-use Rattle.mig_guest.specs.Frames.{FrameOf}
-use Rattle.mig_guest.specs.Guests.{GuestOf}
-use Rattle.mig_guest.specs.Hosts.{HostOf, IsValid, pfn_in}
-use Rattle.mig_guest.specs.Longs.{long_at}
-use Rattle.mig_guest.specs.PartKeys.{vcpu_key}
-use Rattle.mig_guest.specs.Tables.{entry}
+use Rattle.mig_walk.proofs.Common.{◌≡◌, ℕ, ◌+◌, ◌*◌, ◌/◌, ◌<◌, ◌^◌, List, Option, Some, None, IsSome, is_some, refl, sym, ap, subst, ◌∙◌, arith, inl, inr, option_and_then, nat_cmp_total, nat_cmp-IsAntisymmetric, option_map, Kind, Pv, Hvm, level_of, Entry, FrameOf, GuestOf, HostOf, IsValid, pfn_in, long_at, vcpu_key, entry, type_at, IsWhole, get_each, pv_complete, guest_in, some_value, Root, said_by, Standing, said_in, said_of, says_in, in_stream, in_host, Walked, NoVcpu, slot_of, IsTableOf, NamesNothing, Reach, IsWalked, by_root, by_entry, no_vcpu, not_canonical, absent, not_table, frame}
 use Rattle.mig_guest.proofs.PartOrder.{part_exact, part_total}
 use Rattle.mig_pvtables.specs.Blank.{blank, blank_of}
-use Rattle.mig_pvtables.specs.Faults.{type_at}
 use Rattle.mig_pvtables.specs.P2mFrames.{place_of}
 use Rattle.mig_pvtables.specs.Renaming.{name_for, entry_named, NamesFit, GoesBack}
 use Rattle.mig_pvtables.specs.VcpuContexts.{is_used}
-use Rattle.mig_pvtables.specs.Whole.{IsWhole}
 use Rattle.mig_pvtables.specs.WholePv.{IsCompletePv}
 use Rattle.mig_pvtables.proofs.BlankShape.{table_unlisted}
-use Rattle.mig_pvtables.proofs.EachValue.{get_each}
-use Rattle.mig_pvtables.proofs.PvGuests.{pv_complete}
 use Rattle.mig_pvtables.proofs.Renamed.{fits_back, said_anew}
 use Rattle.mig_host_view.specs.Localised.{renamed_part, localised_page, localised_frame, localised_of, localised}
 use Rattle.mig_host_view.specs.RenamedContexts.{renamed_context}
-use Rattle.mig_host_view.specs.View.{guest_in}
 use Rattle.mig_host_view.proofs.GuestsBack.{table_goes, context_bytes}
 use Rattle.mig_host_view.proofs.LocalisedGuests.{localised_type, to_localised}
 use Rattle.mig_host.specs.Hosted.{hosted, rank_in, mfn_in, IsBaseOutside}
 use Rattle.mig_host.specs.HostView.{with_machine}
-use Rattle.mig_host.proofs.HostedGuests.{some_value, IsBaseInside, base_inside, whole_valid}
+use Rattle.mig_host.proofs.HostedGuests.{IsBaseInside, base_inside, whole_valid}
 use Rattle.mig_host.proofs.HostMaps.{get_with_machines, without_machines}
 use Rattle.mig_host.proofs.Machines.{pfn_of_machine}
 use Rattle.mig_host.proofs.Ranks.{rank_small}
-use Rattle.mig_host_laws.specs.Fields.{Root, said_by}
 use Rattle.mig_host_laws.specs.NamedAnew.{AreNamesSmall}
-use Rattle.mig_host_laws.specs.Standing.{Standing, said_in, said_of, says_in, in_stream, in_host}
 use Rattle.mig_host_laws.proofs.FieldLaws.{in_stream_anew}
-use Rattle.mig_walk.specs.declared.walk.Walked.{Walked}
-use Rattle.mig_walk.specs.declared.walk.Walked.TheVariants.{NoVcpu}
-use Rattle.mig_walk.specs.Walks.{slot_of, IsTableOf, NamesNothing, Reach, IsWalked, at_machine}
-use Rattle.mig_walk.specs.Walks.Reach.{by_root, by_entry}
-use Rattle.mig_walk.specs.Walks.IsWalked.{no_vcpu, not_canonical, absent, not_table, frame}
+use Rattle.mig_walk.specs.Walks.{at_machine}
 use Rattle.mig_walk.proofs.Laws.{hvm_none, hvm_part}
 use Rattle.mig_walk.proofs.OneAnswer.{one_answer}
 use Rattle.mig_walk.proofs.Standings.{named_itself, some_itself, guest_ready, one_number, one_machine}
 use Rattle.mig_walk.proofs.Steps.{slot_small}
+use Rattle.std.specs.FinMap as maps
+use Rattle.mig_guest.specs.declared.table.Entry.TheVariants as entries
 
 -- t stands as s does, but fields and entries name with f
 pub record IsRenamed (s t : Standing) (vcpu : ℕ) (f : ℕ → ℕ) : Type 0 where

@@ -1,19 +1,8 @@
 -- The frames of a host, without their machine frames, have the types and pages of the host's, and say what its tables say.
-use Rattle.std.proofs.Common.{◌≡◌, ℕ, Option, Some, None, IfSome, List, refl, sym, ap, ◌∙◌, option_and_then}
-use Rattle.std.specs.FinMap as maps
-use Rattle.std.specs.FinMap.{nat_cmp-IsAntisymmetric}
-use Rattle.std.specs.Cmp.{nat_cmp_total}
-use Rattle.std.specs.Option.{option_map}
-use Rattle.mig_pagetypes.specs.PageTypes.{level_of}
-use Rattle.mig_pagetypes.specs.declared.page_type.PageType.{PageType}
-use Rattle.mig_guest.specs.declared.table.Entry.{Entry}
-use Rattle.mig_guest.specs.Frames.{FrameOf, FrameMap}
-use Rattle.mig_guest.specs.Hosts.{HostFrame, HostFrames}
+use Rattle.mig_walk.proofs.Common.{◌≡◌, ℕ, Option, Some, None, IfSome, List, refl, sym, ap, ◌∙◌, option_and_then, nat_cmp-IsAntisymmetric, nat_cmp_total, option_map, level_of, PageType, Entry, FrameOf, FrameMap, HostFrame, HostFrames, type_at, get_each, said_in, said_of, says_in}
 use Rattle.mig_pvtables.specs.Blank.{each_value}
-use Rattle.mig_pvtables.specs.Faults.{type_at}
-use Rattle.mig_pvtables.proofs.EachValue.{get_each}
 use Rattle.mig_host_view.specs.View.{without_machine}
-use Rattle.mig_host_laws.specs.Standing.{said_in, said_of, says_in}
+use Rattle.std.specs.FinMap as maps
 
 module _ (frames : HostFrames) where
   abbrev pub bare : FrameMap

@@ -1,30 +1,12 @@
 -- Laws of answers over whole guests and sound hosts.
-use Rattle.std.proofs.Common.{◌≡◌, ℕ, ◌≤◌, true, List, Option, Some, None, IsSome, refl, sym, subst, inl, inr, le-leb, option_and_then}
+use Rattle.mig_walk.proofs.Common.{◌≡◌, ℕ, ◌≤◌, true, List, Option, Some, None, IsSome, refl, sym, subst, inl, inr, option_and_then, option_map, Kind, Hvm, level_of, IsPart, width_of, FrameOf, FrameMap, GuestOf, HostOf, IsValid, long_at, vcpu_key, IsWhole, IsSound, guest_in, some_value, Standing, said_in, said_of, in_stream, in_host, NoVcpu, Absent, slot_of, IsCanonical, IsTableOf, NamesNothing, IsWalked, IsWalkedOnce, CanBeWalked, no_vcpu, absent}
+use Rattle.std.proofs.Common.{le-leb}
 use Rattle.std.specs.Prelude.{◌&&◌}
-use Rattle.std.specs.FinMap as maps
-use Rattle.std.specs.Option.{option_map}
-use Rattle.mig_headers.specs.declared.kind.Kind.{Kind}
-use Rattle.mig_headers.specs.declared.kind.Kind.TheVariants.{Hvm}
-use Rattle.mig_pagetypes.specs.PageTypes.{level_of}
-use Rattle.mig_guest.specs.Formed.{IsPart, width_of}
-use Rattle.mig_guest.specs.Frames.{FrameOf, FrameMap}
-use Rattle.mig_guest.specs.Guests.{GuestOf}
-use Rattle.mig_guest.specs.Hosts.{HostOf, IsValid}
-use Rattle.mig_guest.specs.Longs.{long_at}
-use Rattle.mig_guest.specs.PartKeys.{vcpu_key}
 use Rattle.mig_guest.specs.Tables.{is_blank_slot}
-use Rattle.mig_pvtables.specs.Whole.{IsWhole}
 use Rattle.mig_pvtables.proofs.BlankSays.{blank_says}
-use Rattle.mig_host_view.specs.Sound.{IsSound}
-use Rattle.mig_host_view.specs.View.{guest_in}
-use Rattle.mig_host.proofs.HostedGuests.{some_value}
-use Rattle.mig_host_laws.specs.Standing.{Standing, said_in, said_of, in_stream, in_host}
-use Rattle.mig_walk.specs.declared.walk.Walked.TheVariants.{NoVcpu, Absent}
-use Rattle.mig_walk.specs.Walks.{slot_of, IsCanonical, IsTableOf, NamesNothing, IsWalked, IsWalkedOnce}
-use Rattle.mig_walk.specs.WalkSteps.{CanBeWalked}
-use Rattle.mig_walk.specs.Walks.IsWalked.{no_vcpu, absent}
 use Rattle.mig_walk.proofs.SomeAnswer.{walked_once, root_reached}
 use Rattle.mig_walk.proofs.Standings.{guest_ready, host_ready, one_number, one_machine, not_hvm}
+use Rattle.std.specs.FinMap as maps
 
 pub guest_once : (g : GuestOf) (vcpu address : ℕ) → IsWhole g → IsWalkedOnce (in_stream g) vcpu address
 guest_once g vcpu address whole = walked_once (in_stream g) vcpu address (guest_ready g whole vcpu) (one_number g.frames)

@@ -1,3 +1,4 @@
+pub mod Common
 pub mod HostFrames
 pub mod Reaching
 pub mod OneAnswer

@@ -1,17 +1,11 @@
 -- Two answers that hold of one address are equal.
-use Rattle.std.proofs.Common.{◌≡◌, ◌⊎◌, inl, inr, zero, suc, List, ℕ, ◌<◌, Option, Some, None, IsSome, refl, sym, subst, ◌∙◌, arith}
-use Rattle.std.specs.FinMap as maps
+use Rattle.mig_walk.proofs.Common.{◌≡◌, inl, inr, zero, suc, List, ℕ, ◌<◌, Option, Some, None, IsSome, refl, sym, subst, ◌∙◌, arith, level_of, PageType, vcpu_key, Standing, Walked, NoVcpu, NotCanonical, Absent, NotTable, IsCanonical, IsTableOf, IsWalked, no_vcpu, not_canonical, absent, not_table, frame}
+use Rattle.std.proofs.Common.{◌⊎◌}
 use Rattle.std.specs.Prelude.{option_and_then}
-use Rattle.mig_pagetypes.specs.PageTypes.{level_of}
-use Rattle.mig_pagetypes.specs.declared.page_type.PageType.{PageType}
 use Rattle.mig_pagetypes.specs.declared.page_type.PageType.TheVariants.{L1Tab}
-use Rattle.mig_guest.specs.PartKeys.{vcpu_key}
-use Rattle.mig_host_laws.specs.Standing.{Standing}
-use Rattle.mig_walk.specs.declared.walk.Walked.{Walked}
-use Rattle.mig_walk.specs.declared.walk.Walked.TheVariants.{Frame, NoVcpu, NotCanonical, Absent, NotTable}
-use Rattle.mig_walk.specs.Walks.{IsCanonical, IsTableOf, IsWalked}
-use Rattle.mig_walk.specs.Walks.IsWalked.{no_vcpu, not_canonical, absent, not_table, frame}
+use Rattle.mig_walk.specs.declared.walk.Walked.TheVariants.{Frame}
 use Rattle.mig_walk.proofs.Reaching.{EndsAt, one_end, has_vcpu}
+use Rattle.std.specs.FinMap as maps
 
 -- a table has a level from 1 on
 some_level : (o : Option PageType) → option_and_then level_of o ≡ Some 0 → ⊥

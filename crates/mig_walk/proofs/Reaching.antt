@@ -1,15 +1,7 @@
 -- The way of an address, level by level: to one frame at each level, and on to the next level as long as an entry names one.
-use Rattle.std.proofs.Common.{◌≡◌, ℕ, ◌+◌, ◌<◌, ◌≤◌, zero, suc, List, Some, IsSome, is_some, refl, sym, ap, subst, ◌∙◌, inl, inr, arith}
-use Rattle.std.specs.Prelude.{◌⊎◌}
+use Rattle.mig_walk.proofs.Common.{◌≡◌, ℕ, ◌+◌, ◌<◌, ◌≤◌, zero, suc, List, Some, IsSome, is_some, refl, sym, ap, subst, ◌∙◌, inl, inr, arith, ◌⊎◌, cases_eq, Entry, Frame, vcpu_key, Root, said_by, Standing, slot_of, IsTableOf, NamesNothing, Reach, by_root, by_entry}
+use Rattle.std.proofs.lemmas.Bool.{cases_order}
 use Rattle.std.specs.FinMap as maps
-use Rattle.std.proofs.lemmas.Bool.{cases_eq, cases_order}
-use Rattle.mig_guest.specs.declared.table.Entry.{Entry}
-use Rattle.mig_guest.specs.declared.table.Entry.TheVariants.{Frame}
-use Rattle.mig_guest.specs.PartKeys.{vcpu_key}
-use Rattle.mig_host_laws.specs.Fields.{Root, said_by}
-use Rattle.mig_host_laws.specs.Standing.{Standing}
-use Rattle.mig_walk.specs.Walks.{slot_of, IsTableOf, NamesNothing, Reach}
-use Rattle.mig_walk.specs.Walks.Reach.{by_root, by_entry}
 
 -- the root of a vCPU names the frame of a PFN
 pub record IsRoot (s : Standing) (vcpu pfn : ℕ) : Type 0 where

@@ -1,24 +1,11 @@
 -- An answer holds of each address.
-use Rattle.std.proofs.Common.{◌≡◌, ℕ, ◌≤◌, zero, suc, List, Option, Some, None, is_some, refl, ap, subst, ◌∙◌, arith, inl, inr, option_and_then}
-use Rattle.std.specs.Prelude.{◌⊎◌, ◌/◌, ◌^◌}
-use Rattle.std.specs.FinMap as maps
-use Rattle.std.specs.Option.{option_map}
-use Rattle.std.proofs.lemmas.Bool.{cases_eq}
-use Rattle.mig_guest.specs.PartKeys.{vcpu_key}
-use Rattle.mig_guest.specs.declared.table.Entry.{Entry}
-use Rattle.mig_guest.specs.declared.table.Entry.TheVariants as entries
-use Rattle.mig_pagetypes.specs.PageTypes.{level_of}
-use Rattle.mig_host.proofs.HostedGuests.{some_value}
-use Rattle.mig_host_laws.specs.Fields.{Root, said_by}
-use Rattle.mig_host_laws.specs.Standing.{Standing}
-use Rattle.mig_walk.specs.declared.walk.Walked.{Walked}
-use Rattle.mig_walk.specs.declared.walk.Walked.TheVariants.{Frame, NoVcpu, NotCanonical, Absent, NotTable}
-use Rattle.mig_walk.specs.Walks.{slot_of, IsCanonical, IsTableOf, IsWalked, IsWalkedOnce}
-use Rattle.mig_walk.specs.WalkSteps.{CanBeWalked, IsReached}
-use Rattle.mig_walk.specs.Walks.Reach.{by_root}
-use Rattle.mig_walk.specs.Walks.IsWalked.{no_vcpu, not_canonical}
+use Rattle.mig_walk.proofs.Common.{◌≡◌, ℕ, ◌≤◌, zero, suc, List, Option, Some, None, is_some, refl, ap, subst, ◌∙◌, arith, inl, inr, option_and_then, ◌⊎◌, option_map, cases_eq, vcpu_key, Entry, level_of, some_value, Root, said_by, Standing, Walked, NoVcpu, NotCanonical, Absent, NotTable, slot_of, IsCanonical, IsTableOf, IsWalked, IsWalkedOnce, CanBeWalked, IsReached, by_root, no_vcpu, not_canonical}
+use Rattle.std.specs.Prelude.{◌/◌, ◌^◌}
+use Rattle.mig_walk.specs.declared.walk.Walked.TheVariants.{Frame}
 use Rattle.mig_walk.proofs.OneAnswer.{one_answer}
 use Rattle.mig_walk.proofs.Steps.{ends_at_other, ends_absent, ends_at_frame, goes_down}
+use Rattle.std.specs.FinMap as maps
+use Rattle.mig_guest.specs.declared.table.Entry.TheVariants as entries
 
 is_canonical : (address : ℕ) → IsCanonical address ⊎ (IsCanonical address → ⊥)
 is_canonical address = elim (cases_eq (address / 2 ^ 47) 0) [

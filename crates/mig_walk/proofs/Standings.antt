@@ -1,43 +1,26 @@
 -- In a whole guest, and in a sound host, an address can be walked.
-use Rattle.std.proofs.Common.{Bool, cond, [], ◌∷◌, ◌≡◌, ℕ, ◌<◌, true, false, List, length, Option, Some, None, IsSome, is_some, refl, sym, ap, subst, ◌∙◌, arith, option_and_then}
+use Rattle.mig_walk.proofs.Common.{◌≡◌, ℕ, ◌<◌, true, false, List, Option, Some, None, IsSome, is_some, refl, sym, ap, subst, ◌∙◌, arith, option_and_then, nat_cmp-IsAntisymmetric, nat_cmp_total, option_map, Kind, Pv, Hvm, level_of, PageType, Entry, Frame, IsPart, width_of, FrameOf, FrameMap, GuestOf, HostOf, HostFrame, HostFrames, IsValid, pfn_in, vcpu_key, entry, type_at, IsWhole, pv_complete, IsSound, guest_in, Root, said_by, said_in, said_of, says_in, in_stream, in_host, IsTableOf, CanBeWalked}
+use Rattle.std.proofs.Common.{Bool, cond, [], ◌∷◌, length}
 use Rattle.std.specs.Prelude.{◌==◌, find}
-use Rattle.std.specs.FinMap as maps
-use Rattle.std.specs.FinMap.{nat_cmp-IsAntisymmetric}
 use Rattle.std.specs.List.{All}
 use Rattle.std.proofs.lemmas.List.Elements.{All-head, All-tail}
-use Rattle.std.specs.Cmp.{nat_cmp_total}
-use Rattle.std.specs.Option.{option_map}
 use Rattle.std.proofs.lemmas.Bool.{eqb-true}
-use Rattle.mig_headers.specs.declared.kind.Kind.{Kind}
-use Rattle.mig_headers.specs.declared.kind.Kind.TheVariants.{Pv, Hvm}
-use Rattle.mig_pagetypes.specs.PageTypes.{level_of}
-use Rattle.mig_pagetypes.specs.declared.page_type.PageType.{PageType}
 use Rattle.mig_pagetypes.specs.declared.page_type.PageType.TheVariants.{L4Tab, L4Pinned}
 use Rattle.mig_guest.specs.declared.part_code.PartCode.TheVariants.{VcpuBasic}
-use Rattle.mig_guest.specs.declared.table.Entry.{Entry}
-use Rattle.mig_guest.specs.declared.table.Entry.TheVariants.{NotPresent, Superpage, Frame}
-use Rattle.mig_guest.specs.Formed.{IsPart, width_of}
-use Rattle.mig_guest.specs.Frames.{FrameOf, FrameMap, is_type_of}
-use Rattle.mig_guest.specs.Guests.{GuestOf}
-use Rattle.mig_guest.specs.Hosts.{HostOf, HostFrame, HostFrames, IsValid, pfn_in}
+use Rattle.mig_guest.specs.declared.table.Entry.TheVariants.{NotPresent, Superpage}
+use Rattle.mig_guest.specs.Frames.{is_type_of}
 use Rattle.mig_guest.specs.PartCodes.{row_of}
-use Rattle.mig_guest.specs.PartKeys.{vcpu_key}
-use Rattle.mig_guest.specs.Tables.{EachEntry, IsWithin, entry}
+use Rattle.mig_guest.specs.Tables.{EachEntry, IsWithin}
 use Rattle.mig_guest.proofs.PartRows.{of_part, no_entries, one_code}
 use Rattle.mig_pvtables.specs.BadEntries.{NamesKnown}
-use Rattle.mig_pvtables.specs.Faults.{type_at, is_root}
-use Rattle.mig_pvtables.specs.Whole.{IsWhole}
-use Rattle.mig_pvtables.proofs.PvGuests.{pv_complete}
-use Rattle.mig_host_view.specs.Sound.{IsSound, machine_type}
-use Rattle.mig_host_view.specs.View.{guest_in}
+use Rattle.mig_pvtables.specs.Faults.{is_root}
+use Rattle.mig_host_view.specs.Sound.{machine_type}
 use Rattle.mig_host_view.proofs.ViewedSays.{pfn_found}
 use Rattle.mig_host.proofs.InOrder.{all_there}
 use Rattle.mig_host.proofs.SoundHosts.{contexts_long}
-use Rattle.mig_host_laws.specs.Fields.{Root, said_by}
-use Rattle.mig_host_laws.specs.Standing.{said_in, said_of, says_in, itself_in, in_stream, in_host}
-use Rattle.mig_walk.specs.Walks.{IsTableOf}
-use Rattle.mig_walk.specs.WalkSteps.{CanBeWalked}
+use Rattle.mig_host_laws.specs.Standing.{itself_in}
 use Rattle.mig_walk.proofs.HostFrames.{bare_type}
+use Rattle.std.specs.FinMap as maps
 
 -- what a slot says of which each table says it holds
 module _ (P : Entry → Type 0) (absent : P NotPresent) where

@@ -1,16 +1,9 @@
 -- An address is walked, level by level, as far as the entries name frames.
-use Rattle.std.proofs.Common.{◌≡◌, ℕ, ◌+◌, ◌<◌, ◌≤◌, Some, refl, sym, subst, ◌∙◌, arith, inl, inr}
+use Rattle.mig_walk.proofs.Common.{◌≡◌, ℕ, ◌+◌, ◌<◌, ◌≤◌, Some, refl, sym, subst, ◌∙◌, arith, inl, inr, Entry, PageType, some_value, Standing, Absent, NotTable, IsCanonical, IsTableOf, NamesNothing, Reach, IsWalked, CanBeWalked, IsReached, by_entry, absent, not_table, frame}
 use Rattle.std.proofs.lemmas.Bool.{cases_lt}
-use Rattle.mig_guest.specs.declared.table.Entry.{Entry}
+use Rattle.mig_walk.specs.declared.walk.Walked.TheVariants.{Frame}
+use Rattle.mig_walk.specs.Walks.{slot_of}
 use Rattle.mig_guest.specs.declared.table.Entry.TheVariants as entries
-use Rattle.mig_pagetypes.specs.declared.page_type.PageType.{PageType}
-use Rattle.mig_host.proofs.HostedGuests.{some_value}
-use Rattle.mig_host_laws.specs.Standing.{Standing}
-use Rattle.mig_walk.specs.declared.walk.Walked.TheVariants.{Frame, Absent, NotTable}
-use Rattle.mig_walk.specs.Walks.{slot_of, IsCanonical, IsTableOf, NamesNothing, Reach, IsWalked}
-use Rattle.mig_walk.specs.WalkSteps.{CanBeWalked, IsReached}
-use Rattle.mig_walk.specs.Walks.Reach.{by_entry}
-use Rattle.mig_walk.specs.Walks.IsWalked.{absent, not_table, frame}
 
 pub slot_small : (address level : ℕ) → slot_of address level < 512
 unfolding slot_of

@@ -1,5 +1,4 @@
-use Rattle.std.proofs.Common.{refl}
-use Rattle.byteorder.specs.Endian.{big_bytes}
+use Rattle.mig_bytes.proofs.Common.{refl, big_bytes}
 use Rattle.mig_bytes.proofs.FieldWrites.{put_field}
 use Rattle.mig_bytes.proofs.fields.put_u32_be.Goals as goal
 

@@ -1,5 +1,4 @@
-use Rattle.std.proofs.Common.{refl}
-use Rattle.byteorder.specs.Endian.{little_bytes}
+use Rattle.mig_bytes.proofs.Common.{refl, little_bytes}
 use Rattle.mig_bytes.proofs.FieldWrites.{put_field}
 use Rattle.mig_bytes.proofs.fields.put_u64_le.Goals as goal
 

@@ -1,5 +1,5 @@
-use Rattle.std.proofs.Common.{◌≡◌, ◌<◌, ◌+◌, ◌-◌, length, take, vec_len, rules, arith, ap, ◌∙◌, subst, length-take-le}
-use Rattle.mig_bytes.specs.Bytes.{Taken}
+use Rattle.mig_bytes.proofs.Common.{◌≡◌, ◌<◌, ◌+◌, ◌-◌, length, take, rules, arith, ap, ◌∙◌, subst, length-take-le, Taken}
+use Rattle.std.proofs.Common.{vec_len}
 use Rattle.mig_bytes.proofs.Vectors.{tail_written, first_items}
 use Rattle.mig_bytes.proofs.take.take_piece.Goals as goal
 

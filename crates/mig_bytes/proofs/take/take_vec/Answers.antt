@@ -1,5 +1,4 @@
-use Rattle.std.proofs.Common.{◌++◌, length, rules, arith, length-append, append_assoc, ap, subst, ◌∙◌}
-use Rattle.std.proofs.KnownBytes.{Consumes-trans}
+use Rattle.mig_bytes.proofs.Common.{◌++◌, length, rules, arith, length-append, append_assoc, ap, subst, ◌∙◌, Consumes-trans}
 use Rattle.mig_bytes.specs.Bytes.{Grown}
 use Rattle.mig_bytes.proofs.Taking.{takes_more, few_more}
 use Rattle.mig_bytes.proofs.Vectors.{kept_first}

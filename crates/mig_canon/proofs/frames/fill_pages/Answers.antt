@@ -1,5 +1,4 @@
-use Rattle.mig_canon.proofs.Common.{sym, ◌∙◌, entries_from, frames_in}
-use Rattle.mig_records_pages.proofs.ListSteps.{not_ended}
+use Rattle.mig_canon.proofs.Common.{sym, ◌∙◌, entries_from, frames_in, not_ended}
 use Rattle.mig_canon.proofs.frames.fill_pages.Goals as goal
 
 pub returns-in-None-clause-bytes : goal.returns-in-None-clause-bytes

@@ -1,6 +1,6 @@
-use Rattle.mig_canon.proofs.Common.{sym, ◌∙◌, arith, entries_from, Frame, frames_in}
+use Rattle.mig_canon.proofs.Common.{sym, ◌∙◌, arith, entries_from, Frame, frames_in, not_ended}
 use Rattle.std.specs.Option.{option_copied}
-use Rattle.mig_records_pages.proofs.ListSteps.{drop_next, not_ended}
+use Rattle.mig_records_pages.proofs.ListSteps.{drop_next}
 use Rattle.mig_records_pages.proofs.PageTexts.{pages_next, words_put}
 use Rattle.mig_canon.proofs.frames.fill_words.Goals as goal
 

@@ -1,5 +1,5 @@
-use Rattle.mig_canon.proofs.Common.{take, drop, sym, ap, subst, ◌∙◌, rules, arith, drop-drop, Appends, AppendsPart, puts_then, puts_stop, puts_same, flat_more, flat_parted, entries_from, page_in, pages_of, frames_in}
-use Rattle.std.proofs.KnownBytes.{Appends-trans}
+use Rattle.mig_canon.proofs.Common.{take, drop, sym, ap, subst, ◌∙◌, rules, arith, drop-drop, Appends, AppendsPart, puts_then, puts_stop, puts_same, entries_from, page_in, pages_of, frames_in, Appends-trans}
+use Rattle.mig_bytes.proofs.Texts.{flat_more, flat_parted}
 use Rattle.mig_canon.proofs.frames.write_pages.Goals as goal
 
 pub returns-in_err-put_all-clause-bytes : goal.returns-in_err-put_all-clause-bytes

@@ -1,5 +1,4 @@
-use Rattle.mig_canon.proofs.Common.{sym, puts_then, puts_stop, puts_same}
-use Rattle.mig_records.proofs.RecordTexts.{record_text}
+use Rattle.mig_canon.proofs.Common.{sym, puts_then, puts_stop, puts_same, record_text}
 use Rattle.mig_canon.proofs.Spelling.{named_len}
 use Rattle.mig_canon.proofs.parts.write_named.Goals as goal
 

@@ -1,7 +1,7 @@
-use Rattle.mig_canon.proofs.Common.{[], ◌∷◌, ◌++◌, sym, ap, subst, ◌∙◌, rules, code_number, Part, shape_of, parts_at, piece, IsShortPart}
-use Rattle.std.specs.FinMap as maps
-use Rattle.mig_records_pages.proofs.ListSteps.{more_done, done_on, done_stop}
+use Rattle.mig_canon.proofs.Common.{[], ◌∷◌, ◌++◌, sym, ap, subst, ◌∙◌, rules, code_number, Part, shape_of, parts_at, piece, IsShortPart, done_stop}
+use Rattle.mig_records_pages.proofs.ListSteps.{more_done, done_on}
 use Rattle.mig_canon.proofs.Wholes.{next_part, holds_next, code_next, short_parts}
+use Rattle.std.specs.FinMap as maps
 use Rattle.mig_canon.proofs.parts.write_pieces.Goals as goal
 
 pub write_piece-requires-clause-short : goal.write_piece-requires-clause-short

@@ -1,6 +1,5 @@
-use Rattle.mig_canon.proofs.Common.{get_or, take, ap, sym, ◌∙◌, ◌++◌, drop-cons, take-append-drop, records_of, text_of}
-use Rattle.mig_guest.specs.declared.part_code.PartCode.TheVariants.{P2mFrames}
-use Rattle.mig_records_pages.proofs.ListSteps.{done_stop}
+use Rattle.mig_canon.proofs.Common.{take, ap, sym, ◌∙◌, ◌++◌, drop-cons, take-append-drop, records_of, text_of, P2mFrames, done_stop}
+use Rattle.std.proofs.Common.{get_or}
 use Rattle.mig_canon.proofs.writer.write_codes.Goals as goal
 
 pub returns-in_err-write_parts-clause-bytes : goal.returns-in_err-write_parts-clause-bytes

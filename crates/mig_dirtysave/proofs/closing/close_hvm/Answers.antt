@@ -1,13 +1,9 @@
-use Rattle.std.proofs.Common.{refl, sym, ap, subst, ◌∙◌}
-use Rattle.std.specs.FinMap as maps
-use Rattle.mig_guest.specs.Guests.{GuestOf}
-use Rattle.mig_guest.specs.Formed.{IsFormed}
-use Rattle.mig_dirtysave_parts.specs.KeptParts.{is_setting}
-use Rattle.mig_dirtysave_parts.proofs.Codes.{emulators_kept, kept_formed, no_pv}
+use Rattle.mig_dirtysave.proofs.Common.{refl, sym, ap, subst, ◌∙◌, GuestOf, IsFormed, is_setting, emulators_kept, kept_formed, nothing_stops}
+use Rattle.mig_dirtysave_parts.proofs.Codes.{no_pv}
 use Rattle.mig_dirtysave_parts.proofs.Rows.{hvm_judged}
 use Rattle.mig_dirtysave_parts.proofs.Closings.{hvm_closes}
-use Rattle.mig_dirtysave_parts.proofs.Texts.{nothing_stops}
 use Rattle.mig_dirtysave.proofs.HvmTables.{no_table_fault}
+use Rattle.std.specs.FinMap as maps
 use Rattle.mig_dirtysave.proofs.closing.close_hvm.Goals as goal
 
 pub returns-in-Err-clause-first : goal.returns-in-Err-clause-first

@@ -1,11 +1,7 @@
-use Rattle.std.proofs.Common.{sym, ap, ◌∙◌}
-use Rattle.std.specs.FinMap as maps
-use Rattle.mig_guest.specs.Guests.{GuestOf}
-use Rattle.mig_host_view.specs.View.{view}
-use Rattle.mig_dirtysave_parts.proofs.Codes.{emulators_kept, emulators_seen}
+use Rattle.mig_dirtysave.proofs.Common.{sym, ap, ◌∙◌, GuestOf, view, emulators_kept, emulators_seen, nothing_stops, on_err}
 use Rattle.mig_dirtysave_parts.proofs.Closings.{pv_closes}
-use Rattle.mig_dirtysave_parts.proofs.Texts.{nothing_stops, on_err}
 use Rattle.mig_dirtysave.proofs.Looked.{min_reaches, types_below}
+use Rattle.std.specs.FinMap as maps
 use Rattle.mig_dirtysave.proofs.closing.close_pv.Goals as goal
 
 pub settle-requires-clause-types : goal.settle-requires-clause-types

@@ -1,11 +1,6 @@
-use Rattle.std.proofs.Common.{◌≡◌, Option, Some, None, refl, sym, ap, subst, ◌∙◌}
-use Rattle.mig_headers.specs.declared.unsound.Unsound.{Unsound}
-use Rattle.mig_guest.specs.Formed.{IsFormed}
-use Rattle.mig_guest.specs.Guests.{GuestOf}
-use Rattle.mig_dirtysave.specs.Paused.{standing_seen}
+use Rattle.mig_dirtysave.proofs.Common.{◌≡◌, Option, Some, None, refl, sym, ap, subst, ◌∙◌, Unsound, IsFormed, GuestOf, standing_seen, is_setting}
 use Rattle.mig_dirtysave.proofs.HeldParts.{kept_are_held}
 use Rattle.mig_dirtysave.proofs.TableRows.{rounds_find_rows}
-use Rattle.mig_dirtysave_parts.specs.KeptParts.{is_setting}
 use Rattle.mig_dirtysave_parts.proofs.PvSettings.{settings_formed}
 use Rattle.mig_dirtysave.proofs.PvRows.{few_descriptors, found_stands}
 use Rattle.mig_dirtysave.proofs.Settled.{settings_are}

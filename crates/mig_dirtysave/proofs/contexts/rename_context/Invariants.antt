@@ -1,10 +1,5 @@
-use Rattle.std.proofs.Common.{◌≤◌}
-use Rattle.std.specs.Prelude.{option_and_then}
-use Rattle.mig_guest.specs.Hosts.{pfn_in}
-use Rattle.mig_pvtables.specs.VcpuContexts.{is_used_somewhere}
+use Rattle.mig_dirtysave.proofs.Common.{◌≤◌, option_and_then, pfn_in, is_used_somewhere, FieldsRenamed, types_seen, OnlyLooksUp}
 use Rattle.mig_pvtables.proofs.Walks.{NoneMisses}
-use Rattle.mig_host_view.proofs.LocaliseContexts.{FieldsRenamed}
-use Rattle.mig_dirtysave.specs.Paused.{types_seen, OnlyLooksUp}
 use Rattle.mig_dirtysave.proofs.contexts.rename_context.Given as goal
 
 abbrev pub invariant-loop-field : goal.invariant-loop-field

@@ -1,22 +1,9 @@
-use Rattle.std.proofs.Common.{arith, ◌≡◌, ℕ, List, Some, Bool, ap, subst, ◌∙◌}
-use Rattle.std.specs.Prelude.{IfSome, find}
-use Rattle.std.specs.Option.{option_map}
-use Rattle.std.specs.FinMap as maps
-use Rattle.mig_headers.specs.declared.unsound.Unsound.TheVariants.{VcpuFrame}
-use Rattle.mig_guest.specs.Guests.{GuestOf}
-use Rattle.mig_guest.specs.Hosts.{HostOf, pfn_in}
-use Rattle.mig_guest.specs.Parts.{Part, parts_after}
-use Rattle.mig_guest.proofs.Longs.{length_longs}
-use Rattle.mig_pvtables.specs.Faults.{field_numbers, first_some}
-use Rattle.mig_pvtables.specs.VcpuContexts.{is_used_somewhere}
+use Rattle.mig_dirtysave.proofs.Common.{arith, ◌≡◌, ℕ, List, Some, Bool, ap, subst, ◌∙◌, IfSome, find, option_map, VcpuFrame, GuestOf, HostOf, pfn_in, Part, parts_after, length_longs, field_numbers, first_some, is_used_somewhere, in_fields, contexts_start, renamed_context, names_ill, standing_seen}
 use Rattle.mig_pvtables.proofs.BlankCodes.{code_start, code_next, code_long, code_fewer, code_end}
 use Rattle.mig_pvtables.proofs.BlankParts.{OnlyPart}
-use Rattle.mig_pvtables.proofs.Walks.{in_fields, contexts_start}
-use Rattle.mig_host_view.specs.RenamedContexts.{renamed_context}
-use Rattle.mig_host_laws.specs.FirstRow.{names_ill}
-use Rattle.mig_dirtysave.specs.Paused.{standing_seen}
 use Rattle.mig_dirtysave.proofs.Looks.{looks_none, looks_on}
 use Rattle.mig_dirtysave.proofs.ContextSteps.{behind_stays, next_found, next_fine, found_in_next}
+use Rattle.std.specs.FinMap as maps
 use Rattle.mig_dirtysave.proofs.contexts.rename_contexts.Goals as goal
 
 pub loop-key-init : goal.loop-key-init

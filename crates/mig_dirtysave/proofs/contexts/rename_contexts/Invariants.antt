@@ -1,14 +1,6 @@
-use Rattle.std.proofs.Common.{◌≡◌, ◌≤◌, length}
-use Rattle.std.specs.FinMap as maps
-use Rattle.mig_guest.specs.Hosts.{pfn_in}
-use Rattle.mig_guest.specs.Parts.{parts_after}
-use Rattle.mig_pvtables.specs.Faults.{first_some}
-use Rattle.mig_pvtables.specs.VcpuContexts.{is_used_somewhere}
+use Rattle.mig_dirtysave.proofs.Common.{◌≡◌, ◌≤◌, length, pfn_in, parts_after, first_some, is_used_somewhere, in_fields, in_contexts, renamed_context, names_ill, standing_seen, OnlyLooksUp}
 use Rattle.mig_pvtables.proofs.BlankCodes.{ChangedUpTo}
-use Rattle.mig_pvtables.proofs.Walks.{in_fields, in_contexts}
-use Rattle.mig_host_view.specs.RenamedContexts.{renamed_context}
-use Rattle.mig_host_laws.specs.FirstRow.{names_ill}
-use Rattle.mig_dirtysave.specs.Paused.{standing_seen, OnlyLooksUp}
+use Rattle.std.specs.FinMap as maps
 use Rattle.mig_dirtysave.proofs.contexts.rename_contexts.Given as goal
 
 abbrev pub invariant-loop-key : goal.invariant-loop-key

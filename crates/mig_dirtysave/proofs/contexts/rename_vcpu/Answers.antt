@@ -1,9 +1,6 @@
-use Rattle.std.proofs.Common.{ap, ◌∙◌}
-use Rattle.mig_guest.specs.Hosts.{pfn_in}
-use Rattle.mig_pvtables.specs.VcpuContexts.{is_used_somewhere}
+use Rattle.mig_dirtysave.proofs.Common.{ap, ◌∙◌, pfn_in, is_used_somewhere, renamed_context}
 use Rattle.mig_pvtables.proofs.BlankParts.{no_part}
 use Rattle.mig_pvtables.proofs.Walks.{taken}
-use Rattle.mig_host_view.specs.RenamedContexts.{renamed_context}
 use Rattle.mig_host_view.proofs.LocaliseGuests.{part_put}
 use Rattle.mig_dirtysave.proofs.contexts.rename_vcpu.Goals as goal
 

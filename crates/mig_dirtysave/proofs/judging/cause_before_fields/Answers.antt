@@ -1,8 +1,5 @@
-use Rattle.std.proofs.Common.{◌≡◌, ℕ, Some, sym, ap, ◌∙◌}
-use Rattle.std.specs.Option.{option_map}
+use Rattle.mig_dirtysave.proofs.Common.{◌≡◌, ℕ, Some, sym, ap, ◌∙◌, option_map, HostOf, find_gdt}
 use Rattle.mig_headers.specs.declared.unsound.Unsound.TheVariants.{GdtEnts}
-use Rattle.mig_guest.specs.Hosts.{HostOf}
-use Rattle.mig_host_view.specs.Sound.{find_gdt}
 use Rattle.mig_dirtysave.proofs.SeenRows.{behind_tables, same_gdt}
 use Rattle.mig_dirtysave.proofs.judging.cause_before_fields.Goals as goal
 

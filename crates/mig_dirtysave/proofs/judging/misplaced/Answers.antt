@@ -1,5 +1,4 @@
-use Rattle.std.proofs.Common.{Some, None, ◌∙◌}
-use Rattle.mig_dirtysave.specs.Paused.{standing_seen}
+use Rattle.mig_dirtysave.proofs.Common.{Some, None, ◌∙◌, standing_seen}
 use Rattle.mig_dirtysave.proofs.SeenRows.{row_of_list}
 use Rattle.mig_dirtysave.proofs.judging.misplaced.Goals as goal
 

@@ -1,4 +1,4 @@
-use Rattle.std.proofs.Common.{◌≡◌, ℕ, ◌<◌, get_or, None}
+use Rattle.mig_dirtysave.proofs.Common.{◌≡◌, ℕ, ◌<◌, get_or, None}
 use Rattle.mig_dirtysave.proofs.listing.clear.Given as goal
 
 abbrev pub invariant-loop-mark : goal.invariant-loop-mark

@@ -1,6 +1,4 @@
-use Rattle.std.proofs.Common.{arith, sym, ap, ◌∙◌}
-use Rattle.std.specs.Prelude.{is_some}
-use Rattle.mig_dirtysave.specs.Paused.{types_seen}
+use Rattle.mig_dirtysave.proofs.Common.{arith, sym, ap, ◌∙◌, is_some, types_seen}
 use Rattle.mig_dirtysave.proofs.ListSteps.{none_has, one_has, far_has}
 use Rattle.mig_dirtysave.proofs.listing.has_frame.Goals as goal
 

@@ -1,6 +1,4 @@
-use Rattle.std.proofs.Common.{◌≡◌, ℕ, ◌+◌, ◌*◌, ◌<◌, false}
-use Rattle.std.specs.Prelude.{is_some}
-use Rattle.mig_dirtysave.specs.Paused.{types_seen}
+use Rattle.mig_dirtysave.proofs.Common.{◌≡◌, ℕ, ◌+◌, ◌*◌, ◌<◌, false, is_some, types_seen}
 use Rattle.mig_dirtysave.proofs.listing.has_frame.Given as goal
 
 abbrev pub invariant-loop-slot : goal.invariant-loop-slot

@@ -1,7 +1,4 @@
-use Rattle.std.proofs.Common.{arith, ◌<◌, length, get_or, Some, None, ap, subst, ◌∙◌}
-use Rattle.std.proofs.Math.ListN.{set}
-use Rattle.mig_guest.specs.Longs.{long_at}
-use Rattle.mig_dirtysave.specs.Paused.{types_seen}
+use Rattle.mig_dirtysave.proofs.Common.{arith, ◌<◌, length, get_or, Some, None, ap, subst, ◌∙◌, set, long_at, types_seen}
 use Rattle.mig_dirtysave.proofs.ListSteps.{nothing_marked, nothing_ill, found_ill, more_fine, more_marked, is_typed, none_ill, first_of_standing}
 use Rattle.mig_dirtysave.proofs.listing.misplaced_by_type.Goals as goal
 

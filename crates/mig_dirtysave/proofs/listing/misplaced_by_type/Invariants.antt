@@ -1,4 +1,4 @@
-use Rattle.mig_dirtysave.specs.Paused.{types_seen}
+use Rattle.mig_dirtysave.proofs.Common.{types_seen}
 use Rattle.mig_dirtysave.proofs.ListSteps.{AreMarked, IsFineTo}
 use Rattle.mig_dirtysave.proofs.listing.misplaced_by_type.Given as goal
 

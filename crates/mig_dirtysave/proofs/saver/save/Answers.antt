@@ -1,14 +1,4 @@
-use Rattle.std.proofs.Common.{◌≡◌, ℕ, arith, true, Some, inl, refl, sym, ap, subst, ◌∙◌}
-use Rattle.mig_host_view.specs.Sound.{unsoundness}
-use Rattle.mig_dirtysave_rounds.specs.Parts.{total}
-use Rattle.mig_guest.specs.Hosts.{HostOf}
-use Rattle.std.specs.Io.KnownBytes.{Appends}
-use Rattle.mig_libxl.proofs.Alike.{closing_alike}
-use Rattle.mig_dirtysave_parts.specs.KeptParts.{is_early}
-use Rattle.mig_host_laws.specs.Standing.{is_of_no_type}
-use Rattle.mig_host_laws.specs.Unsoundness.{UnsoundHas}
-use Rattle.mig_dirtysave_parts.proofs.Texts.{on_err}
-use Rattle.mig_dirtysave.specs.SaveAnswers.{IsLittleBehind, IsTrusted}
+use Rattle.mig_dirtysave.proofs.Common.{◌≡◌, ℕ, arith, true, Some, inl, refl, sym, ap, subst, ◌∙◌, unsoundness, total, HostOf, Appends, closing_alike, is_early, is_of_no_type, UnsoundHas, on_err, IsLittleBehind, IsTrusted}
 use Rattle.mig_dirtysave.proofs.Looked.{stream_stays, tight_stay, total_stays, trust_stays, unsound_on}
 use Rattle.mig_dirtysave.proofs.Ends.{nothing_read, stopped_closing, stopped_no_stream, stopped_behind, stopped_first, stopped_frames, stopped_last, stopped_opening}
 use Rattle.mig_dirtysave.proofs.Streams.{early_stays, held_there, kind_stays, save_is_stream, top_held, width_stays}

@@ -1,9 +1,8 @@
-use Rattle.std.proofs.Common.{◌≡◌, true, false, sym, ap, subst, ◌∙◌}
+use Rattle.mig_dirtysave_parts.proofs.Common.{◌≡◌, sym, ap, subst, ◌∙◌, GuestOf, is_early, is_setting, parts_alone}
+use Rattle.std.proofs.Common.{true, false}
 use Rattle.std.specs.Prelude.{◌==◌, ◌&&◌, not}
-use Rattle.std.specs.FinMap as maps
-use Rattle.mig_guest.specs.Guests.{GuestOf}
-use Rattle.mig_dirtysave_parts.specs.KeptParts.{is_early, is_setting, parts_alone}
 use Rattle.mig_dirtysave_parts.proofs.Walks.{Copied, remaining_falls, bare_from, copied_none, copied_past, copied_all, copies_one}
+use Rattle.std.specs.FinMap as maps
 use Rattle.mig_dirtysave_parts.proofs.prepare.fill_parts.Goals as goal
 
 pub loop-key-init : goal.loop-key-init

@@ -1,5 +1,4 @@
-use Rattle.std.proofs.Common.{◌≡◌}
-use Rattle.mig_dirtysave_parts.specs.KeptParts.{is_early, is_setting, parts_alone}
+use Rattle.mig_dirtysave_parts.proofs.Common.{◌≡◌, is_early, is_setting, parts_alone}
 use Rattle.mig_dirtysave_parts.proofs.Walks.{remaining, Copied}
 use Rattle.mig_dirtysave_parts.proofs.prepare.fill_parts.Given as goal
 

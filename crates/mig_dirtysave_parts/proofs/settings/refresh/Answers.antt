@@ -1,5 +1,5 @@
-use Rattle.std.proofs.Common.{◌≡◌, true, sym, ap, ◌∙◌}
-use Rattle.mig_dirtysave_parts.specs.KeptParts.{is_setting, parts_alone}
+use Rattle.mig_dirtysave_parts.proofs.Common.{◌≡◌, sym, ap, ◌∙◌, is_setting, parts_alone}
+use Rattle.std.proofs.Common.{true}
 use Rattle.mig_dirtysave_parts.proofs.Walks.{remaining_falls, refreshed_past, refreshed_all, refreshes_one}
 use Rattle.mig_dirtysave_parts.proofs.settings.refresh.Goals as goal
 

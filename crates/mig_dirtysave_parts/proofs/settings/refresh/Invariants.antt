@@ -1,5 +1,4 @@
-use Rattle.std.proofs.Common.{◌≡◌}
-use Rattle.mig_dirtysave_parts.specs.KeptParts.{parts_alone}
+use Rattle.mig_dirtysave_parts.proofs.Common.{◌≡◌, parts_alone}
 use Rattle.mig_dirtysave_parts.proofs.Walks.{remaining, Refreshed}
 use Rattle.mig_dirtysave_parts.proofs.settings.refresh.Given as goal
 

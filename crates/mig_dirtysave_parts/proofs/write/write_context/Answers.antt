@@ -1,5 +1,4 @@
-use Rattle.std.proofs.Common.{refl}
-use Rattle.mig_canon.proofs.Common.{puts_then, puts_stop, puts_same}
+use Rattle.mig_dirtysave_parts.proofs.Common.{refl, puts_then, puts_stop, puts_same}
 use Rattle.mig_canon.proofs.Spelling.{single_text}
 use Rattle.mig_dirtysave_parts.proofs.write.write_context.Goals as goal
 

@@ -1,4 +1,5 @@
-use Rattle.mig_canon.proofs.Common.{puts_then, puts_stop, puts_same, static_codes}
+use Rattle.mig_dirtysave_parts.proofs.Common.{puts_then, puts_stop, puts_same}
+use Rattle.mig_canon.proofs.Common.{static_codes}
 use Rattle.mig_canon.proofs.Spelling.{codes_text}
 use Rattle.mig_dirtysave_parts.proofs.write.write_policies.Goals as goal
 

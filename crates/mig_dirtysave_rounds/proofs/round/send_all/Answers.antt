@@ -1,7 +1,4 @@
-use Rattle.std.proofs.Common.{rules, arith, ◌≡◌, ◌<◌, ◌^◌, length, List, refl, sym, ap, subst, ◌∙◌}
-use Rattle.mig_records_pages.specs.Told.{FrameTold}
-use Rattle.mig_records_pages.specs.Batches.{IsSent}
-use Rattle.mig_dirtysave_rounds.specs.Current.{notes_of}
+use Rattle.mig_dirtysave_rounds.proofs.Common.{rules, arith, ◌≡◌, ◌<◌, ◌^◌, length, List, refl, sym, ap, subst, ◌∙◌, FrameTold, IsSent, notes_of}
 use Rattle.mig_dirtysave_rounds.proofs.Shapes.{stays_on, reads_stay}
 use Rattle.mig_dirtysave_rounds.proofs.Parts.{members_below}
 use Rattle.mig_dirtysave_rounds.proofs.Noted.{noted_below}

@@ -1,10 +1,4 @@
-use Rattle.std.proofs.Common.{ℕ, Option, ◌≡◌, ◌-◌, List, [], ◌≤◌, ◌<◌, length, true}
-use Rattle.mig_records_pages.specs.Told.{FrameTold}
-use Rattle.mig_records_pages.specs.Batches.{IsSent}
-use Rattle.mig_guest.specs.Pfns.{pfns_of_words}
-use Rattle.mig_guest.specs.Changes.{IsBelow}
-use Rattle.mig_dirtysave_rounds.specs.Current.{notes_of}
-use Rattle.mig_dirtysave_rounds.specs.Sends.{ReadsFront, SendsFront, IsWorst}
+use Rattle.mig_dirtysave_rounds.proofs.Common.{ℕ, Option, ◌≡◌, ◌-◌, List, [], ◌≤◌, ◌<◌, length, true, FrameTold, IsSent, pfns_of_words, IsBelow, notes_of, ReadsFront, SendsFront, IsWorst}
 use Rattle.mig_dirtysave_rounds.proofs.round.send_all.Given as goal
 
 abbrev pub invariant-members : goal.invariant-members

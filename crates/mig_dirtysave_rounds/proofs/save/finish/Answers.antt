@@ -1,11 +1,4 @@
-use Rattle.std.proofs.Common.{◌≡◌, ℕ, sym, ap, subst, ◌∙◌}
-use Rattle.mig_records_pages.specs.Batches.{IsBehind}
-use Rattle.mig_guest.specs.Pfns.{Pfns, joined, pfns_of_words}
-use Rattle.mig_guest.specs.History.{History, Since}
-use Rattle.mig_dirtysave_rounds.specs.Current.{notes_of}
-use Rattle.mig_guest.specs.Changes.{IsBelow}
-use Rattle.mig_dirtysave_rounds.specs.Parts.{total}
-use Rattle.mig_dirtysave_rounds.specs.Sends.{ReadsFront, SendsFront, IsWorst}
+use Rattle.mig_dirtysave_rounds.proofs.Common.{◌≡◌, ℕ, sym, ap, subst, ◌∙◌, IsBehind, Pfns, joined, pfns_of_words, History, Since, notes_of, IsBelow, total, ReadsFront, SendsFront, IsWorst}
 use Rattle.mig_dirtysave_rounds.specs.Live.{SendsLast}
 use Rattle.mig_dirtysave_rounds.proofs.Shapes.{stays_on, ran_stays}
 use Rattle.mig_dirtysave_rounds.proofs.Steps.{on_err}

@@ -1,15 +1,9 @@
-use Rattle.std.proofs.Common.{rules, arith, ℕ, ◌+◌, ◌/◌, ◌<◌, ◌≤◌, ◌^◌, ap, sym, subst, ◌∙◌}
-use Rattle.mig_records_pages.specs.Batches.{IsBehind}
-use Rattle.mig_guest.specs.Pfns.{size, pfns_of_words}
-use Rattle.mig_guest.specs.Changes.{IsBelow}
-use Rattle.mig_guest.proofs.Sizes.{size-le}
-use Rattle.mig_dirtysave_rounds.specs.Current.{notes_of}
-use Rattle.mig_dirtysave_rounds.specs.Parts.{total}
+use Rattle.mig_dirtysave_rounds.proofs.Common.{rules, arith, ℕ, ◌+◌, ◌/◌, ◌<◌, ◌≤◌, ◌^◌, ap, sym, subst, ◌∙◌, IsBehind, size, pfns_of_words, IsBelow, size-le, notes_of, total}
 use Rattle.mig_dirtysave_rounds.proofs.Shapes.{stays_on, ran_stays}
 use Rattle.mig_dirtysave_rounds.proofs.Steps.{on_err}
 use Rattle.mig_dirtysave_rounds.proofs.Saves.{live_round, sent_round, longer, counted_more, goes_on, round_keeps, even, behind_taken}
-use Rattle.mig_dirtysave_rounds.proofs.save.run_rounds.Goals as goal
 use Rattle.mig_dirtysave_rounds.proofs.save.run_rounds.Goals.{then-rounds-eq-MOST_ROUNDS-via-then-rounds-eq-MOST_ROUNDS, then-rounds-eq-MOST_ROUNDS-via-else-rounds-eq-MOST_ROUNDS+then-count-lt-FEW}
+use Rattle.mig_dirtysave_rounds.proofs.save.run_rounds.Goals as goal
 
 pub returns-in_err-send_all-clause-behind : goal.returns-in_err-send_all-clause-behind
 returns-in_err-send_all-clause-behind g c =

@@ -1,10 +1,4 @@
-use Rattle.std.proofs.Common.{◌≡◌, ◌≤◌, ◌<◌, ◌-◌, ◌+◌, ◌*◌, ◌/◌, ◌^◌, [], length}
-use Rattle.mig_guest.specs.Pfns.{pfns_of_words}
-use Rattle.mig_guest.specs.Rounds.{GoesOn}
-use Rattle.mig_guest.specs.Changes.{IsBelow}
-use Rattle.mig_dirtysave_rounds.specs.Parts.{total_taken}
-use Rattle.mig_dirtysave_rounds.specs.Current.{notes_of}
-use Rattle.mig_dirtysave_rounds.specs.Live.{Live, SendsRounds, StaysSame}
+use Rattle.mig_dirtysave_rounds.proofs.Common.{◌≡◌, ◌≤◌, ◌<◌, ◌-◌, ◌+◌, ◌*◌, ◌/◌, ◌^◌, [], length, pfns_of_words, GoesOn, IsBelow, total_taken, notes_of, Live, SendsRounds, StaysSame}
 use Rattle.mig_dirtysave_rounds.proofs.save.run_rounds.Given as goal
 
 abbrev pub invariant-loop-machine : goal.invariant-loop-machine

@@ -1,15 +1,6 @@
-use Rattle.std.proofs.Common.{arith, ◌≡◌, ℕ, ◌+◌, ◌≤◌, ◌^◌, List, [], None, get_or, sym, ap, subst, ◌∙◌}
+use Rattle.mig_dirtysave_rounds.proofs.Common.{arith, ◌≡◌, ℕ, ◌+◌, ◌≤◌, ◌^◌, List, [], None, get_or, sym, ap, subst, ◌∙◌, FrameTold, IsSent, IsBehind, nothing_sent, size, pfns_of_words, IsBelow, size-le, total, notes_of, FramesSaved, SavedSent}
 use Rattle.std.specs.Vec.{with_items}
 use Rattle.std.proofs.lemmas.List.{with_items_is}
-use Rattle.mig_records_pages.specs.Told.{FrameTold}
-use Rattle.mig_records_pages.specs.Batches.{IsSent, IsBehind}
-use Rattle.mig_records_pages.proofs.Joins.{nothing_sent}
-use Rattle.mig_guest.specs.Pfns.{size, pfns_of_words}
-use Rattle.mig_guest.specs.Changes.{IsBelow}
-use Rattle.mig_guest.proofs.Sizes.{size-le}
-use Rattle.mig_dirtysave_rounds.specs.Parts.{total}
-use Rattle.mig_dirtysave_rounds.specs.Current.{notes_of}
-use Rattle.mig_dirtysave_rounds.specs.Live.{FramesSaved, SavedSent}
 use Rattle.mig_dirtysave_rounds.proofs.Steps.{on_err}
 use Rattle.mig_dirtysave_rounds.proofs.Totals.{unused_start, unused_below, unused_noted, sent_before, frames_saved}
 use Rattle.mig_dirtysave_rounds.proofs.save.send_frames.Given as given

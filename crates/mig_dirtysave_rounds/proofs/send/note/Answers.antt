@@ -1,4 +1,4 @@
-use Rattle.mig_dirtysave_rounds.specs.Findings.{found_as}
+use Rattle.mig_dirtysave_rounds.proofs.Common.{found_as}
 use Rattle.mig_dirtysave_rounds.proofs.Noted.{noted_now}
 use Rattle.mig_dirtysave_rounds.proofs.send.note.Goals as goal
 

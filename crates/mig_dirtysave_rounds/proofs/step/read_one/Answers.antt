@@ -1,9 +1,8 @@
-use Rattle.std.proofs.Common.{sym, ◌∙◌, refl, subst}
-use Rattle.mig_dirtysave_rounds.specs.Findings.{found_as, frame_sent, NamesWithin}
-use Rattle.mig_dirtysave_rounds.specs.declared.found.Found.TheVariants as Found
+use Rattle.mig_dirtysave_rounds.proofs.Common.{sym, ◌∙◌, refl, subst, found_as, frame_sent, NamesWithin}
 use Rattle.mig_dirtysave_rounds.proofs.Peeks.{raw_there, shown_there, gone_there, can_be_told, no_frame_told, plain_within, type_there, many_calls, reads_peek, reads_table, if_ok_three}
 use Rattle.mig_dirtysave_rounds.proofs.Shapes.{stays_on, ran_stays}
 use Rattle.mig_dirtysave_rounds.proofs.Strays.{strays_none, strays_peek, strays_looks}
+use Rattle.mig_dirtysave_rounds.specs.declared.found.Found.TheVariants as Found
 use Rattle.mig_dirtysave_rounds.proofs.step.read_one.Goals as goal
 
 pub read_table-requires-clause-raw : goal.read_table-requires-clause-raw

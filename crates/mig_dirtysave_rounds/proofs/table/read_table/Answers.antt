@@ -1,7 +1,6 @@
-use Rattle.std.proofs.Common.{sym, subst, ◌∙◌}
+use Rattle.mig_dirtysave_rounds.proofs.Common.{sym, subst, ◌∙◌, IsRenamed}
 use Rattle.mig_dirtysave_rounds.proofs.Tables.{judged_whole, table_within}
 use Rattle.mig_dirtysave_rounds.proofs.Peeks.{no_frame_within}
-use Rattle.mig_dirtysave_rounds.specs.Step.{IsRenamed}
 use Rattle.mig_dirtysave_rounds.proofs.table.read_table.Goals as goal
 
 pub returns-in-Ok-None-clause-right : goal.returns-in-Ok-None-clause-right

@@ -1,4 +1,4 @@
-use Rattle.std.proofs.Common.{arith, ◌≡◌, ◌+◌, sym, subst, ◌∙◌}
+use Rattle.mig_dirtysave_rounds.proofs.Common.{arith, ◌≡◌, ◌+◌, sym, subst, ◌∙◌}
 use Rattle.mig_dirtysave_rounds.proofs.Tables.{Front, looks_on, looks_at_most, front_none, front_more, front_lost, front_whole}
 use Rattle.mig_dirtysave_rounds.proofs.table.rename.Goals as goal
 

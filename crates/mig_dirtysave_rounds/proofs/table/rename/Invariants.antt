@@ -1,4 +1,4 @@
-use Rattle.std.proofs.Common.{◌≤◌}
+use Rattle.mig_dirtysave_rounds.proofs.Common.{◌≤◌}
 use Rattle.mig_dirtysave_rounds.proofs.Tables.{Front}
 use Rattle.mig_dirtysave_rounds.proofs.table.rename.Given as goal
 

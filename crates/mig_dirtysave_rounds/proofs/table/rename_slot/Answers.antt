@@ -1,7 +1,5 @@
-use Rattle.std.proofs.Common.{arith, ap}
+use Rattle.mig_dirtysave_rounds.proofs.Common.{arith, ap, MachineState, Looks}
 use Rattle.mig_guest.specs.MachineCalls.{LookedUp}
-use Rattle.mig_guest.specs.MachineStates.{MachineState}
-use Rattle.mig_dirtysave_rounds.specs.Step.{Looks}
 use Rattle.mig_dirtysave_rounds.proofs.table.rename_slot.Goals as goal
 
 looked : (s t : MachineState) → LookedUp s t → Looks 1 s t

@@ -1,8 +1,5 @@
-use Rattle.std.proofs.Common.{◌≡◌, ◌≤◌, ◌+◌, ◌-◌, sym, ap, ◌∙◌, arith}
-use Rattle.mig_pagetypes.specs.declared.page_type.PageType.TheVariants.{Notab}
+use Rattle.mig_exercise.proofs.Common.{◌≡◌, ◌≤◌, ◌+◌, ◌-◌, sym, ap, ◌∙◌, arith, Notab, first_contents, first_data, host_begun, number_page}
 use Rattle.mig_exercise.specs.Numbers.{number}
-use Rattle.mig_exercise.specs.ExerciseHosts.{first_contents, first_data}
-use Rattle.mig_exercise.specs.ExerciseSteps.{host_begun, number_page}
 use Rattle.mig_exercise.proofs.Adding.{data_page, data_type, frame_absent, frame_added, machine_unused, still_few}
 use Rattle.mig_exercise.proofs.LongPages.{zero_number}
 use Rattle.mig_exercise.proofs.NumberSteps.{stepped}

@@ -1,7 +1,4 @@
-use Rattle.std.proofs.Common.{◌≡◌, ℕ, ◌-◌}
-use Rattle.mig_exercise.specs.Numbers.{number, next_number}
-use Rattle.mig_exercise.specs.ExerciseHosts.{first_contents, first_data}
-use Rattle.mig_exercise.specs.ExerciseSteps.{host_begun, number_page}
+use Rattle.mig_exercise.proofs.Common.{◌≡◌, ℕ, ◌-◌, number, next_number, first_contents, first_data, host_begun, number_page}
 use Rattle.mig_exercise.proofs.host.add_data.Given as goal
 
 abbrev pub invariant-loop-pfn : goal.invariant-loop-pfn

@@ -1,4 +1,4 @@
-use Rattle.std.proofs.Common.{[], arith}
+use Rattle.mig_exercise.proofs.Common.{[], arith}
 use Rattle.mig_exercise.proofs.Adding.{frame_absent, frame_added, frame_fine, machine_unused, still_few}
 use Rattle.mig_exercise.proofs.host.add_first.Goals as goal
 

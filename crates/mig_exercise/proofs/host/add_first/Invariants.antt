@@ -1,5 +1,4 @@
-use Rattle.std.proofs.Common.{◌≡◌, ℕ, List}
-use Rattle.mig_exercise.specs.ExerciseSteps.{host_begun}
+use Rattle.mig_exercise.proofs.Common.{◌≡◌, ℕ, List, host_begun}
 use Rattle.mig_exercise.proofs.host.add_first.Given as goal
 
 abbrev pub invariant-loop-pfn : goal.invariant-loop-pfn

@@ -1,8 +1,4 @@
-use Rattle.std.proofs.Common.{length, ap, ◌∙◌}
-use Rattle.mig_guest.specs.Hosts.{HostOf}
-use Rattle.mig_host_view.specs.Sound.{unsoundness}
-use Rattle.mig_host_view.specs.View.{view}
-use Rattle.mig_canon.specs.CanonStream.{canon_any}
+use Rattle.mig_exercise.proofs.Common.{length, ap, ◌∙◌, HostOf, unsoundness, view, canon_any}
 use Rattle.mig_exercise.proofs.CanonLength.{exercise_canon_length}
 use Rattle.mig_exercise.proofs.DataTouched.{few_again}
 use Rattle.mig_exercise.proofs.DataWrites.{exercise_stays}

@@ -1,4 +1,4 @@
-use Rattle.std.proofs.Common.{refl}
+use Rattle.mig_exercise.proofs.Common.{refl}
 use Rattle.mig_exercise.specs.Numbers.{number}
 use Rattle.mig_exercise.proofs.NumberSteps.{stepped}
 use Rattle.mig_exercise.proofs.numbers.number_before.Goals as goal

@@ -1,5 +1,4 @@
-use Rattle.std.proofs.Common.{◌≡◌}
-use Rattle.mig_exercise.specs.Numbers.{number, next_number}
+use Rattle.mig_exercise.proofs.Common.{◌≡◌, number, next_number}
 use Rattle.mig_exercise.proofs.numbers.number_before.Given as goal
 
 abbrev pub invariant-loop-i : goal.invariant-loop-i

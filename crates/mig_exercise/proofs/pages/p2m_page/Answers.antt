@@ -1,4 +1,4 @@
-use Rattle.std.proofs.Common.{◌-◌, ◌^◌, ◌∙◌, arith}
+use Rattle.mig_exercise.proofs.Common.{◌-◌, ◌^◌, ◌∙◌, arith}
 use Rattle.mig_exercise.proofs.LongPages.{p2m_page_is, all_ones}
 use Rattle.mig_exercise.proofs.pages.p2m_page.Goals as goal
 

@@ -1,4 +1,4 @@
-use Rattle.std.proofs.Common.{arith}
+use Rattle.mig_exercise.proofs.Common.{arith}
 use Rattle.mig_exercise.proofs.LongPages.{one_more_falls}
 use Rattle.mig_exercise.proofs.pages.put_falling.Goals as goal
 

@@ -1,5 +1,4 @@
-use Rattle.std.proofs.Common.{◌≡◌, ℕ}
-use Rattle.mig_guest.specs.Longs.{longs}
+use Rattle.mig_exercise.proofs.Common.{◌≡◌, ℕ, longs}
 use Rattle.mig_exercise.proofs.LongPages.{falling}
 use Rattle.mig_exercise.proofs.pages.put_falling.Given as goal
 

@@ -1,6 +1,4 @@
-use Rattle.std.proofs.Common.{ap, ◌∙◌}
-use Rattle.byteorder.specs.Endian.{little_bytes}
-use Rattle.mig_bytes.specs.Fields.{with_field}
+use Rattle.mig_exercise.proofs.Common.{ap, ◌∙◌, little_bytes, with_field}
 use Rattle.mig_exercise.proofs.LongPages.{front_written}
 use Rattle.mig_exercise.proofs.pages.put_number.Goals as goal
 

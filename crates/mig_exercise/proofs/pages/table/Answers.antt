@@ -1,4 +1,4 @@
-use Rattle.std.proofs.Common.{◌+◌, ◌*◌, ◌∙◌, arith}
+use Rattle.mig_exercise.proofs.Common.{◌+◌, ◌*◌, ◌∙◌, arith}
 use Rattle.mig_exercise.proofs.LongPages.{table_is, zeros}
 use Rattle.mig_exercise.proofs.pages.table.Goals as goal
 

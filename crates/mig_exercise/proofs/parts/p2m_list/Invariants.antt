@@ -1,5 +1,4 @@
-use Rattle.std.proofs.Common.{◌≡◌, ◌+◌}
-use Rattle.mig_guest.specs.Longs.{longs}
+use Rattle.mig_exercise.proofs.Common.{◌≡◌, ◌+◌, longs}
 use Rattle.mig_exercise.proofs.parts.p2m_list.Given as goal
 
 abbrev pub invariant-loop-k : goal.invariant-loop-k

@@ -1,4 +1,4 @@
-use Rattle.std.proofs.Common.{◌∙◌, arith}
+use Rattle.mig_exercise.proofs.Common.{◌∙◌, arith}
 use Rattle.std.proofs.lemmas.Result.{on_ok_weaker}
 use Rattle.mig_exercise.proofs.LongPages.{zeros}
 use Rattle.mig_exercise.proofs.PartsSet.{all_parts_set, context_fits, fits_policy, no_parts_yet, one_part_more, p2m_fits, shared_fits}

@@ -1,9 +1,4 @@
-use Rattle.std.proofs.Common.{◌≡◌, ◌+◌, ◌-◌, ◌%◌, map, ap, ◌∙◌, arith}
-use Rattle.byteorder.specs.Endian.{little_bytes}
-use Rattle.mig_machine_script.specs.ScriptLines.{line_said}
-use Rattle.mig_machine_script.specs.ScriptLines.LineOf.{Write}
-use Rattle.mig_exercise.specs.Numbers.{number}
-use Rattle.mig_exercise.specs.ExerciseHosts.{data_count}
+use Rattle.mig_exercise.proofs.Common.{◌≡◌, ◌+◌, ◌-◌, ◌%◌, map, ap, ◌∙◌, arith, little_bytes, line_said, Write, number, data_count}
 use Rattle.mig_exercise.specs.ExerciseScripts.{writes_up_to}
 use Rattle.mig_exercise.proofs.Writing.{one_group_more, two_numbers_more}
 use Rattle.mig_exercise.proofs.script.exercise_script.Goals as goal

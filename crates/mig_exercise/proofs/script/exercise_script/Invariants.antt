@@ -1,7 +1,4 @@
-use Rattle.std.proofs.Common.{◌≡◌, ◌+◌, ◌*◌, map}
-use Rattle.mig_machine_script.specs.ScriptLines.{line_said}
-use Rattle.mig_exercise.specs.Numbers.{number, next_number}
-use Rattle.mig_exercise.specs.ExerciseHosts.{data_count}
+use Rattle.mig_exercise.proofs.Common.{◌≡◌, ◌+◌, ◌*◌, map, line_said, number, next_number, data_count}
 use Rattle.mig_exercise.specs.ExerciseScripts.{writes_up_to}
 use Rattle.mig_exercise.proofs.script.exercise_script.Given as goal
 

@@ -1,7 +1,7 @@
 use Rattle.mig_host.proofs.Common.{◌+◌, sym, subst, MachineMap}
-use Rattle.std.specs.FinMap as maps
 use Rattle.mig_host.proofs.HostedGuests.{some_value}
 use Rattle.mig_host.proofs.RestoredHosts.{AreCounted, counted_none, counted_more, counted_unused}
+use Rattle.std.specs.FinMap as maps
 use Rattle.mig_host.proofs.restore.count_up.Goals as goal
 
 pub loop-i-init : goal.loop-i-init

@@ -1,6 +1,5 @@
+use Rattle.mig_host.proofs.Common.{is_some-mapped, ℕ, List, refl, sym, ◌∙◌, option_copied, HostFrame, ap, nat_cmp_total, nat_cmp-IsAntisymmetric}
 use Rattle.std.proofs.Common.{Bor}
-use Rattle.mig_guest.proofs.KeyedMaps.{is_some-mapped}
-use Rattle.mig_host.proofs.Common.{ℕ, List, refl, sym, ◌∙◌, option_copied, HostFrame, ap, nat_cmp_total, nat_cmp-IsAntisymmetric}
 use Rattle.mig_host.proofs.Copies.{copy_end}
 use Rattle.mig_host.proofs.SeenBytes.{frame_set_bytes}
 use Rattle.mig_host.proofs.SeenGuests.{frames_start, frame_paged, frames_next, bare, other_frames}

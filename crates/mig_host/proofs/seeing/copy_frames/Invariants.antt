@@ -1,8 +1,6 @@
-use Rattle.mig_host.proofs.Common.{◌≡◌, length, entries_from}
-use Rattle.std.specs.FinMap as maps
-use Rattle.mig_pvtables.specs.Blank.{IsOfBytes}
-use Rattle.mig_host_view.specs.View.{without_machine}
+use Rattle.mig_host.proofs.Common.{◌≡◌, length, entries_from, IsOfBytes, without_machine}
 use Rattle.mig_host.proofs.Copies.{IsCopied}
+use Rattle.std.specs.FinMap as maps
 use Rattle.mig_host.proofs.seeing.copy_frames.Given as goal
 
 abbrev pub invariant-loop-pfn : goal.invariant-loop-pfn

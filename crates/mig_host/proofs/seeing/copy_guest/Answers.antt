@@ -1,6 +1,4 @@
-use Rattle.mig_host.proofs.Common.{refl, sym, ap, subst, ◌∙◌}
-use Rattle.mig_guest.specs.Guests.{GuestOf}
-use Rattle.mig_pvtables.specs.Blank.{IsOfBytes}
+use Rattle.mig_host.proofs.Common.{refl, sym, ap, subst, ◌∙◌, GuestOf, IsOfBytes}
 use Rattle.mig_host.proofs.SeenBytes.{none_of_bytes}
 use Rattle.mig_host.proofs.seeing.copy_guest.Goals as goal
 

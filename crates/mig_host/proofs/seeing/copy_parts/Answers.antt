@@ -1,5 +1,4 @@
-use Rattle.mig_host.proofs.Common.{ℕ, List, refl, PartKey, ap, ◌∙◌, part_total, part_exact}
-use Rattle.mig_host_view.specs.Normalised.{part_seen}
+use Rattle.mig_host.proofs.Common.{ℕ, List, refl, PartKey, ap, ◌∙◌, part_total, part_exact, part_seen}
 use Rattle.mig_host.proofs.Copies.{copy_start, copy_end}
 use Rattle.mig_host_view.proofs.ViewedBytes.{seen_bytes}
 use Rattle.mig_host.proofs.SeenBytes.{part_set_bytes}

@@ -1,8 +1,6 @@
-use Rattle.mig_host.proofs.Common.{◌≡◌, length, parts_behind}
-use Rattle.std.specs.FinMap as maps
-use Rattle.mig_pvtables.specs.Blank.{IsOfBytes}
-use Rattle.mig_host_view.specs.Normalised.{part_seen}
+use Rattle.mig_host.proofs.Common.{◌≡◌, length, parts_behind, IsOfBytes, part_seen}
 use Rattle.mig_host.proofs.Copies.{IsCopied}
+use Rattle.std.specs.FinMap as maps
 use Rattle.mig_host.proofs.seeing.copy_parts.Given as goal
 
 abbrev pub invariant-loop-key : goal.invariant-loop-key

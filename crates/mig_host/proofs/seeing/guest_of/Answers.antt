@@ -1,7 +1,4 @@
-use Rattle.mig_host.proofs.Common.{sym, subst, ap, ◌∙◌}
-use Rattle.mig_guest.specs.Guests.{GuestOf}
-use Rattle.mig_pvtables.specs.Blank.{blank}
-use Rattle.mig_pvtables.specs.Whole.{IsWhole}
+use Rattle.mig_host.proofs.Common.{sym, subst, ap, ◌∙◌, GuestOf, blank, IsWhole}
 use Rattle.mig_host_view.proofs.ViewedGuests.{viewed_whole, viewed_blank}
 use Rattle.mig_host.proofs.seeing.guest_of.Goals as goal
 

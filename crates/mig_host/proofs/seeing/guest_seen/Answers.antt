@@ -1,11 +1,8 @@
-use Rattle.mig_host.proofs.Common.{sym, subst, ◌∙◌}
-use Rattle.mig_guest.specs.Guests.{GuestOf}
-use Rattle.mig_guest.specs.Hosts.{pfn_in}
-use Rattle.mig_pvtables.specs.Blank.{IsOfBytes}
+use Rattle.mig_host.proofs.Common.{sym, subst, ◌∙◌, GuestOf, pfn_in, IsOfBytes}
 use Rattle.mig_host_view.proofs.ViewedBytes.{normalised_bytes}
 use Rattle.mig_host.proofs.SeenGuests.{contexts_long, page_long, page_sole, pfns_fit, hvm_seen, pv_seen}
-use Rattle.mig_host.proofs.seeing.guest_seen.Goals as goal
 use Rattle.mig_host.proofs.seeing.guest_seen.Goals.{in-Pv, in-Hvm}
+use Rattle.mig_host.proofs.seeing.guest_seen.Goals as goal
 
 pub normalise_guest-requires-clause-contexts : goal.normalise_guest-requires-clause-contexts
 normalise_guest-requires-clause-contexts c = contexts_long c.args.host.now.host c.in_ok-guest.guest c.in_ok-guest.ensures.guest c.in_ok-guest.ensures.valid (sym c.in-Pv.ensures)

@@ -1,6 +1,6 @@
 use Rattle.mig_host_view.proofs.Common.{PartMap, ◌-◌, ap, ◌∙◌, arith, p2m_key, count_in, listed}
-use Rattle.std.specs.FinMap as maps
 use Rattle.mig_host_view.proofs.LocaliseFrames.{fill_start, fill_next, fill_end}
+use Rattle.std.specs.FinMap as maps
 use Rattle.mig_host_view.proofs.localising.fill_p2m_frames.Goals as goal
 
 pub loop-index-init : goal.loop-index-init

@@ -1,7 +1,7 @@
 use Rattle.mig_host_view.proofs.Common.{sym, ◌∙◌, arith}
 use Rattle.mig_host_view.proofs.LocaliseContexts.{fields_start, fields_end, field_put, field_unknown, field_unused}
-use Rattle.mig_host_view.proofs.localising.localise_context.Goals as goal
 use Rattle.mig_host_view.proofs.localising.localise_context.Goals.{in-Some+in-Some-mfn_of, in-Some+in_default-mfn_of, in_default}
+use Rattle.mig_host_view.proofs.localising.localise_context.Goals as goal
 
 pub loop-field-init : goal.loop-field-init
 loop-field-init g c = fields_start c.fits-context c.told-context

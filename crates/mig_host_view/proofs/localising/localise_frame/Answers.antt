@@ -1,6 +1,4 @@
-use Rattle.mig_host_view.proofs.Common.{Some, length, ap, sym, ◌∙◌, refl, length_longs}
-use Rattle.mig_pvtables.proofs.BlankFrames.{no_frame, no_table, no_table_page, table_written}
-use Rattle.mig_host_view.specs.Localised.{renamed_page}
+use Rattle.mig_host_view.proofs.Common.{Some, length, ap, sym, ◌∙◌, refl, length_longs, no_frame, no_table, no_table_page, table_written, renamed_page}
 use Rattle.mig_host_view.proofs.localising.localise_frame.Goals as goal
 
 pub returns-in_default : goal.returns-in_default

@@ -1,4 +1,4 @@
-use Rattle.mig_pvtables.proofs.BlankFrames.{frames_start, frames_next, frames_end}
+use Rattle.mig_host_view.proofs.Common.{frames_start, frames_next, frames_end}
 use Rattle.mig_host_view.proofs.localising.localise_tables.Goals as goal
 
 pub loop-pfn-init : goal.loop-pfn-init

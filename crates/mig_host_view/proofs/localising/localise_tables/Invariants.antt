@@ -1,6 +1,4 @@
-use Rattle.mig_host_view.proofs.Common.{◌-◌, pfn_limit}
-use Rattle.mig_pvtables.proofs.BlankFrames.{FramesChangedBelow}
-use Rattle.mig_host_view.specs.Localised.{renamed_frame}
+use Rattle.mig_host_view.proofs.Common.{◌-◌, pfn_limit, FramesChangedBelow, renamed_frame}
 use Rattle.mig_host_view.proofs.localising.localise_tables.Given as goal
 
 abbrev pub invariant-loop-pfn : goal.invariant-loop-pfn

@@ -1,7 +1,4 @@
-use Rattle.mig_host_view.proofs.Common.{ap, ◌∙◌, is_used}
-use Rattle.mig_pvtables.proofs.BlankParts.{no_part}
-use Rattle.mig_pvtables.proofs.Walks.{taken}
-use Rattle.mig_host_view.specs.RenamedContexts.{renamed_context}
+use Rattle.mig_host_view.proofs.Common.{ap, ◌∙◌, is_used, no_part, taken, renamed_context}
 use Rattle.mig_host_view.proofs.LocaliseGuests.{part_put}
 use Rattle.mig_host_view.proofs.localising.localise_vcpu.Goals as goal
 

@@ -1,5 +1,4 @@
-use Rattle.mig_host_view.proofs.Common.{length_longs}
-use Rattle.mig_pvtables.proofs.BlankCodes.{code_start, code_next, code_long, code_fewer, code_end}
+use Rattle.mig_host_view.proofs.Common.{length_longs, code_start, code_next, code_long, code_fewer, code_end}
 use Rattle.mig_host_view.proofs.localising.localise_vcpus.Goals as goal
 
 pub loop-key-init : goal.loop-key-init

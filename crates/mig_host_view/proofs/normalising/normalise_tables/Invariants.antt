@@ -1,6 +1,4 @@
-use Rattle.mig_host_view.proofs.Common.{◌-◌, pfn_limit}
-use Rattle.mig_pvtables.proofs.BlankFrames.{FramesChangedBelow}
-use Rattle.mig_host_view.specs.NormaliseSteps.{normalised_frame}
+use Rattle.mig_host_view.proofs.Common.{◌-◌, pfn_limit, FramesChangedBelow, normalised_frame}
 use Rattle.mig_host_view.proofs.normalising.normalise_tables.Given as goal
 
 abbrev pub invariant-loop-pfn : goal.invariant-loop-pfn

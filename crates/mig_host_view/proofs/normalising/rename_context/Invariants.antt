@@ -1,4 +1,4 @@
-use Rattle.mig_pvtables.specs.VcpuContexts.{is_used_somewhere}
+use Rattle.mig_host_view.proofs.Common.{is_used_somewhere}
 use Rattle.mig_host_view.proofs.LocaliseContexts.{FieldsRenamed}
 use Rattle.mig_host_view.proofs.normalising.rename_context.Given as goal
 

@@ -1,8 +1,4 @@
-use Rattle.mig_host_view.proofs.Common.{ap, ◌∙◌}
-use Rattle.mig_pvtables.specs.VcpuContexts.{is_used_somewhere}
-use Rattle.mig_pvtables.proofs.BlankParts.{no_part}
-use Rattle.mig_pvtables.proofs.Walks.{taken}
-use Rattle.mig_host_view.specs.RenamedContexts.{renamed_context}
+use Rattle.mig_host_view.proofs.Common.{ap, ◌∙◌, is_used_somewhere, no_part, taken, renamed_context}
 use Rattle.mig_host_view.proofs.LocaliseGuests.{part_put}
 use Rattle.mig_host_view.proofs.normalising.rename_vcpu.Goals as goal
 

@@ -1,8 +1,5 @@
-use Rattle.mig_host_view.proofs.Common.{length, parts_after}
+use Rattle.mig_host_view.proofs.Common.{length, parts_after, is_used_somewhere, ChangedUpTo, renamed_context}
 use Rattle.std.specs.FinMap as maps
-use Rattle.mig_pvtables.specs.VcpuContexts.{is_used_somewhere}
-use Rattle.mig_pvtables.proofs.BlankCodes.{ChangedUpTo}
-use Rattle.mig_host_view.specs.RenamedContexts.{renamed_context}
 use Rattle.mig_host_view.proofs.normalising.rename_vcpus.Given as goal
 
 abbrev pub invariant-loop-key : goal.invariant-loop-key

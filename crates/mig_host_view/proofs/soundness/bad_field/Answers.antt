@@ -1,5 +1,4 @@
-use Rattle.mig_pvtables.proofs.Walks.{in_fields, contexts_start}
-use Rattle.mig_host_view.specs.Sound.{misnames}
+use Rattle.mig_host_view.proofs.Common.{in_fields, contexts_start, misnames}
 use Rattle.mig_host_view.proofs.soundness.bad_field.Goals as goal
 
 pub loop-key-init : goal.loop-key-init

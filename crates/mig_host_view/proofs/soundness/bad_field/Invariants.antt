@@ -1,7 +1,5 @@
-use Rattle.mig_host_view.proofs.Common.{◌≡◌, length, IfSome, parts_after}
+use Rattle.mig_host_view.proofs.Common.{◌≡◌, length, IfSome, parts_after, in_fields, IsSoBehind, misnames}
 use Rattle.std.specs.FinMap as maps
-use Rattle.mig_pvtables.proofs.Walks.{in_fields, IsSoBehind}
-use Rattle.mig_host_view.specs.Sound.{misnames}
 use Rattle.mig_host_view.proofs.soundness.bad_field.Given as goal
 
 abbrev pub invariant-loop-key : goal.invariant-loop-key

@@ -1,4 +1,4 @@
-use Rattle.mig_pvtables.proofs.Walks.{large_in, contexts_start}
+use Rattle.mig_host_view.proofs.Common.{large_in, contexts_start}
 use Rattle.mig_host_view.proofs.soundness.large_gdt.Goals as goal
 
 pub loop-key-init : goal.loop-key-init

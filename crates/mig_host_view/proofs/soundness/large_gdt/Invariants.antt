@@ -1,6 +1,5 @@
-use Rattle.mig_host_view.proofs.Common.{◌≡◌, length, IfSome, parts_after}
+use Rattle.mig_host_view.proofs.Common.{◌≡◌, length, IfSome, parts_after, large_in, IsSoBehind}
 use Rattle.std.specs.FinMap as maps
-use Rattle.mig_pvtables.proofs.Walks.{large_in, IsSoBehind}
 use Rattle.mig_host_view.proofs.soundness.large_gdt.Given as goal
 
 abbrev pub invariant-loop-key : goal.invariant-loop-key

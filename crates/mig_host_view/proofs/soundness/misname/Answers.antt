@@ -1,7 +1,7 @@
 use Rattle.mig_host_view.proofs.Common.{arith}
 use Rattle.mig_pvtables.proofs.Walks.{misses_start, misses_end, field_unused, field_fits, field_misses}
-use Rattle.mig_host_view.proofs.soundness.misname.Goals as goal
 use Rattle.mig_host_view.proofs.soundness.misname.Goals.{in-Some+else-not-is_type_of_field, in_default}
+use Rattle.mig_host_view.proofs.soundness.misname.Goals as goal
 
 pub loop-field-init : goal.loop-field-init
 loop-field-init g c = misses_start

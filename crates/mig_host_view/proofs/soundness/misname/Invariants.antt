@@ -1,6 +1,5 @@
-use Rattle.mig_pvtables.specs.VcpuContexts.{is_used_somewhere}
+use Rattle.mig_host_view.proofs.Common.{is_used_somewhere, machine_type}
 use Rattle.mig_pvtables.proofs.Walks.{NoneMisses}
-use Rattle.mig_host_view.specs.Sound.{machine_type}
 use Rattle.mig_host_view.proofs.soundness.misname.Given as goal
 
 abbrev pub invariant-loop-field : goal.invariant-loop-field

@@ -1,4 +1,4 @@
-use Rattle.mig_host_view.proofs.Common.{Part}
+use Rattle.mig_guest.specs.Parts.{Part}
 use Rattle.mig_pvtables.proofs.Walks.{context_there}
 use Rattle.mig_host_view.proofs.soundness.next_context.Goals as goal
 

@@ -1,7 +1,5 @@
-use Rattle.mig_libxl.proofs.ReadingCommon.{refl, rules, ◌>>=◌, placed, Passes, judged_so, mapped, stopped, LibxlHeader, header_at, libxl_records_at, Wrapped}
-use Rattle.mig_bytes.proofs.Placed.{placed_then, placed_ends}
-use Rattle.mig_libxl_form.specs.Stream.{wrapped_at}
-use Rattle.mig_libxl_form.proofs.Forms.{behind_header}
+use Rattle.mig_libxl.proofs.Common.{refl, rules, ◌>>=◌, placed, Passes, judged_so, mapped, stopped, LibxlHeader, header_at, Wrapped, placed_then, placed_ends, wrapped_at, behind_header}
+use Rattle.mig_libxl_form.specs.Stream.{libxl_records_at}
 use Rattle.mig_libxl.proofs.Forms.{wrapped_is}
 use Rattle.mig_libxl.proofs.read.read_wrapped.Goals as goal
 

@@ -1,5 +1,4 @@
-use Rattle.std.proofs.Common.{◌≡◌, ◌≤◌, ◌-◌, ◌^◌}
-use Rattle.mig_libxl.specs.Seen.{IsLibxlBegun}
+use Rattle.mig_libxl.proofs.Common.{◌≡◌, ◌≤◌, ◌-◌, ◌^◌, IsLibxlBegun}
 use Rattle.mig_libxl.proofs.Arrivals.{Arrived}
 use Rattle.mig_libxl.proofs.read.take_records.Given as goal
 

@@ -1,6 +1,6 @@
-use Rattle.mig_libxl.proofs.WritingCommon.{sym}
-use Rattle.std.specs.FinMap as maps
+use Rattle.mig_libxl.proofs.Common.{sym}
 use Rattle.mig_libxl.proofs.FirstParts.{zero_of_first, zero_of_none}
+use Rattle.std.specs.FinMap as maps
 use Rattle.mig_libxl.proofs.write.begins_with_0.Goals as goal
 
 pub returns-in-Some : goal.returns-in-Some

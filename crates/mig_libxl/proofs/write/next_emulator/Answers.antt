@@ -1,4 +1,4 @@
-use Rattle.mig_libxl.proofs.WritingCommon.{sym, ◌∙◌}
+use Rattle.mig_libxl.proofs.Common.{sym, ◌∙◌}
 use Rattle.mig_libxl.proofs.EmulatorParts.{context_alone, context_before, pairs_alone, pairs_before}
 use Rattle.mig_libxl.proofs.write.next_emulator.Goals as goal
 

@@ -1,4 +1,4 @@
-use Rattle.mig_libxl.proofs.WritingCommon.{puts_then, puts_stop, puts_same}
+use Rattle.mig_libxl.proofs.Common.{puts_then, puts_stop, puts_same}
 use Rattle.mig_libxl.proofs.Around.{canon_any_is}
 use Rattle.mig_libxl.proofs.write.write_any.Goals as goal
 

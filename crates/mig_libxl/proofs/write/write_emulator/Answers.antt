@@ -1,4 +1,4 @@
-use Rattle.mig_libxl.proofs.WritingCommon.{refl, puts_then, puts_stop, puts_same}
+use Rattle.mig_libxl.proofs.Common.{refl, puts_then, puts_stop, puts_same}
 use Rattle.mig_libxl.proofs.EmulatorTexts.{emulator_text}
 use Rattle.mig_libxl.proofs.write.write_emulator.Goals as goal
 

@@ -1,6 +1,5 @@
-use Rattle.mig_libxl.proofs.WritingCommon.{◌≡◌, ◌≢◌, ℕ, true, [], ◌∷◌, ◌++◌, inl, inr, refl, ap, ◌∙◌, rules, ◌==◌, eqb-true, or_cases, is_emulator_code, Part}
+use Rattle.mig_libxl.proofs.Common.{◌≡◌, ◌≢◌, ℕ, true, [], ◌∷◌, ◌++◌, inl, inr, refl, ap, ◌∙◌, rules, ◌==◌, eqb-true, or_cases, is_emulator_code, Part, emulator_record, emulators_in_order}
 use Rattle.mig_records_pages.proofs.ListSteps.{more_done, done_on, done_stop}
-use Rattle.mig_canon.specs.CanonStream.{emulator_record, emulators_in_order}
 use Rattle.mig_libxl.proofs.Around.{nothing_more}
 use Rattle.mig_libxl.proofs.EmulatorParts.{behind_context, behind_pairs, met_holds, order_is}
 use Rattle.mig_libxl.proofs.EmulatorTexts.{short_emulator}

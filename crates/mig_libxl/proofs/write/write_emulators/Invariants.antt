@@ -1,7 +1,4 @@
-use Rattle.mig_libxl.proofs.WritingCommon.{◌≡◌, ◌++◌, List, length, Part}
-use Rattle.std.specs.Prelude.{IfSome}
-use Rattle.std.specs.Io.KnownBytes.{Appends}
-use Rattle.mig_canon.specs.CanonStream.{emulators_after, emulators_in_order, text_of_emulators}
+use Rattle.mig_libxl.proofs.Common.{◌≡◌, ◌++◌, List, length, Part, IfSome, Appends, emulators_after, emulators_in_order, text_of_emulators}
 use Rattle.mig_libxl.proofs.write.write_emulators.Given as goal
 
 abbrev pub invariant-loop-key : goal.invariant-loop-key

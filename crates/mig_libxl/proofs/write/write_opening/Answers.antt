@@ -1,5 +1,4 @@
-use Rattle.std.proofs.Common.{sym, subst, ◌∙◌}
-use Rattle.std.specs.Io.KnownBytes.{Appends}
+use Rattle.mig_libxl.proofs.Common.{sym, subst, ◌∙◌, Appends}
 use Rattle.mig_libxl.proofs.Around.{opening_none, nothing_more}
 use Rattle.mig_libxl.proofs.write.write_opening.Goals as goal
 

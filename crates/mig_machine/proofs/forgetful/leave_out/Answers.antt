@@ -1,8 +1,7 @@
-use Rattle.std.proofs.Common.{arith, ap, sym, ◌∙◌}
-use Rattle.mig_guest.specs.Pfns.{pfns_of_words}
+use Rattle.mig_machine.proofs.Common.{arith, ap, sym, ◌∙◌, pfns_of_words}
 use Rattle.mig_machine.proofs.LeftOut.{left_out, passed}
-use Rattle.mig_machine.proofs.forgetful.leave_out.Goals as goal
 use Rattle.mig_machine.proofs.forgetful.leave_out.Goals.{then-pfn-words, else-pfn-words}
+use Rattle.mig_machine.proofs.forgetful.leave_out.Goals as goal
 
 pub loop-pfn-preserved : goal.loop-pfn-preserved
 loop-pfn-preserved c =

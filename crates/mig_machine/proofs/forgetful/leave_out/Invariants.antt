@@ -1,6 +1,4 @@
-use Rattle.std.proofs.Common.{◌≡◌, take}
-use Rattle.mig_machine.specs.Forgetful.{without_pfns}
-use Rattle.mig_guest.specs.Pfns.{pfns_of_words}
+use Rattle.mig_machine.proofs.Common.{◌≡◌, take, without_pfns, pfns_of_words}
 use Rattle.mig_machine.proofs.forgetful.leave_out.Given as goal
 
 abbrev pub invariant-loop-pfn : goal.invariant-loop-pfn

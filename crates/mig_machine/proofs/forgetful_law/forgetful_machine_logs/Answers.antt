@@ -1,5 +1,5 @@
+use Rattle.mig_machine.proofs.Common.{log_of, history_of}
 use Rattle.mig_machine.proofs.LeftOut.{others, none_took}
-use Rattle.mig_machine.specs.MachineSeen.{log_of, history_of}
 use Rattle.mig_machine.proofs.forgetful_law.forgetful_machine_logs.Goals as goal
 
 pub returns-clause-others : goal.returns-clause-others

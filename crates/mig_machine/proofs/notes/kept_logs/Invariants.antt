@@ -1,5 +1,4 @@
-use Rattle.std.proofs.Common.{◌≡◌, ◌+◌, ◌/◌, length}
-use Rattle.std.specs.List.{All}
+use Rattle.mig_machine.proofs.Common.{◌≡◌, ◌+◌, ◌/◌, length, All}
 use Rattle.mig_machine.proofs.notes.kept_logs.Given as goal
 
 abbrev pub invariant-loop-place : goal.invariant-loop-place

@@ -1,4 +1,4 @@
-use Rattle.std.proofs.Common.{sym, ◌∙◌}
+use Rattle.mig_machine_script.proofs.Common.{sym, ◌∙◌}
 use Rattle.mig_machine_script.proofs.LinesApplied.{add_unused, add_few}
 use Rattle.mig_machine_script.proofs.change.add.Goals as goal
 

@@ -1,4 +1,4 @@
-use Rattle.std.proofs.Common.{sym, ◌∙◌}
+use Rattle.mig_machine_script.proofs.Common.{sym, ◌∙◌}
 use Rattle.mig_machine_script.proofs.LinesApplied.{exchange_unused}
 use Rattle.mig_machine_script.proofs.change.exchange.Goals as goal
 

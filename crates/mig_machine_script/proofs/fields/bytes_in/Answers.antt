@@ -1,9 +1,7 @@
-use Rattle.std.proofs.Common.{◌≡◌, ◌∷◌, [], List, ℕ, length, drop, get_or, sym, ap, ◌∙◌, arith, rules}
-use Rattle.std.specs.Option.{option_copied}
-use Rattle.mig_machine_script.specs.ScriptFields.{fields_left}
+use Rattle.mig_machine_script.proofs.Common.{◌≡◌, ◌∷◌, [], List, ℕ, length, drop, get_or, sym, ap, ◌∙◌, arith, rules, option_copied, fields_left}
 use Rattle.mig_machine_script.proofs.FieldsSaid.{no_more}
-use Rattle.mig_machine_script.proofs.fields.bytes_in.Goals as goal
 use Rattle.mig_machine_script.proofs.fields.bytes_in.Goals.{then-is_some-via-then-is_some, then-is_some-via-else-is_some+then-field-lt2}
+use Rattle.mig_machine_script.proofs.fields.bytes_in.Goals as goal
 
 pub returns-then-is_some-clause-none : goal.returns-then-is_some-clause-none
 returns-then-is_some-clause-none c = λ hex bytes e k.

@@ -1,6 +1,4 @@
-use Rattle.std.proofs.Common.{arith, ap}
-use Rattle.mig_machine_script.specs.ScriptLines.{line_said}
-use Rattle.mig_machine_script.specs.HostLines.{room_for}
+use Rattle.mig_machine_script.proofs.Common.{arith, ap, line_said, room_for}
 use Rattle.mig_machine_script.proofs.GroupsRun.{at_line, room_small}
 use Rattle.mig_machine_script.proofs.group.room_in.Goals as goal
 

@@ -1,5 +1,4 @@
-use Rattle.std.proofs.Common.{◌≡◌, ◌+◌, ◌≤◌, drop}
-use Rattle.mig_machine_script.specs.HostLines.{room_for}
+use Rattle.mig_machine_script.proofs.Common.{◌≡◌, ◌+◌, ◌≤◌, drop, room_for}
 use Rattle.mig_machine_script.proofs.group.room_in.Given as goal
 
 abbrev pub invariant-loop-at : goal.invariant-loop-at

@@ -1,8 +1,4 @@
-use Rattle.std.proofs.Common.{rules, arith, ◌≡◌, ◌+◌, ◌/◌, ◌∷◌, List, length, drop, true, false, ap, sym, ◌∙◌}
-use Rattle.mig_guest.specs.Pfns.{pfns_of_words}
-use Rattle.mig_machine_script.specs.ScriptLines.{LineOf, line_said}
-use Rattle.mig_machine_script.specs.Groups.{ends_group, first_group, first_length}
-use Rattle.mig_machine_script.specs.HostLines.{after, logged_after, room_for}
+use Rattle.mig_machine_script.proofs.Common.{rules, arith, ◌≡◌, ◌+◌, ◌/◌, ◌∷◌, List, length, drop, true, false, ap, sym, ◌∙◌, pfns_of_words, LineOf, line_said, ends_group, first_group, first_length, after, logged_after, room_for}
 use Rattle.mig_machine_script.proofs.GroupsRun.{at_line, group_on, group_ends, length_on, length_ends}
 use Rattle.mig_machine_script.proofs.group.run_group.Goals as goal
 

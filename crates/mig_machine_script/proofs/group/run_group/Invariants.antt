@@ -1,7 +1,4 @@
-use Rattle.std.proofs.Common.{◌≡◌, ◌+◌, ◌/◌, ◌≤◌, ◌-◌, length, drop}
-use Rattle.mig_guest.specs.Pfns.{pfns_of_words}
-use Rattle.mig_machine_script.specs.Groups.{first_group, first_length}
-use Rattle.mig_machine_script.specs.HostLines.{after, logged_after, room_for}
+use Rattle.mig_machine_script.proofs.Common.{◌≡◌, ◌+◌, ◌/◌, ◌≤◌, ◌-◌, length, drop, pfns_of_words, first_group, first_length, after, logged_after, room_for}
 use Rattle.mig_machine_script.proofs.group.run_group.Given as goal
 
 abbrev pub invariant-loop-at : goal.invariant-loop-at

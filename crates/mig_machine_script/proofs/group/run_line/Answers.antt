@@ -1,5 +1,4 @@
-use Rattle.std.proofs.Common.{length, sym}
-use Rattle.mig_machine_script.specs.ScriptLines.{line_said}
+use Rattle.mig_machine_script.proofs.Common.{length, sym, line_said}
 use Rattle.mig_machine_script.proofs.GroupsRun.{logs_inside, word_inside}
 use Rattle.mig_machine_script.proofs.LinesLogged.{regular}
 use Rattle.mig_machine_script.proofs.group.run_line.Goals as goal

@@ -1,7 +1,4 @@
-use Rattle.std.proofs.Common.{◌∷◌, [], ℕ, rules}
-use Rattle.std.specs.Option.{option_copied}
-use Rattle.mig_machine_script.specs.ScriptFields.{fields_left}
-use Rattle.mig_machine_script.specs.ScriptLines.{AreNumbers}
+use Rattle.mig_machine_script.proofs.Common.{◌∷◌, [], ℕ, rules, option_copied, fields_left, AreNumbers}
 use Rattle.mig_machine_script.proofs.FieldsSaid.{if_none, no_more, behind_one}
 use Rattle.mig_machine_script.proofs.line.one.Goals as goal
 

@@ -1,7 +1,4 @@
-use Rattle.std.proofs.Common.{[], ◌∷◌, ℕ}
-use Rattle.std.specs.Option.{option_copied}
-use Rattle.mig_machine_script.specs.ScriptFields.{fields_left}
-use Rattle.mig_machine_script.specs.ScriptLines.{AreNumbers}
+use Rattle.mig_machine_script.proofs.Common.{[], ◌∷◌, ℕ, option_copied, fields_left, AreNumbers}
 use Rattle.mig_machine_script.proofs.FieldsSaid.{if_none}
 use Rattle.mig_machine_script.proofs.line.two.Goals as goal
 

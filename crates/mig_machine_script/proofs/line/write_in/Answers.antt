@@ -1,6 +1,4 @@
-use Rattle.std.proofs.Common.{[], ◌∷◌, rules}
-use Rattle.std.specs.Option.{option_copied}
-use Rattle.mig_machine_script.specs.ScriptFields.{fields_left}
+use Rattle.mig_machine_script.proofs.Common.{[], ◌∷◌, rules, option_copied, fields_left}
 use Rattle.mig_machine_script.proofs.FieldsSaid.{at_none, behind_one, no_write}
 use Rattle.mig_machine_script.proofs.line.write_in.Goals as goal
 

@@ -1,5 +1,4 @@
-use Rattle.std.proofs.Common.{◌≤◌, subst, sym}
-use Rattle.mig_guest.specs.Pfns.{no_pfns}
+use Rattle.mig_machine_script.proofs.Common.{◌≤◌, subst, sym, no_pfns}
 use Rattle.mig_machine_script.proofs.LinesLogged.{regular, lines_ran}
 use Rattle.mig_machine_script.proofs.lines_law.lines_log_what_they_change.Goals as goal
 

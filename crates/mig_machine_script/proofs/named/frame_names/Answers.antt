@@ -1,6 +1,4 @@
-use Rattle.std.proofs.Common.{ap, sym, ◌∙◌}
-use Rattle.std.specs.Option.{option_copied}
-use Rattle.mig_pagetypes.specs.PageTypes.{level_of}
+use Rattle.mig_machine_script.proofs.Common.{ap, sym, ◌∙◌, option_copied, level_of}
 use Rattle.mig_machine_script.proofs.NamedMachines.{no_table_names, no_page_names}
 use Rattle.mig_machine_script.proofs.named.frame_names.Goals as goal
 

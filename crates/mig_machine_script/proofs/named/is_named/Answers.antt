@@ -1,4 +1,4 @@
-use Rattle.std.proofs.Common.{sym, ◌∙◌}
+use Rattle.mig_machine_script.proofs.Common.{sym, ◌∙◌}
 use Rattle.mig_machine_script.proofs.NamedMachines.{hvm_unnamed}
 use Rattle.mig_machine_script.proofs.named.is_named.Goals as goal
 

@@ -1,11 +1,6 @@
-use Rattle.std.proofs.Common.{ap, sym, ℕ, List}
-use Rattle.std.specs.List.{list_any}
-use Rattle.std.specs.FinMap as maps
+use Rattle.mig_machine_script.proofs.Common.{ap, sym, ℕ, List, list_any, HostFrame, level_of, table_in, table_names}
 use Rattle.mig_guest.proofs.NextEntries.{from_zero}
-use Rattle.mig_guest.specs.Hosts.{HostFrame}
-use Rattle.mig_pagetypes.specs.PageTypes.{level_of}
-use Rattle.mig_guest.specs.Footprints.{table_in}
-use Rattle.mig_machine_script.specs.HostLines.{table_names}
+use Rattle.std.specs.FinMap as maps
 use Rattle.mig_machine_script.proofs.named.some_table_names.Goals as goal
 
 pub loop-pfn-init : goal.loop-pfn-init

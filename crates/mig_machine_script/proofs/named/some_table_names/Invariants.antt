@@ -1,10 +1,6 @@
-use Rattle.std.proofs.Common.{◌≡◌, length}
-use Rattle.std.specs.List.{list_any}
-use Rattle.std.specs.FinMap as maps
-use Rattle.mig_pagetypes.specs.PageTypes.{level_of}
+use Rattle.mig_machine_script.proofs.Common.{◌≡◌, length, list_any, level_of, table_in, names_machine, table_names}
 use Rattle.mig_guest.specs.Frames.{entries_from}
-use Rattle.mig_guest.specs.Footprints.{table_in}
-use Rattle.mig_machine_script.specs.HostLines.{names_machine, table_names}
+use Rattle.std.specs.FinMap as maps
 use Rattle.mig_machine_script.proofs.named.some_table_names.Given as goal
 
 abbrev pub invariant-loop-pfn : goal.invariant-loop-pfn

@@ -1,4 +1,4 @@
-use Rattle.std.proofs.Common.{sym, ◌∙◌, arith}
+use Rattle.mig_machine_script.proofs.Common.{sym, ◌∙◌, arith}
 use Rattle.mig_machine_script.proofs.NamedMachines.{slot_names, no_slot_names}
 use Rattle.mig_machine_script.proofs.named.table_names.Goals as goal
 

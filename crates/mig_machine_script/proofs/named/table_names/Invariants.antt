@@ -1,6 +1,4 @@
-use Rattle.std.proofs.Common.{◌≡◌, ℕ, ◌<◌, false}
-use Rattle.mig_guest.specs.Footprints.{machine_named}
-use Rattle.mig_machine_script.specs.HostLines.{is_machine}
+use Rattle.mig_machine_script.proofs.Common.{◌≡◌, ℕ, ◌<◌, false, machine_named, is_machine}
 use Rattle.mig_machine_script.proofs.named.table_names.Given as goal
 
 abbrev pub invariant-loop-slot : goal.invariant-loop-slot

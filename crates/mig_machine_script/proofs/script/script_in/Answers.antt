@@ -1,5 +1,4 @@
-use Rattle.std.proofs.Common.{◌≡◌, ◌∷◌, [], ◌++◌, rules}
-use Rattle.mig_machine_script.specs.ScriptLines.{IsScriptLine, line_said}
+use Rattle.mig_machine_script.proofs.Common.{◌≡◌, ◌∷◌, [], ◌++◌, rules, IsScriptLine, line_said}
 use Rattle.mig_machine_script.proofs.Growing.{kept}
 use Rattle.mig_machine_script.proofs.script.script_in.Goals as goal
 

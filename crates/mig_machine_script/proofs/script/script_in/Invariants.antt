@@ -1,6 +1,4 @@
-use Rattle.std.proofs.Common.{◌+◌, ◌≤◌, length, map}
-use Rattle.mig_machine_script.specs.ScriptLines.{line_said}
-use Rattle.mig_machine_script.specs.Scripts.{AreScriptLines}
+use Rattle.mig_machine_script.proofs.Common.{◌+◌, ◌≤◌, length, map, line_said, AreScriptLines}
 use Rattle.mig_machine_script.proofs.script.script_in.Given as goal
 
 abbrev pub invariant-loop-rest : goal.invariant-loop-rest

@@ -1,5 +1,4 @@
-use Rattle.std.proofs.Common.{not, rules}
-use Rattle.mig_headers.specs.Pairs.{is_key_byte}
+use Rattle.mig_policy.proofs.Common.{not, rules, is_key_byte}
 use Rattle.mig_policy.proofs.TextSteps.{at_first, at_no}
 use Rattle.mig_policy.proofs.faults.allowed_len.Goals as goal
 

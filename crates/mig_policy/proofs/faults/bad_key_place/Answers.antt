@@ -1,6 +1,4 @@
-use Rattle.std.proofs.Common.{◌≡◌, ◌+◌, ◌-◌, Some, length, sym, ap, ◌∙◌, rules, arith}
-use Rattle.mig_headers.specs.Pairs.{texts_in}
-use Rattle.mig_policy.specs.PairFaults.{bad_key_at}
+use Rattle.mig_policy.proofs.Common.{◌≡◌, ◌+◌, ◌-◌, Some, length, sym, ap, ◌∙◌, rules, arith, texts_in, bad_key_at}
 use Rattle.mig_policy.proofs.TextSteps.{bad_here, bad_last, bad_step}
 use Rattle.mig_policy.proofs.faults.bad_key_place.Goals as goal
 

@@ -1,6 +1,4 @@
-use Rattle.std.proofs.Common.{◌≡◌, ◌≤◌, ◌-◌, length}
-use Rattle.mig_headers.specs.Pairs.{texts_in}
-use Rattle.mig_policy.specs.PairFaults.{bad_key_at}
+use Rattle.mig_policy.proofs.Common.{◌≡◌, ◌≤◌, ◌-◌, length, texts_in, bad_key_at}
 use Rattle.mig_policy.proofs.faults.bad_key_place.Given as goal
 
 abbrev pub invariant-loop-key : goal.invariant-loop-key

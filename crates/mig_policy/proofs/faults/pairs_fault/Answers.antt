@@ -1,4 +1,4 @@
-use Rattle.std.proofs.Common.{sym}
+use Rattle.mig_policy.proofs.Common.{sym}
 use Rattle.mig_policy.proofs.KeyLaws.{first_fault_is_computed}
 use Rattle.mig_policy.proofs.faults.pairs_fault.Goals as goal
 

@@ -1,4 +1,4 @@
-use Rattle.std.proofs.Common.{◌∙◌, rules, arith, length}
+use Rattle.mig_policy.proofs.Common.{◌∙◌, rules, arith, length}
 use Rattle.mig_policy.proofs.TextSteps.{torn_step}
 use Rattle.mig_policy.proofs.faults.torn_place.Goals as goal
 

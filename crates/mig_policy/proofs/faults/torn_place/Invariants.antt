@@ -1,6 +1,4 @@
-use Rattle.std.proofs.Common.{◌≡◌, ◌≤◌, ◌-◌, false, length}
-use Rattle.mig_headers.specs.Pairs.{texts_in}
-use Rattle.mig_policy.specs.PairFaults.{torn_at}
+use Rattle.mig_policy.proofs.Common.{◌≡◌, ◌≤◌, ◌-◌, false, length, texts_in, torn_at}
 use Rattle.mig_policy.proofs.faults.torn_place.Given as goal
 
 abbrev pub invariant-loop-behind : goal.invariant-loop-behind

@@ -1,4 +1,4 @@
-use Rattle.std.proofs.Common.{rules, true, false}
+use Rattle.mig_policy.proofs.Common.{rules, true, false}
 use Rattle.mig_policy.proofs.PairSteps.{at_end, spelled_as}
 use Rattle.mig_policy.proofs.pairs.canonical_pairs.Goals as goal
 

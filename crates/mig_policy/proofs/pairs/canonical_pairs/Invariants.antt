@@ -1,5 +1,5 @@
-use Rattle.std.proofs.Common.{◌≡◌, length}
-use Rattle.mig_headers.specs.Pairs.{texts_in, are_rising_texts, are_canonical_pairs}
+use Rattle.mig_policy.proofs.Common.{◌≡◌, length, texts_in, are_rising_texts}
+use Rattle.mig_headers.specs.Pairs.{are_canonical_pairs}
 use Rattle.mig_policy.proofs.pairs.canonical_pairs.Given as goal
 
 abbrev pub invariant-loop-last : goal.invariant-loop-last

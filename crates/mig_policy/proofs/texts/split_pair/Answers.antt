@@ -1,4 +1,4 @@
-use Rattle.std.proofs.Common.{rules}
+use Rattle.mig_policy.proofs.Common.{rules}
 use Rattle.mig_policy.proofs.TextSteps.{if_none, pairs_none, pairs_half, pairs_step}
 use Rattle.mig_policy.proofs.texts.split_pair.Goals as goal
 

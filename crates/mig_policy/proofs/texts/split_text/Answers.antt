@@ -1,4 +1,4 @@
-use Rattle.std.proofs.Common.{rules}
+use Rattle.mig_policy.proofs.Common.{rules}
 use Rattle.mig_policy.proofs.TextSteps.{if_none, last_text, first_text, text_parts}
 use Rattle.mig_policy.proofs.texts.split_text.Goals as goal
 

@@ -1,5 +1,4 @@
-use Rattle.mig_pvtables.proofs.Common.{ap, ◌∙◌, ◌*◌, ◌/◌, blanked_context}
-use Rattle.mig_pvtables.specs.VcpuContexts.{blanked_value}
+use Rattle.mig_pvtables.proofs.Common.{ap, ◌∙◌, ◌*◌, ◌/◌, blanked_context, blanked_value}
 use Rattle.mig_pvtables.proofs.BlankParts.{no_part, context_size, still_there, still_long, context_put}
 use Rattle.mig_pvtables.proofs.blanking.blank_vcpu.Goals as goal
 

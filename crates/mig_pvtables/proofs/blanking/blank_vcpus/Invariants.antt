@@ -1,6 +1,6 @@
 use Rattle.mig_pvtables.proofs.Common.{length, parts_after, blanked_context}
-use Rattle.std.specs.FinMap as maps
 use Rattle.mig_pvtables.proofs.BlankCodes.{ChangedUpTo}
+use Rattle.std.specs.FinMap as maps
 use Rattle.mig_pvtables.proofs.blanking.blank_vcpus.Given as goal
 
 abbrev pub invariant-loop-key : goal.invariant-loop-key

@@ -1,6 +1,6 @@
 use Rattle.mig_pvtables.proofs.Common.{◌-◌, p2m_key, count_in}
-use Rattle.std.specs.FinMap as maps
 use Rattle.mig_pvtables.proofs.BlankLists.{ZeroedBefore}
+use Rattle.std.specs.FinMap as maps
 use Rattle.mig_pvtables.proofs.blanking.zero_p2m_frames.Given as goal
 
 abbrev pub invariant-loop-pfn : goal.invariant-loop-pfn

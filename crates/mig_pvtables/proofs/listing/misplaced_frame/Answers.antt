@@ -1,6 +1,6 @@
 use Rattle.mig_pvtables.proofs.Common.{arith, cond, sym, ap, ◌∙◌}
-use Rattle.std.specs.FinMap as maps
 use Rattle.mig_pvtables.proofs.P2mWalks.{marks_start, misplaced_by, marks_next, fine_next, list_found, list_end, placed_small}
+use Rattle.std.specs.FinMap as maps
 use Rattle.mig_pvtables.proofs.listing.misplaced_frame.Goals as goal
 
 pub loop-pfn-init : goal.loop-pfn-init

@@ -1,6 +1,6 @@
 use Rattle.mig_pvtables.proofs.Common.{◌-◌, p2m_key, count_in}
-use Rattle.std.specs.FinMap as maps
 use Rattle.mig_pvtables.proofs.P2mWalks.{AreMarks, AreFine}
+use Rattle.std.specs.FinMap as maps
 use Rattle.mig_pvtables.proofs.listing.misplaced_frame.Given as goal
 
 abbrev pub invariant-loop-pfn : goal.invariant-loop-pfn

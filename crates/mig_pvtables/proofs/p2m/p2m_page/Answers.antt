@@ -1,8 +1,7 @@
-use Rattle.mig_pvtables.proofs.Common.{◌-◌, ◌^◌, sym, ap, ◌∙◌, arith}
-use Rattle.std.specs.Prelude.{unwrap_or}
+use Rattle.mig_pvtables.proofs.Common.{◌-◌, ◌^◌, sym, ap, ◌∙◌, arith, unwrap_or}
 use Rattle.mig_pvtables.proofs.LongSteps.{next_below, one_changed, walk_start, walk_end}
-use Rattle.mig_pvtables.proofs.p2m.p2m_page.Goals as goal
 use Rattle.mig_pvtables.proofs.p2m.p2m_page.Goals.{in-Some, in-None}
+use Rattle.mig_pvtables.proofs.p2m.p2m_page.Goals as goal
 
 pub loop-slot-init : goal.loop-slot-init
 loop-slot-init g c = walk_start c.fits-page c.told-page

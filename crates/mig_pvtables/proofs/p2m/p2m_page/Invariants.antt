@@ -1,4 +1,5 @@
-use Rattle.std.specs.Prelude.{◌+◌, ◌*◌, ◌-◌, ◌^◌, unwrap_or}
+use Rattle.mig_pvtables.proofs.Common.{unwrap_or}
+use Rattle.std.specs.Prelude.{◌+◌, ◌*◌, ◌-◌, ◌^◌}
 use Rattle.mig_pvtables.proofs.LongSteps.{ChangedBelow}
 use Rattle.mig_pvtables.proofs.p2m.p2m_page.Given as goal
 

@@ -2,8 +2,8 @@ use Rattle.mig_pvtables.proofs.Common.{sym, ◌∙◌, arith, Blank}
 use Rattle.mig_pvtables.proofs.LongSteps.{walk_start, walk_end}
 use Rattle.mig_pvtables.proofs.Renamed.{by_frames, renamed_case}
 use Rattle.mig_pvtables.proofs.RenameSteps.{named, unnamed, other, names_anew}
-use Rattle.mig_pvtables.proofs.rename.localise_table.Goals as goal
 use Rattle.mig_pvtables.proofs.rename.localise_table.Goals.{in-Frame+in-Some, in-Frame+in_default-mfn_of, in_default}
+use Rattle.mig_pvtables.proofs.rename.localise_table.Goals as goal
 
 pub loop-slot-init : goal.loop-slot-init
 loop-slot-init g c = walk_start c.fits-page c.told-page

@@ -1,8 +1,8 @@
 use Rattle.mig_pvtables.proofs.Common.{sym, ◌∙◌, arith}
 use Rattle.mig_pvtables.proofs.LongSteps.{walk_start}
 use Rattle.mig_pvtables.proofs.RenameSteps.{same_entry, named, unnamed, other, normalised_anew, slot_blanked, table_normalised}
-use Rattle.mig_pvtables.proofs.rename.rename_back.Goals as goal
 use Rattle.mig_pvtables.proofs.rename.rename_back.Goals.{in-Blank, in-Frame+in-Some, in-Frame+in_default-pfn_of, in_default}
+use Rattle.mig_pvtables.proofs.rename.rename_back.Goals as goal
 
 pub loop-slot-init : goal.loop-slot-init
 loop-slot-init g c = walk_start c.fits-page c.told-page

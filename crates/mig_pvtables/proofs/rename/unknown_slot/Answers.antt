@@ -1,5 +1,4 @@
-use Rattle.mig_pvtables.proofs.Common.{is_none, sym, ap, ◌∙◌}
-use Rattle.mig_pvtables.specs.BadEntries.{is_unknown}
+use Rattle.mig_pvtables.proofs.Common.{is_none, sym, ap, ◌∙◌, is_unknown}
 use Rattle.mig_pvtables.proofs.Slots.{first_slot}
 use Rattle.mig_pvtables.proofs.rename.unknown_slot.Goals as goal
 

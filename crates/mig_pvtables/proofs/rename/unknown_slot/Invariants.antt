@@ -1,6 +1,4 @@
-use Rattle.std.proofs.Common.{◌≡◌, ℕ, ◌<◌, false}
-use Rattle.mig_pvtables.proofs.Common.{entry}
-use Rattle.mig_pvtables.specs.BadEntries.{is_unknown}
+use Rattle.mig_pvtables.proofs.Common.{◌≡◌, ℕ, ◌<◌, false, entry, is_unknown}
 use Rattle.mig_pvtables.proofs.rename.unknown_slot.Given as goal
 
 abbrev pub invariant-loop-slot : goal.invariant-loop-slot

@@ -1,7 +1,6 @@
-use Rattle.mig_pvtables.proofs.Common.{length, is_absent}
-use Rattle.std.specs.FinMap as maps
-use Rattle.mig_guest.specs.Frames.{entries_from}
+use Rattle.mig_pvtables.proofs.Common.{length, is_absent, entries_from}
 use Rattle.mig_pvtables.proofs.Walks.{IsSoFrom}
+use Rattle.std.specs.FinMap as maps
 use Rattle.mig_pvtables.proofs.testing.absent_target.Given as goal
 
 abbrev pub invariant-loop-pfn : goal.invariant-loop-pfn

@@ -1,5 +1,4 @@
-use Rattle.mig_pvtables.proofs.Common.{ap, ◌∙◌, Part, ℕ, find, option_map, misfits}
-use Rattle.mig_pvtables.specs.Faults.{field_numbers}
+use Rattle.mig_pvtables.proofs.Common.{ap, ◌∙◌, Part, ℕ, find, option_map, misfits, field_numbers}
 use Rattle.mig_pvtables.proofs.Walks.{taken, in_fields, contexts_start, contexts_next, context_there}
 use Rattle.mig_pvtables.proofs.testing.bad_field.Goals as goal
 

@@ -1,6 +1,6 @@
 use Rattle.mig_pvtables.proofs.Common.{◌≡◌, length, IfSome, parts_after, misfits}
-use Rattle.std.specs.FinMap as maps
 use Rattle.mig_pvtables.proofs.Walks.{in_fields, IsSoBehind}
+use Rattle.std.specs.FinMap as maps
 use Rattle.mig_pvtables.proofs.testing.bad_field.Given as goal
 
 abbrev pub invariant-loop-key : goal.invariant-loop-key

@@ -1,5 +1,4 @@
-use Rattle.std.proofs.Common.{[], arith}
-use Rattle.mig_relay_bodies.specs.Bodies.{fault_of_record_body}
+use Rattle.mig_relay.proofs.Common.{[], arith, fault_of_record_body}
 use Rattle.mig_relay.proofs.HeadParts.{empty_told}
 use Rattle.mig_relay.proofs.heads.empty_fault.Goals as goal
 

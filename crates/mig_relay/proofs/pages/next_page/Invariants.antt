@@ -1,5 +1,4 @@
-use Rattle.std.proofs.Common.{length, ◌-◌, ◌≡◌, ◌<◌, ◌≤◌, ℕ, false, slice_index}
-use Rattle.mig_pagetypes.specs.FrameWords.{word_has_data}
+use Rattle.mig_relay.proofs.Common.{length, ◌-◌, ◌≡◌, ◌<◌, ◌≤◌, ℕ, false, slice_index, word_has_data}
 use Rattle.mig_relay.proofs.pages.next_page.Given as goal
 
 -- every word from the first place up to this one has no page

@@ -1,7 +1,4 @@
-use Rattle.std.proofs.Common.{rules, refl, sym, subst, ◌∙◌, ◌≡◌, Err, Result}
-use Rattle.mig_relay.specs.Relaying.{IsRelayed, WritesOnReadFault}
-use Rattle.mig_relay.specs.declared.answer.RelayAnswer.{RelayAnswer}
-use Rattle.mig_relay.specs.declared.answer.Relayed.{Relayed}
+use Rattle.mig_relay.proofs.Common.{rules, refl, sym, subst, ◌∙◌, ◌≡◌, Err, Result, IsRelayed, WritesOnReadFault, RelayAnswer, Relayed}
 use Rattle.mig_relay.proofs.Steps.{passed_none, fits_none, stands_somewhere, flushed, turn_goes_on, turn_over, read_again, rest_broke_off, over_now, gave_up_on}
 use Rattle.mig_relay.proofs.pass.relay.Goals as goal
 

@@ -1,6 +1,4 @@
-use Rattle.std.proofs.Common.{◌≡◌}
-use Rattle.mig_relay.specs.Relaying.{HasPassed}
-use Rattle.mig_relay.specs.Waiting.{Fits}
+use Rattle.mig_relay.proofs.Common.{◌≡◌, HasPassed, Fits}
 use Rattle.mig_relay.proofs.pass.relay.Given as goal
 
 abbrev pub invariant-loop : goal.invariant-loop

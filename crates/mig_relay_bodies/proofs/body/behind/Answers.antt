@@ -1,5 +1,4 @@
-use Rattle.std.proofs.Common.{arith}
-use Rattle.mig_relay_bodies.specs.declared.known.Knows.TheVariants.{Nothing, Texts, Params, Basic, Verdict}
+use Rattle.mig_relay_bodies.proofs.Common.{arith, Nothing, Texts, Params, Basic, Verdict}
 use Rattle.mig_relay_bodies.proofs.NextPieces.{known_as, size_as, first_behind, texts_behind, params_behind, basic_behind, verdict_behind}
 use Rattle.mig_relay_bodies.proofs.body.behind.Goals as goal
 

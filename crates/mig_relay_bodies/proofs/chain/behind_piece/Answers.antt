@@ -1,7 +1,5 @@
-use Rattle.std.proofs.Common.{subst, sym, ◌∙◌}
+use Rattle.mig_relay_bodies.proofs.Common.{subst, sym, ◌∙◌, IsBegunContext, Chain}
 use Rattle.mig_relay_bodies.proofs.ContextChain.{head_known, room_for}
-use Rattle.mig_relay_bodies.specs.ContextChain.{IsBegunContext}
-use Rattle.mig_relay_bodies.specs.declared.chain.Chain.{Chain}
 use Rattle.mig_relay_bodies.proofs.chain.behind_piece.Goals as goal
 
 pub returns-then-piece-eq8 : goal.returns-then-piece-eq8

@@ -1,4 +1,4 @@
-use Rattle.std.proofs.Common.{sym, ◌∙◌}
+use Rattle.mig_relay_bodies.proofs.Common.{sym, ◌∙◌}
 use Rattle.mig_relay_bodies.proofs.ContextChain.{at_end, no_end, short_end, whole_says, last_ahead}
 use Rattle.mig_relay_bodies.proofs.chain.context_fault.Goals as goal
 

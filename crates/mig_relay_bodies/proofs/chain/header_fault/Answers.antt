@@ -1,7 +1,4 @@
-use Rattle.std.proofs.Common.{subst, sym}
-use Rattle.mig_headers.specs.declared.fault.ContextFault.TheVariants.{HeaderSize}
-use Rattle.mig_relay_bodies.specs.ContextChain.{IsHeaderFault}
-use Rattle.mig_relay_bodies.specs.ContextChain.IsHeaderFault.{not_header, not_sized}
+use Rattle.mig_relay_bodies.proofs.Common.{subst, sym, HeaderSize, IsHeaderFault, not_header, not_sized}
 use Rattle.mig_relay_bodies.proofs.chain.header_fault.Goals as goal
 
 pub returns-then-typecode-ne1-clause-faulty : goal.returns-then-typecode-ne1-clause-faulty

@@ -1,6 +1,5 @@
-use Rattle.std.proofs.Common.{arith}
+use Rattle.mig_relay_bodies.proofs.Common.{arith, PvInfo, P2mFrames, BasicVcpu, OtherVcpu, HvmParams, EmulatorPairs, EmulatorContext}
 use Rattle.mig_relay_bodies.proofs.FirstPieces.{at_form, info_first, frames_first, basic_first, other_first, pairs_first, context_first}
-use Rattle.mig_relay_bodies.specs.declared.known.BodyForm.TheVariants.{PvInfo, P2mFrames, BasicVcpu, OtherVcpu, HvmParams, EmulatorPairs, EmulatorContext}
 use Rattle.mig_relay_bodies.proofs.front.behind_first.Goals as goal
 
 pub returns-in-PvInfo : goal.returns-in-PvInfo

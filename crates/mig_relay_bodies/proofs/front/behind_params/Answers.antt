@@ -1,4 +1,4 @@
-use Rattle.std.proofs.Common.{subst}
+use Rattle.mig_relay_bodies.proofs.Common.{subst}
 use Rattle.mig_relay_bodies.proofs.FirstPieces.{FirstOf, params_misfit_first, params_first}
 use Rattle.mig_relay_bodies.proofs.front.behind_params.Goals as goal
 

@@ -1,6 +1,4 @@
-use Rattle.std.proofs.Common.{◌≡◌, ◌∙◌, arith}
-use Rattle.std.proofs.lemmas.Grind.{common_steps}
-use Rattle.byteorder.specs.Endian.{little_number}
+use Rattle.mig_relay_bodies.proofs.Common.{◌≡◌, ◌∙◌, arith, common_steps, little_number}
 use Rattle.mig_relay_bodies.proofs.Fronts.{first64}
 use Rattle.mig_relay_bodies.proofs.front.param_fault.Goals as goal
 

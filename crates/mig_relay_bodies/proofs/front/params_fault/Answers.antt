@@ -1,8 +1,6 @@
-use Rattle.std.proofs.Common.{◌≡◌, ◌+◌, ◌-◌, None, drop, length, rules, sym, ap, ◌∙◌, arith, length-drop}
-use Rattle.mig_records.specs.Layouts.{fault_of_entry, fault_of_entries}
+use Rattle.mig_relay_bodies.proofs.Common.{◌≡◌, ◌+◌, ◌-◌, None, drop, length, sym, ap, ◌∙◌, arith, length-drop, fault_of_entry, fault_of_entries, HvmParam, params}
+use Rattle.std.proofs.Common.{rules}
 use Rattle.mig_records.proofs.Reading.{fault_here, fault_next}
-use Rattle.mig_guest.specs.declared.part_code.PartCode.TheVariants.{HvmParam}
-use Rattle.mig_relay_bodies.specs.Begun.{params}
 use Rattle.mig_relay_bodies.proofs.front.params_fault.Goals as goal
 
 pub returns-in-Some : goal.returns-in-Some

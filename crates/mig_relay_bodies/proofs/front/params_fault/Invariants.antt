@@ -1,7 +1,4 @@
-use Rattle.std.proofs.Common.{◌≡◌, ℕ, ◌+◌, ◌*◌, ◌-◌, length}
-use Rattle.mig_records.specs.Layouts.{fault_of_entries}
-use Rattle.mig_guest.specs.declared.part_code.PartCode.TheVariants.{HvmParam}
-use Rattle.mig_relay_bodies.specs.Begun.{params}
+use Rattle.mig_relay_bodies.proofs.Common.{◌≡◌, ℕ, ◌+◌, ◌*◌, ◌-◌, length, fault_of_entries, HvmParam, params}
 use Rattle.mig_relay_bodies.proofs.front.params_fault.Given as goal
 
 abbrev pub invariant-loop-i : goal.invariant-loop-i

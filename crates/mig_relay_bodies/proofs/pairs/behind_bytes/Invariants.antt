@@ -1,5 +1,4 @@
-use Rattle.std.proofs.Common.{◌≡◌, ◌+◌, ◌<◌, ◌^◌, length, take, fold}
-use Rattle.mig_relay_bodies.specs.PairPieces.{then_byte}
+use Rattle.mig_relay_bodies.proofs.Common.{◌≡◌, ◌+◌, ◌<◌, ◌^◌, length, take, fold, then_byte}
 use Rattle.mig_relay_bodies.proofs.pairs.behind_bytes.Given as goal
 
 abbrev pub invariant-loop-byte : goal.invariant-loop-byte

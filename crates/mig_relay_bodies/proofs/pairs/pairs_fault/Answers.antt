@@ -1,5 +1,4 @@
-use Rattle.std.proofs.Common.{ap, ◌∙◌}
-use Rattle.mig_relay_bodies.specs.PairPieces.{fault_in_pairs}
+use Rattle.mig_relay_bodies.proofs.Common.{ap, ◌∙◌, fault_in_pairs}
 use Rattle.mig_relay_bodies.proofs.PairPieces.{pairs_are}
 use Rattle.mig_relay_bodies.proofs.pairs.pairs_fault.Goals as goal
 

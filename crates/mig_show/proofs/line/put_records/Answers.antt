@@ -1,5 +1,4 @@
-use Rattle.std.proofs.Common.{false}
-use Rattle.mig_show.specs.declared.record.Seen1.{Seen1}
+use Rattle.mig_show.proofs.Common.{false, Seen1}
 use Rattle.mig_show.proofs.Texts.{record_on}
 use Rattle.mig_show.proofs.line.put_records.Goals as goal
 

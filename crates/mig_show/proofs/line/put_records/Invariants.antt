@@ -1,5 +1,4 @@
-use Rattle.std.proofs.Common.{◌≡◌, ◌++◌, false, take, string_bytes}
-use Rattle.mig_show.specs.Lines.{records_text}
+use Rattle.mig_show.proofs.Common.{◌≡◌, ◌++◌, false, take, string_bytes, records_text}
 use Rattle.mig_show.proofs.line.put_records.Given as goal
 
 abbrev pub invariant-loop-place : goal.invariant-loop-place

@@ -1,8 +1,4 @@
-use Rattle.std.proofs.Common.{◌≡◌, ◌∙◌, ap, false, ◌++◌, codes, string_bytes, List, ℕ}
-use Rattle.serde_json.specs.Data.{boolean}
-use Rattle.serde_json.specs.Written.{has_float, compact_text}
-use Rattle.mig_show.specs.Lines.{records_text}
-use Rattle.mig_show.specs.Tree.{kind_tree, refused_tree, version_tree}
+use Rattle.mig_show.proofs.Common.{◌≡◌, ◌∙◌, ap, false, ◌++◌, codes, string_bytes, List, ℕ, boolean, has_float, compact_text, records_text, kind_tree, refused_tree, version_tree}
 use Rattle.mig_show.proofs.Floats.{of_kind, of_refused, of_version}
 use Rattle.mig_show.proofs.Texts.{pieces, text_on, value_on}
 use Rattle.mig_show.proofs.line.stream_line.Goals as goal

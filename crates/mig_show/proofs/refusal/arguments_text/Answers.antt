@@ -1,4 +1,4 @@
-use Rattle.std.specs.Prelude.{decimal}
+use Rattle.mig_show.proofs.Common.{decimal}
 use Rattle.mig_show.proofs.Spacing.{spaced_one, spaced_two, spaced_three, made_as}
 use Rattle.mig_show.proofs.refusal.arguments_text.Goals as goal
 

@@ -1,5 +1,4 @@
-use Rattle.std.proofs.Common.{codes}
-use Rattle.std.specs.Prelude.{decimal}
+use Rattle.mig_show.proofs.Common.{codes, decimal}
 use Rattle.mig_show.proofs.Spacing.{spaced_two, made_as}
 use Rattle.mig_show.proofs.refusal.context_text.Goals as goal
 

@@ -1,6 +1,5 @@
-use Rattle.std.proofs.Common.{◌≡◌, map, take}
+use Rattle.mig_show.proofs.Common.{◌≡◌, map, take, record_tree}
 use Rattle.serde_json.specs.View.{view}
-use Rattle.mig_show.specs.Tree.{record_tree}
 use Rattle.mig_show.proofs.tree.records_array.Given as goal
 
 abbrev pub invariant-loop-record : goal.invariant-loop-record

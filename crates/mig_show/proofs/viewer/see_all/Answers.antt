@@ -1,13 +1,9 @@
-use Rattle.std.proofs.Common.{rules, refl, sym, subst, ◌∙◌, ◌≡◌, None, Ok}
-use Rattle.std.specs.Prelude.{IfOk, Option, Result}
-use Rattle.mig_headers.specs.declared.fault.Cause.{Cause}
-use Rattle.mig_headers.specs.declared.fault.Place.{Place}
-use Rattle.mig_relay.specs.Standing.{StepSays}
-use Rattle.mig_show.specs.Shows.{Shows, RisesOnShow, front_tree}
+use Rattle.mig_show.proofs.Common.{refl, sym, subst, ◌∙◌, ◌≡◌, None, Ok, IfOk, Cause, Place, StepSays, Shows, RisesOnShow, front_tree, Step}
+use Rattle.std.proofs.Common.{rules}
+use Rattle.std.specs.Prelude.{Option, Result}
 use Rattle.mig_show.specs.declared.viewer.ShowAnswer.{ShowAnswer}
-use Rattle.mig_relay.specs.declared.answer.Step.{Step}
-use Rattle.mig_relay.specs.declared.answer.Step.TheVariants as steps
 use Rattle.mig_show.proofs.Sights.{looks_first, looks_on, shows_whole, shows_ended, rises_ended}
+use Rattle.mig_relay.specs.declared.answer.Step.TheVariants as steps
 use Rattle.mig_show.proofs.viewer.see_all.Goals as goal
 
 pub loop-init : goal.loop-init

@@ -1,4 +1,4 @@
-use Rattle.std.proofs.Common.{◌≡◌}
+use Rattle.mig_show.proofs.Common.{◌≡◌}
 use Rattle.mig_show.proofs.Sights.{Looks}
 use Rattle.mig_show.proofs.viewer.see_all.Given as goal
 

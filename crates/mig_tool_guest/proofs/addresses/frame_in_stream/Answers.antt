@@ -1,5 +1,5 @@
+use Rattle.mig_tool_guest.proofs.Common.{in_stream}
 use Rattle.mig_tool_guest.proofs.Walking.{stream_frame}
-use Rattle.mig_host_laws.specs.Standing.{in_stream}
 use Rattle.mig_tool_guest.proofs.addresses.frame_in_stream.Goals as goal
 
 pub returns-in-Ok-clause-found : goal.returns-in-Ok-clause-found

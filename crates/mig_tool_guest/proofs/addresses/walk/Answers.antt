@@ -1,6 +1,6 @@
+use Rattle.mig_tool_guest.proofs.Common.{FrameInStream}
 use Rattle.mig_tool_guest.proofs.Common.{HasWalkRefusal}
 use Rattle.mig_tool_guest.proofs.Walking.{found_says, found_reported}
-use Rattle.mig_tool_guest.specs.Addresses.{FrameInStream}
 use Rattle.mig_tool_guest.proofs.addresses.walk.Goals as goal
 
 pub returns-clause-said : goal.returns-clause-said

@@ -1,6 +1,6 @@
+use Rattle.mig_tool_guest.proofs.Common.{FrameInHost}
 use Rattle.mig_tool_guest.proofs.Common.{HasWalkImageRefusal}
 use Rattle.mig_tool_guest.proofs.Walking.{found_says, found_reported}
-use Rattle.mig_tool_guest.specs.Addresses.{FrameInHost}
 use Rattle.mig_tool_guest.proofs.addresses.walk_image.Goals as goal
 
 pub returns-clause-said : goal.returns-clause-said

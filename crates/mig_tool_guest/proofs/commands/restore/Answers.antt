@@ -1,4 +1,4 @@
-use Rattle.mig_tool_report.proofs.Statuses.{says_of, line_reported}
+use Rattle.mig_tool_guest.proofs.Common.{says_of, line_reported}
 use Rattle.mig_tool_guest.proofs.commands.restore.Goals as goal
 
 pub returns-clause-said : goal.returns-clause-said

@@ -1,7 +1,7 @@
+use Rattle.mig_tool_guest.proofs.Common.{line_reported, says_of}
 use Rattle.mig_tool_guest.proofs.Common.{Ok, Err, refl, ◌∙◌, rules, HasStreamRefusal}
-use Rattle.std.specs.FinMap as maps
 use Rattle.mig_tool_guest.proofs.Reporting.{not_read, verified}
-use Rattle.mig_tool_report.proofs.Statuses.{line_reported, says_of}
+use Rattle.std.specs.FinMap as maps
 use Rattle.mig_tool_guest.proofs.commands.verify.Goals as goal
 
 pub returns-in-Err-clause-said : goal.returns-in-Err-clause-said

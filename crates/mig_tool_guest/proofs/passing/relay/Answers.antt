@@ -1,7 +1,5 @@
-use Rattle.mig_tool_guest.proofs.PassingCommon.{Written}
-use mathlib.Core.Logic.{inr}
+use Rattle.mig_tool_guest.proofs.Common.{Written, inr, says_of, line_reported}
 use Rattle.mig_tool_guest.proofs.Relaying.{passed_says, passed_relayed, passed_breaks, passed_line, unpassed_comes, unpassed_relayed}
-use Rattle.mig_tool_report.proofs.Statuses.{says_of, line_reported}
 use Rattle.mig_tool_guest.proofs.passing.relay.Goals as goal
 
 pub returns-in-Ok-clause-said : goal.returns-in-Ok-clause-said

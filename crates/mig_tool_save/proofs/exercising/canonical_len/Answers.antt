@@ -1,4 +1,4 @@
-use Rattle.mig_host_view.specs.View.{view}
+use Rattle.mig_tool_save.proofs.Common.{view}
 use Rattle.mig_tool_save.proofs.exercising.canonical_len.Goals as goal
 
 pub guest_again-requires : goal.guest_again-requires

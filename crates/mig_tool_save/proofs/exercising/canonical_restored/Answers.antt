@@ -1,10 +1,6 @@
-use Rattle.mig_tool_save.proofs.Common.{◌≡◌, ap, subst, ◌∙◌, GuestOf}
+use Rattle.mig_tool_save.proofs.Common.{◌≡◌, ap, subst, ◌∙◌, GuestOf, HostOf, unsoundness, view, canon_any}
 use Rattle.std.specs.Prelude.{OnOk}
-use Rattle.mig_guest.specs.Hosts.{HostOf}
-use Rattle.mig_host_view.specs.Sound.{unsoundness}
-use Rattle.mig_host_view.specs.View.{view}
 use Rattle.mig_host.specs.Hosted.{IsBaseOutside}
-use Rattle.mig_canon.specs.CanonStream.{canon_any}
 use Rattle.mig_tool_save.proofs.exercising.canonical_restored.Goals as goal
 
 pub canonical_seen-requires : goal.canonical_seen-requires

@@ -1,6 +1,4 @@
-use Rattle.mig_tool_save.proofs.Common.{arith}
-use Rattle.mig_exercise.specs.ExerciseHosts.{IsExerciseSize, host_of_exercise}
-use Rattle.mig_exercise.specs.ExerciseScripts.{script_of_exercise}
+use Rattle.mig_tool_save.proofs.Common.{arith, IsExerciseSize, host_of_exercise, script_of_exercise}
 use Rattle.mig_tool_save.proofs.ExerciseOutcomes.{sound_at, exercise_saved, exercises}
 use Rattle.mig_tool_save.proofs.exercising.exercise_of.Goals as goal
 

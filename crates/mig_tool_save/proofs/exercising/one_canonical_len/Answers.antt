@@ -1,5 +1,4 @@
-use Rattle.mig_tool_save.proofs.Common.{List, ℕ, ap, arith, length, sym, ◌∙◌, GuestOf}
-use Rattle.mig_canon.specs.CanonStream.{canon_any}
+use Rattle.mig_tool_save.proofs.Common.{List, ℕ, ap, arith, length, sym, ◌∙◌, GuestOf, canon_any}
 use Rattle.mig_tool_save.proofs.exercising.one_canonical_len.Goals as goal
 
 pub prove_eq-unreachable-requires-2 : goal.prove_eq-unreachable-requires-2

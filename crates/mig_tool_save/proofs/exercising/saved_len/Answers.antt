@@ -1,8 +1,4 @@
-use Rattle.mig_tool_save.proofs.Common.{List, ℕ, length, sym, ap, subst, ◌∙◌}
-use Rattle.mig_guest.specs.Hosts.{HostOf}
-use Rattle.mig_host_view.specs.Sound.{unsoundness}
-use Rattle.mig_host_view.specs.View.{view}
-use Rattle.mig_canon.specs.CanonStream.{canon_any}
+use Rattle.mig_tool_save.proofs.Common.{List, ℕ, length, sym, ap, subst, ◌∙◌, HostOf, unsoundness, view, canon_any}
 use Rattle.mig_tool_save.proofs.ExerciseOutcomes.{Means, never_unsound, sound_now, means_now}
 use Rattle.mig_tool_save.proofs.exercising.saved_len.Goals as goal
 

@@ -1,5 +1,4 @@
-use Rattle.mig_tool_save.proofs.Common.{Err, ap, HasSaveRefusal, Written}
-use mathlib.Core.Logic.{inr}
+use Rattle.mig_tool_save.proofs.Common.{Err, ap, HasSaveRefusal, Written, inr}
 use Rattle.mig_tool_report.proofs.Statuses.{says_of, line_reported}
 use Rattle.mig_tool_save.proofs.SaveOutcomes.{stopped_comes, unwritten, unsaved_comes, refuses_pause, broke_off, saved_said}
 use Rattle.mig_tool_save.proofs.saving.save.Goals as goal

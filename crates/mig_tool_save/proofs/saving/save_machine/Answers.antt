@@ -1,16 +1,11 @@
-use Rattle.mig_tool_save.proofs.Common.{Err, ap, ◌≡◌, ℕ, List, refl, subst, rules}
-use Rattle.std.specs.Prelude.{◌≤◌, true}
-use Rattle.mig_guest.specs.Hosts.{most_saved_width}
-use Rattle.mig_machine_script.specs.ScriptLines.{LineOf}
-use Rattle.mig_machine.specs.MachineSeen.{history_of, machine_state}
-use Rattle.mig_dirtysave.specs.SaveAnswers.{IsTrusted}
+use Rattle.mig_tool_save.proofs.Common.{Err, ap, ◌≡◌, ℕ, List, refl, subst, ◌≤◌, most_saved_width, LineOf, history_of, machine_state, IsTrusted, SaveAnswer, HasRounds, ComesToNone}
+use Rattle.std.proofs.Common.{rules}
+use Rattle.std.specs.Prelude.{true}
 use Rattle.mig_dirtysave.specs.declared.answer.SaveReport.{SaveReport}
-use Rattle.mig_dirtysave.specs.declared.answer.SaveAnswer.{SaveAnswer}
-use Rattle.mig_tool_report.specs.declared.outcome.Outcome.TheVariants as outcomes
-use Rattle.mig_dirtysave_rounds.specs.Live.{HasRounds, StaysSame}
-use Rattle.mig_tool_save.specs.SaveSteps.{ComesToNone}
+use Rattle.mig_dirtysave_rounds.specs.Live.{StaysSame}
 use Rattle.mig_tool_save.proofs.SaveOutcomes.{unwritten}
 use Rattle.mig_tool_save.proofs.Lives.{wrote_live, wrote_live_to, honest, tight_of, never_fails, PausesSo, pauses_so, at_end, ends, had_memory, no_write}
+use Rattle.mig_tool_report.specs.declared.outcome.Outcome.TheVariants as outcomes
 use Rattle.mig_tool_save.proofs.saving.save_machine.Goals as goal
 
 pub returns-in_default-clause-no_stream : goal.returns-in_default-clause-no_stream

@@ -1,4 +1,4 @@
-use Rattle.std.proofs.Common.{◌≡◌, true, false, refl, sym, ◌∙◌}
+use Rattle.mig_walk.proofs.Common.{◌≡◌, true, false, refl, sym, ◌∙◌}
 use Rattle.mig_walk.proofs.SomeAnswer.{no_root, root_apart, root_there}
 use Rattle.mig_walk.proofs.walk.walk.Goals as goal
 

@@ -1,5 +1,4 @@
-use Rattle.std.proofs.Common.{◌≡◌, ℕ, ◌-◌, Some, subst, ◌∙◌, arith}
-use Rattle.mig_walk.specs.WalkSteps.{IsReached}
+use Rattle.mig_walk.proofs.Common.{◌≡◌, ℕ, ◌-◌, Some, subst, ◌∙◌, arith, IsReached}
 use Rattle.mig_walk.proofs.Steps.{ends_at_other, ends_absent, ends_at_frame, goes_down}
 use Rattle.mig_walk.proofs.walk.walk_from.Goals as goal
 

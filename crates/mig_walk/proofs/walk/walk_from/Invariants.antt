@@ -1,5 +1,4 @@
-use Rattle.std.proofs.Common.{◌≤◌}
-use Rattle.mig_walk.specs.WalkSteps.{IsReached}
+use Rattle.mig_walk.proofs.Common.{◌≤◌, IsReached}
 use Rattle.mig_walk.proofs.walk.walk_from.Given as goal
 
 abbrev pub invariant-loop-level : goal.invariant-loop-level

@@ -1,4 +1,4 @@
-use Rattle.std.proofs.Common.{rules, inl}
+use Rattle.mig_bytes.proofs.Common.{rules, inl}
 use Rattle.mig_bytes.specs.Memory.{IsListed}
 use Rattle.mig_bytes.proofs.memory.MemSinkSink.write.Goals as goal
 

@@ -1,9 +1,5 @@
-use Rattle.std.proofs.Common.{ℕ, List, length, refl, sym, ap, subst, ◌∙◌}
-use Rattle.std.specs.Option.{option_map}
-use Rattle.mig_guest.specs.Formed.{IsFormed}
-use Rattle.mig_guest.specs.Guests.{GuestOf}
-use Rattle.mig_dirtysave_parts.specs.KeptParts.{HoldsParts, is_early, is_setting}
-use Rattle.mig_dirtysave_parts.proofs.Codes.{holds_kept, kept_formed}
+use Rattle.mig_dirtysave.proofs.Common.{ℕ, List, length, refl, sym, ap, subst, ◌∙◌, option_map, IsFormed, GuestOf, HoldsParts, is_early, is_setting, kept_formed}
+use Rattle.mig_dirtysave_parts.proofs.Codes.{holds_kept}
 use Rattle.mig_dirtysave_parts.proofs.Walks.{kept_same}
 use Rattle.mig_dirtysave.proofs.Streams.{held_there}
 use Rattle.mig_dirtysave.proofs.saver.Saver.prepare.Goals as goal

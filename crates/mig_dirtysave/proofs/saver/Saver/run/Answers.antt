@@ -1,5 +1,4 @@
-use Rattle.std.proofs.Common.{sym, subst}
-use Rattle.mig_dirtysave.specs.Saver.{SaverOf, IsFor}
+use Rattle.mig_dirtysave.proofs.Common.{sym, subst, SaverOf, IsFor}
 use Rattle.mig_dirtysave.proofs.saver.Saver.run.Goals as goal
 
 pub save-requires-clause-made : goal.save-requires-clause-made

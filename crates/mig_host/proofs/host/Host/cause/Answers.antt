@@ -1,8 +1,6 @@
-use Rattle.mig_host.proofs.Common.{◌≤◌, ◌^◌, sym, ap, ◌∙◌, subst, PartMap}
-use Rattle.std.specs.FinMap as maps
-use Rattle.mig_guest.specs.PartKeys.{p2m_key}
-use Rattle.mig_pvtables.specs.P2mFrames.{count_in}
+use Rattle.mig_host.proofs.Common.{◌≤◌, ◌^◌, sym, ap, ◌∙◌, subst, PartMap, p2m_key, count_in}
 use Rattle.mig_host.proofs.SoundHosts.{few_listed, contexts_long, cause_found}
+use Rattle.std.specs.FinMap as maps
 use Rattle.mig_host.proofs.host.Host.cause.Goals as goal
 
 pub unsoundness-requires-clause-list : goal.unsoundness-requires-clause-list

@@ -1,8 +1,7 @@
-use Rattle.mig_host.proofs.Common.{◌≡◌, is_some, true, sym, ap, subst, ◌∙◌, HostAndSpare}
-use Rattle.std.specs.FinMap as maps
-use Rattle.mig_host.specs.Changes.{exchanged}
+use Rattle.mig_host.proofs.Common.{◌≡◌, is_some, true, sym, ap, subst, ◌∙◌, HostAndSpare, exchanged}
 use Rattle.mig_host.proofs.HostsMade.{machine_unused}
 use Rattle.mig_host.proofs.HostChanges.{now_exchanged, made_exchanged, some_machine}
+use Rattle.std.specs.FinMap as maps
 use Rattle.mig_host.proofs.host.Host.exchange.Goals as goal
 
 pub replace-requires-clause-there : goal.replace-requires-clause-there

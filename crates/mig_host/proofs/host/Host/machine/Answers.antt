@@ -1,5 +1,4 @@
-use Rattle.mig_host.proofs.Common.{◌≡◌, Some, IfSome, subst, HostAndSpare}
-use Rattle.mig_guest.specs.Hosts.{pfn_in}
+use Rattle.mig_host.proofs.Common.{◌≡◌, Some, IfSome, subst, HostAndSpare, pfn_in}
 use Rattle.mig_host.proofs.HostLookups.{host_machine_back}
 use Rattle.mig_host.proofs.host.Host.machine.Goals as goal
 

@@ -1,7 +1,6 @@
-use Rattle.mig_host.proofs.Common.{◌≡◌, Some, IfSome, subst, option_map, HostFrame, HostAndSpare}
-use Rattle.std.specs.FinMap as maps
-use Rattle.mig_guest.specs.Hosts.{pfn_in}
+use Rattle.mig_host.proofs.Common.{◌≡◌, Some, IfSome, subst, option_map, HostFrame, HostAndSpare, pfn_in}
 use Rattle.mig_host.proofs.HostLookups.{host_pfn_found, machine_there}
+use Rattle.std.specs.FinMap as maps
 use Rattle.mig_host.proofs.host.Host.pfn.Goals as goal
 
 pub returns-clause-value : goal.returns-clause-value

@@ -1,7 +1,6 @@
-use Rattle.mig_host.proofs.Common.{◌≡◌, ℕ, List, length, Some, option_map, sym, ap, subst, ◌∙◌, HostAndSpare, IsMade}
-use Rattle.std.specs.FinMap as maps
-use Rattle.mig_host.specs.HostView.{host_seen, put_part_in}
+use Rattle.mig_host.proofs.Common.{◌≡◌, ℕ, List, length, Some, option_map, sym, ap, subst, ◌∙◌, HostAndSpare, IsMade, host_seen, put_part_in}
 use Rattle.mig_host.proofs.HostChanges.{fits_there, is_there, now_put, made_put}
+use Rattle.std.specs.FinMap as maps
 use Rattle.mig_host.proofs.host.Host.put_part.Goals as goal
 
 pub write-requires-clause-range : goal.write-requires-clause-range

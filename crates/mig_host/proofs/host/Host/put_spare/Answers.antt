@@ -1,6 +1,6 @@
 use Rattle.mig_host.proofs.Common.{◌<◌, ◌^◌, length, sym, ap, subst, ◌∙◌, option_copied, FrameOf, IsHostFrame, HostAndSpare, with_machine, put_frame}
-use Rattle.std.specs.FinMap as maps
 use Rattle.mig_host.proofs.HostsMade.{machine_unused, seen_frame, made_frame}
+use Rattle.std.specs.FinMap as maps
 use Rattle.mig_host.proofs.host.Host.put_spare.Goals as goal
 
 pub put_spare-requires-2-clause-unused : goal.put_spare-requires-2-clause-unused

@@ -1,7 +1,6 @@
-use Rattle.mig_host.proofs.Common.{is_some, true, ◌≡◌, sym, ap, subst, ◌∙◌, HostAndSpare}
-use Rattle.std.specs.FinMap as maps
-use Rattle.mig_host.specs.Changes.{without_frame}
+use Rattle.mig_host.proofs.Common.{is_some, true, ◌≡◌, sym, ap, subst, ◌∙◌, HostAndSpare, without_frame}
 use Rattle.mig_host.proofs.HostChanges.{low_pfn, seen_taken, made_taken}
+use Rattle.std.specs.FinMap as maps
 use Rattle.mig_host.proofs.host.Host.remove.Goals as goal
 
 pub remove-requires : goal.remove-requires

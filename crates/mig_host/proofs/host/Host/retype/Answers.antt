@@ -1,8 +1,7 @@
-use Rattle.mig_host.proofs.Common.{is_some, true, ◌≡◌, sym, ap, subst, ◌∙◌, arith, option_copied, is_type_of, FrameOf, HostOf, HostAndSpare, host_seen}
-use Rattle.std.specs.FinMap as maps
-use Rattle.mig_host.specs.Changes.{retyped, raw_page_at}
+use Rattle.mig_host.proofs.Common.{is_some, true, ◌≡◌, sym, ap, subst, ◌∙◌, arith, option_copied, is_type_of, FrameOf, HostOf, HostAndSpare, host_seen, retyped, raw_page_at}
 use Rattle.mig_host.proofs.HostMaps.{page_joined}
 use Rattle.mig_host.proofs.HostChanges.{low_pfn, there_is, retyped_is, fine_now, seen_changed, made_changed}
+use Rattle.std.specs.FinMap as maps
 use Rattle.mig_host.proofs.host.Host.retype.Goals as goal
 
 pub put_spare-requires-clause-small : goal.put_spare-requires-clause-small

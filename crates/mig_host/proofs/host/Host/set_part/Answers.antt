@@ -1,6 +1,7 @@
-use Rattle.mig_host.proofs.Common.{◌≡◌, Result, Ok, Err, OnOk, OnErr, sym, subst, IsHostPart, FitsPolicy, HostAndSpare, IsMade}
-use Rattle.std.specs.FinMap as maps
+use Rattle.mig_host.proofs.Common.{◌≡◌, Result, Ok, Err, sym, subst, IsHostPart, FitsPolicy, HostAndSpare, IsMade}
+use Rattle.std.proofs.Common.{OnOk, OnErr}
 use Rattle.mig_host.proofs.HostsMade.{made_part}
+use Rattle.std.specs.FinMap as maps
 use Rattle.mig_host.proofs.host.Host.set_part.Goals as goal
 
 -- what holds of both that a call may leave

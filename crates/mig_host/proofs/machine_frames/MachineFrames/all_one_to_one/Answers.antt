@@ -1,8 +1,6 @@
-use Rattle.mig_host.proofs.Common.{◌≡◌, ℕ, ◌<◌, Some, subst, MachinesAndSpare}
-use Rattle.std.specs.FinMap as maps
-use Rattle.mig_guest.specs.Hosts.{machine_limit}
-use Rattle.mig_host.specs.HostView.{pfn_of_machine_in}
+use Rattle.mig_host.proofs.Common.{◌≡◌, ℕ, ◌<◌, Some, subst, MachinesAndSpare, machine_limit, pfn_of_machine_in}
 use Rattle.mig_host.proofs.OneToOne.{map_there, map_back}
+use Rattle.std.specs.FinMap as maps
 use Rattle.mig_host.proofs.machine_frames.MachineFrames.all_one_to_one.Goals as goal
 
 pub returns : goal.returns

@@ -1,7 +1,6 @@
-use Rattle.mig_host.proofs.Common.{◌≡◌, Some, IfSome, subst, MachinesAndSpare}
-use Rattle.std.specs.FinMap as maps
-use Rattle.mig_host.specs.HostView.{pfn_of_machine_in}
+use Rattle.mig_host.proofs.Common.{◌≡◌, Some, IfSome, subst, MachinesAndSpare, pfn_of_machine_in}
 use Rattle.mig_host.proofs.MachineMaps.{machine_back}
+use Rattle.std.specs.FinMap as maps
 use Rattle.mig_host.proofs.machine_frames.MachineFrames.machine.Goals as goal
 
 pub returns-clause-back : goal.returns-clause-back

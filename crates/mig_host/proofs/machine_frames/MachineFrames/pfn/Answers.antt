@@ -1,7 +1,6 @@
-use Rattle.mig_host.proofs.Common.{◌≡◌, subst, MachinesAndSpare}
-use Rattle.std.specs.FinMap as maps
-use Rattle.mig_host.specs.HostView.{pfn_of_machine_in}
+use Rattle.mig_host.proofs.Common.{◌≡◌, subst, MachinesAndSpare, pfn_of_machine_in}
 use Rattle.mig_host.proofs.MachineMaps.{pfn_looked_up}
+use Rattle.std.specs.FinMap as maps
 use Rattle.mig_host.proofs.machine_frames.MachineFrames.pfn.Goals as goal
 
 pub returns-clause-value : goal.returns-clause-value

@@ -1,8 +1,6 @@
-use Rattle.mig_host.proofs.Common.{sym, ap, subst, ◌∙◌, arith, MachinesAndSpare, refl}
-use Rattle.mig_host.specs.HostView.{AreBelowLimit}
-use Rattle.std.specs.FinMap as maps
-use Rattle.mig_bytes.proofs.NumberMaps.{inserted, inserted_other}
+use Rattle.mig_host.proofs.Common.{sym, ap, subst, ◌∙◌, arith, MachinesAndSpare, refl, AreBelowLimit, inserted, inserted_other}
 use Rattle.mig_host.proofs.MachineMaps.{inverse_put, below_put}
+use Rattle.std.specs.FinMap as maps
 use Rattle.mig_host.proofs.machine_frames.MachineFrames.put_spare.Goals as goal
 
 pub invariant_of-self : goal.invariant_of-self

@@ -1,8 +1,6 @@
-use Rattle.mig_host.proofs.Common.{◌≡◌, sym, subst, arith, refl, MachinesAndSpare}
-use Rattle.mig_host.specs.HostView.{AreBelowLimit}
-use Rattle.std.specs.FinMap as maps
-use Rattle.mig_bytes.proofs.NumberMaps.{removed, removed_other}
+use Rattle.mig_host.proofs.Common.{◌≡◌, sym, subst, arith, refl, MachinesAndSpare, AreBelowLimit, removed, removed_other}
 use Rattle.mig_host.proofs.MachineMaps.{taken_none, inverse_taken, below_taken}
+use Rattle.std.specs.FinMap as maps
 use Rattle.mig_host.proofs.machine_frames.MachineFrames.remove.Goals as goal
 
 pub invariant_of-self : goal.invariant_of-self

@@ -1,7 +1,6 @@
-use Rattle.mig_host.proofs.Common.{◌≡◌, IsSome, Some, is_some, sym, ap, subst, ◌∙◌, arith, MachinesAndSpare}
-use Rattle.mig_host.specs.HostView.{AreBelowLimit}
-use Rattle.std.specs.FinMap as maps
+use Rattle.mig_host.proofs.Common.{◌≡◌, IsSome, Some, is_some, sym, ap, subst, ◌∙◌, arith, MachinesAndSpare, AreBelowLimit}
 use Rattle.mig_host.proofs.MachineMaps.{inverse_moved, below_put}
+use Rattle.std.specs.FinMap as maps
 use Rattle.mig_host.proofs.machine_frames.MachineFrames.replace.Goals as goal
 
 pub invariant_of-self : goal.invariant_of-self

@@ -1,6 +1,5 @@
-use Rattle.mig_libxl.proofs.ReadingCommon.{◌≡◌, Option, Some, subst, false, Pv, Reading, with_emulators, IsStreamedBare, WrapperSeen}
-use Rattle.std.specs.Prelude.{IfSome}
-use Rattle.mig_libxl.specs.Seen.{IsLibxlBegun, IsClosed}
+use Rattle.mig_libxl.proofs.Common.{◌≡◌, Option, Some, subst, false, Pv, Reading, with_emulators, IsStreamedBare, WrapperSeen, IfSome, IsLibxlBegun}
+use Rattle.mig_libxl.specs.Seen.{IsClosed}
 use Rattle.mig_libxl_form.proofs.EmulatorGuests.{guest_done}
 use Rattle.mig_pvtables.specs.Whole.{IsStreamed}
 use Rattle.mig_libxl.proofs.read.WrapperSeen.finish.Goals as goal

@@ -1,4 +1,4 @@
-use Rattle.mig_libxl.proofs.ReadingCommon.{refl, rules}
+use Rattle.mig_libxl.proofs.Common.{refl, rules}
 use Rattle.mig_libxl.proofs.Taking.{image_read}
 use Rattle.mig_libxl.proofs.read.WrapperSeen.take_image.Goals as goal
 

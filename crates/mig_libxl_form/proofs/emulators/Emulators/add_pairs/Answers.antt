@@ -1,17 +1,14 @@
-use Rattle.mig_libxl_form.proofs.EmulatorCommon.{◌≡◌, ◌<◌, ◌≤◌, length, Some, None, List, [], ℕ, sym, ap, subst, ◌∙◌, arith, is_some, nat_eq, false, cond, ◌^◌, Result, Ok, Err, common_steps, eqb-true, pairs_fault, PairMap, put_pairs, text_of_map, some_bytes_are_some_pairs, part_cmp, PartKey, add_pairs, store_at, nil_from_length}
+use Rattle.mig_libxl_form.proofs.Common.{◌≡◌, ◌<◌, ◌≤◌, length, Some, None, List, [], ℕ, sym, ap, subst, ◌∙◌, arith, is_some, nat_eq, false, cond, ◌^◌, Result, Ok, Err, common_steps, eqb-true, pairs_fault, PairMap, put_pairs, text_of_map, some_bytes_are_some_pairs, part_cmp, PartKey, add_pairs, store_at, nil_from_length, is_at, on_err_weaker, pairs_in, stores_seen}
 use Rattle.std.specs.Prelude.{OnOk, IsErrAnd, IsErrOf}
-use Rattle.std.specs.FinMap as maps
-use Rattle.std.specs.BTreeMap.{is_at}
 use Rattle.std.specs.declared.alloc.Global.{Global}
 use Rattle.std.specs.declared.collections.btree_map.BTreeMap.{BTreeMap}
 use Rattle.std.specs.Option.{option_copied_mut}
-use Rattle.std.proofs.lemmas.Result.{on_err_weaker, on_ok_weaker}
-use Rattle.mig_policy.specs.PairMaps.{pairs_in}
+use Rattle.std.proofs.lemmas.Result.{on_ok_weaker}
 use Rattle.mig_policy.proofs.PairTrees.{empty_len}
 use Rattle.mig_policy.specs.declared.pair_map.PairsAnswer.TheVariants.{TooMany}
-use Rattle.mig_libxl_form.specs.Emulators.{stores_seen}
 use Rattle.mig_libxl_form.proofs.Begun.{after_error, none_added, store_begun}
 use Rattle.mig_libxl_form.proofs.Stores.{no_pairs, store_in, store_found, store_set}
+use Rattle.std.specs.FinMap as maps
 use Rattle.mig_libxl_form.proofs.emulators.Emulators.add_pairs.Goals as goal
 
 some_pairs : (bytes : List ℕ) → pairs_fault bytes ≡ None → nat_eq (length bytes) 0 ≡ false → 0 < length (pairs_in bytes)

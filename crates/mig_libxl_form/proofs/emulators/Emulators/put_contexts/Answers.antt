@@ -1,7 +1,7 @@
-use Rattle.mig_libxl_form.proofs.EmulatorCommon.{ap, subst, Some, EmulatorsOf, PartMap}
-use Rattle.std.specs.FinMap as maps
+use Rattle.mig_libxl_form.proofs.Common.{ap, subst, Some, EmulatorsOf, PartMap}
 use Rattle.mig_guest.specs.Parts.{NextBehind}
 use Rattle.mig_libxl_form.proofs.Begun.{one_more, still_leads}
+use Rattle.std.specs.FinMap as maps
 use Rattle.mig_libxl_form.proofs.emulators.Emulators.put_contexts.Goals as goal
 
 pub loop-key-preserved : goal.loop-key-preserved

@@ -1,7 +1,6 @@
-use Rattle.std.proofs.Common.{◌≡◌, length}
+use Rattle.mig_libxl_form.proofs.Common.{◌≡◌, length, put_parts, ArePartsBefore}
+use Rattle.mig_guest.specs.Parts.{parts_behind}
 use Rattle.std.specs.FinMap as maps
-use Rattle.mig_guest.specs.Parts.{put_parts, parts_behind}
-use Rattle.mig_libxl_form.specs.Emulators.{ArePartsBefore}
 use Rattle.mig_libxl_form.proofs.emulators.Emulators.put_contexts.Given as goal
 
 -- what is still to be set leads to all of them set, and all else is set

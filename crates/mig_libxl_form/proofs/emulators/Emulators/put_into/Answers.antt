@@ -1,4 +1,4 @@
-use Rattle.std.proofs.lemmas.Result.{on_err_weaker}
+use Rattle.mig_libxl_form.proofs.Common.{on_err_weaker}
 use Rattle.mig_libxl_form.proofs.Begun.{after_error, contexts_begun, stores_begun}
 use Rattle.mig_libxl_form.proofs.emulators.Emulators.put_into.Goals as goal
 

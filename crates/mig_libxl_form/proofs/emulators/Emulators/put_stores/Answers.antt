@@ -1,7 +1,7 @@
-use Rattle.mig_libxl_form.proofs.EmulatorCommon.{List, map, ap, ◌∙◌, put_parts, store_part}
-use Rattle.std.specs.FinMap as maps
+use Rattle.mig_libxl_form.proofs.Common.{List, map, ap, ◌∙◌, put_parts, store_part}
 use Rattle.mig_libxl_form.proofs.Begun.{none_set, one_more, still_leads}
 use Rattle.mig_libxl_form.proofs.Stores.{Entry, stores_listed}
+use Rattle.std.specs.FinMap as maps
 use Rattle.mig_libxl_form.proofs.emulators.Emulators.put_stores.Goals as goal
 
 pub loop-key-init : goal.loop-key-init

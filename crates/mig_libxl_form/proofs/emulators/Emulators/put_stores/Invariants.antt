@@ -1,7 +1,5 @@
-use Rattle.std.proofs.Common.{◌≡◌, map}
+use Rattle.mig_libxl_form.proofs.Common.{◌≡◌, map, put_parts, ArePartsBefore, store_part}
 use Rattle.std.specs.FinMap as maps
-use Rattle.mig_guest.specs.Parts.{put_parts}
-use Rattle.mig_libxl_form.specs.Emulators.{ArePartsBefore, store_part}
 use Rattle.mig_libxl_form.proofs.emulators.Emulators.put_stores.Given as goal
 
 abbrev pub invariant-loop-key : goal.invariant-loop-key

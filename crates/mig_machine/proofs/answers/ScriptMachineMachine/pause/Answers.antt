@@ -1,9 +1,4 @@
-use Rattle.std.proofs.Common.{◌≡◌, ap, subst, sym, ◌∙◌}
-use Rattle.mig_guest.specs.History.{after_call}
-use Rattle.mig_machine.specs.MachineSeen.{MachineSeen, HistoryNoted, history_told}
-use Rattle.mig_machine.specs.MachineFields.{machine_seen}
-use Rattle.mig_machine.specs.Noted.{noted_in}
-use Rattle.mig_machine.specs.Exact.{RunsOn}
+use Rattle.mig_machine.proofs.Common.{◌≡◌, ap, subst, sym, ◌∙◌, after_call, MachineSeen, HistoryNoted, history_told, machine_seen, noted_in, RunsOn}
 use Rattle.mig_machine.proofs.Exactly.{later_by_pause}
 use Rattle.mig_machine.proofs.answers.ScriptMachineMachine.pause.Goals as goal
 

@@ -1,9 +1,5 @@
-use Rattle.std.proofs.Common.{◌≡◌, refl, ap, subst, sym, ◌∙◌}
+use Rattle.mig_machine.proofs.Common.{◌≡◌, refl, ap, subst, sym, ◌∙◌, MachineSeen, HistoryNoted, history_of, history_told, machine_seen, noted_in, RunsOn}
 use Rattle.mig_guest.specs.History.{after_peek, and_read}
-use Rattle.mig_machine.specs.MachineSeen.{MachineSeen, HistoryNoted, history_of, history_told}
-use Rattle.mig_machine.specs.MachineFields.{machine_seen}
-use Rattle.mig_machine.specs.Noted.{noted_in}
-use Rattle.mig_machine.specs.Exact.{RunsOn}
 use Rattle.mig_machine.proofs.Exactly.{later_by_call}
 use Rattle.mig_machine.proofs.answers.ScriptMachineMachine.peek.Goals as goal
 

@@ -1,10 +1,4 @@
-use Rattle.std.proofs.Common.{◌≡◌, refl, ap, subst, sym, ◌∙◌}
-use Rattle.mig_guest.specs.History.{after_call, and_call}
-use Rattle.mig_guest.specs.Hosts.{IsValid}
-use Rattle.mig_machine.specs.MachineSeen.{MachineSeen, HistoryNoted, history_of, history_told}
-use Rattle.mig_machine.specs.MachineFields.{machine_seen}
-use Rattle.mig_machine.specs.Noted.{noted_in}
-use Rattle.mig_machine.specs.Exact.{RunsOn}
+use Rattle.mig_machine.proofs.Common.{◌≡◌, refl, ap, subst, sym, ◌∙◌, after_call, and_call, IsValid, MachineSeen, HistoryNoted, history_of, history_told, machine_seen, noted_in, RunsOn}
 use Rattle.mig_machine.proofs.Exactly.{later_by_call}
 use Rattle.mig_machine.proofs.Insides.{inside}
 use Rattle.mig_machine.proofs.answers.ScriptMachineMachine.pfn_of.Goals as goal

@@ -1,11 +1,4 @@
-use Rattle.std.proofs.Common.{◌≡◌, ap, subst, sym, ◌∙◌, ◌≤◌}
-use Rattle.mig_guest.specs.History.{after_log}
-use Rattle.mig_guest.specs.Hosts.{IsValid, most_saved_width, HostOf}
-use Rattle.mig_guest.specs.Pfns.{Pfns, pfns_of_words}
-use Rattle.mig_machine.specs.MachineSeen.{MachineSeen, history_told}
-use Rattle.mig_machine.specs.MachineFields.{machine_seen}
-use Rattle.mig_machine.specs.Noted.{noted_in}
-use Rattle.mig_machine.specs.Exact.{RunsOn}
+use Rattle.mig_machine.proofs.Common.{◌≡◌, ap, subst, sym, ◌∙◌, ◌≤◌, after_log, IsValid, most_saved_width, HostOf, Pfns, pfns_of_words, MachineSeen, history_told, machine_seen, noted_in, RunsOn}
 use Rattle.mig_machine.proofs.Exactly.{later_by_log}
 use Rattle.mig_machine.proofs.answers.ScriptMachineMachine.take_log.Goals as goal
 

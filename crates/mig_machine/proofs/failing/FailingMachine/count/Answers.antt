@@ -1,4 +1,4 @@
-use Rattle.std.proofs.Common.{refl, subst, List, ℕ}
+use Rattle.mig_machine.proofs.Common.{refl, subst, List, ℕ}
 use Rattle.mig_bytes.specs.Memory.{IsListed}
 use Rattle.mig_machine.specs.Failing.{FailingSeen}
 use Rattle.mig_machine.proofs.failing.FailingMachine.count.Goals as goal

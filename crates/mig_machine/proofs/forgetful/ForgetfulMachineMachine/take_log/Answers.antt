@@ -1,8 +1,5 @@
-use Rattle.std.proofs.Common.{List, ℕ, ap, subst, ◌∙◌}
-use Rattle.mig_machine.specs.MachineSeen.{machine_state}
-use Rattle.mig_guest.specs.MachineCalls.{LogTaken}
-use Rattle.mig_guest.specs.Pfns.{pfns_of_words}
-use Rattle.mig_machine.specs.Forgetful.{ForgetfulSeen, forgetting, forgetful_state, without_pfns}
+use Rattle.mig_machine.proofs.Common.{List, ℕ, ap, subst, ◌∙◌, machine_state, LogTaken, pfns_of_words, forgetting, without_pfns}
+use Rattle.mig_machine.specs.Forgetful.{ForgetfulSeen, forgetful_state}
 use Rattle.mig_machine.proofs.Forgetting.{forgetting_took}
 use Rattle.mig_machine.proofs.forgetful.ForgetfulMachineMachine.take_log.Goals as goal
 

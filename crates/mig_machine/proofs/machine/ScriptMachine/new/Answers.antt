@@ -1,6 +1,4 @@
-use Rattle.std.proofs.Common.{rules, subst, ◌≡◌, ◌≤◌, ◌+◌, ◌/◌, length, refl, sym, ap, ◌∙◌}
-use Rattle.mig_guest.specs.Hosts.{HostOf, most_saved_width}
-use Rattle.mig_guest.specs.Pfns.{Pfns}
+use Rattle.mig_machine.proofs.Common.{rules, subst, ◌≡◌, ◌≤◌, ◌+◌, ◌/◌, length, refl, sym, ap, ◌∙◌, HostOf, most_saved_width, Pfns}
 use Rattle.mig_machine_script.specs.HostLines.{room_for}
 use Rattle.mig_machine.proofs.machine.ScriptMachine.new.Goals as goal
 

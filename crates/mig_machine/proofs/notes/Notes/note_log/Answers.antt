@@ -1,6 +1,4 @@
-use Rattle.std.proofs.Common.{rules, arith, ◌≡◌, ◌+◌, ◌<◌, ℕ, List, ◌∷◌, length, ap, ◌∙◌, cond, slice_set}
-use Rattle.mig_guest.specs.Pfns.{pfns_of_words}
-use Rattle.mig_guest.specs.History.{and_call}
+use Rattle.mig_machine.proofs.Common.{rules, arith, ◌≡◌, ◌+◌, ◌<◌, ℕ, List, ◌∷◌, length, ap, ◌∙◌, cond, slice_set, pfns_of_words, and_call}
 use Rattle.mig_machine.proofs.LogsKept.{took_before, logged, nothing, how_many}
 use Rattle.mig_machine.proofs.notes.Notes.note_log.Goals as goal
 

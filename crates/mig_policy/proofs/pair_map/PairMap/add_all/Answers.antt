@@ -1,6 +1,5 @@
-use Rattle.std.proofs.Common.{arith}
+use Rattle.mig_policy.proofs.Common.{arith, put_pairs, pairs_in}
 use Rattle.mig_policy.proofs.PairTrees.{one_more, one_more_set}
-use Rattle.mig_policy.specs.PairMaps.{put_pairs, pairs_in}
 use Rattle.mig_policy.proofs.pair_map.PairMap.add_all.Goals as goal
 
 pub loop-key-preserved : goal.loop-key-preserved

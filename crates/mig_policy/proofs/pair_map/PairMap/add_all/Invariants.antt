@@ -1,5 +1,4 @@
-use Rattle.std.proofs.Common.{◌≡◌, ◌≤◌, ◌+◌, length}
-use Rattle.mig_policy.specs.PairMaps.{AreSetBefore, put_pairs, pairs_in, text_of_map}
+use Rattle.mig_policy.proofs.Common.{◌≡◌, ◌≤◌, ◌+◌, length, AreSetBefore, put_pairs, pairs_in, text_of_map}
 use Rattle.mig_policy.proofs.pair_map.PairMap.add_all.Given as goal
 
 abbrev pub invariant-loop-key : goal.invariant-loop-key

@@ -1,7 +1,7 @@
-use Rattle.std.proofs.Common.{◌≡◌, ◌+◌, length, is_some, sym, ap, ◌∙◌, arith}
-use Rattle.std.specs.FinMap as maps
-use Rattle.mig_policy.specs.PairMaps.{PairMap, pairs_seen, text_of_map}
+use Rattle.mig_policy.proofs.Common.{◌≡◌, ◌+◌, length, sym, ap, ◌∙◌, arith, PairMap, pairs_seen, text_of_map}
+use Rattle.std.proofs.Common.{is_some}
 use Rattle.mig_policy.proofs.PairTrees.{insert_order, insert_seen, set_new, set_old}
+use Rattle.std.specs.FinMap as maps
 use Rattle.mig_policy.proofs.pair_map.PairMap.set.Goals as goal
 
 pub overflow_sub-self : goal.overflow_sub-self

@@ -1,6 +1,4 @@
-use Rattle.std.proofs.Common.{◌++◌, map, ◌∙◌}
-use Rattle.std.specs.List.{flat_map}
-use Rattle.mig_policy.specs.PairMaps.{shown, text_of_entry}
+use Rattle.mig_policy.proofs.Common.{◌++◌, map, ◌∙◌, flat_map, shown, text_of_entry}
 use Rattle.mig_policy.proofs.PairTrees.{seen_text}
 use Rattle.mig_policy.proofs.pair_map.PairMap.text.Goals as goal
 

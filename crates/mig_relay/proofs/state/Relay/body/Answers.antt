@@ -1,17 +1,4 @@
-use Rattle.std.proofs.Common.{◌≡◌, ◌<◌, ◌+◌, ◌++◌, refl, sym, [], ap, subst, ◌∙◌, arith, length, length-append, append_assoc}
-use Rattle.std.proofs.lemmas.Grind.{common_steps}
-use Rattle.mig_headers.specs.declared.fault.Place.TheVariants.{Record}
-use Rattle.mig_relay_bodies.specs.Begun.{IsBegunBody}
-use Rattle.mig_relay_bodies.specs.Bodies.{fault_of_record_body, record_content}
-use Rattle.mig_restore_form.specs.Judging.{before}
-use Rattle.mig_relay.specs.Keeping.{top_with}
-use Rattle.mig_relay.specs.Following.{more}
-use Rattle.mig_relay.specs.Parts.{AtBody}
-use Rattle.mig_relay.specs.Spots.{InImage, spot}
-use Rattle.mig_relay.specs.Steps.{answer_of, counted}
-use Rattle.mig_relay.specs.declared.answer.RelayAnswer.TheVariants.{Refused}
-use Rattle.mig_relay.specs.declared.answer.Step.TheVariants.{Piece}
-use Rattle.mig_relay.specs.declared.state.Relay.{Relay}
+use Rattle.mig_relay.proofs.Common.{◌≡◌, ◌<◌, ◌+◌, ◌++◌, refl, sym, [], ap, subst, ◌∙◌, arith, length, length-append, append_assoc, common_steps, Record, IsBegunBody, fault_of_record_body, record_content, before, top_with, more, AtBody, InImage, spot, answer_of, counted, Refused, Piece, Relay}
 use Rattle.mig_relay.proofs.BehindBodies.{body_part, not_end, first_more, top_more, top_whole, behind_record}
 use Rattle.mig_relay.proofs.Kept.{this_number, records_topped, outer_same}
 use Rattle.mig_relay.proofs.Moves.{stopped, unwritten, refused_behind, goes_on, passes}

@@ -1,16 +1,9 @@
-use Rattle.std.proofs.Common.{arith, refl, sym, subst, [], ap, ◌∙◌}
-use Rattle.mig_headers.specs.declared.fault.Place.TheVariants.{Record}
-use Rattle.mig_records.specs.Faults.{fault_of_count}
-use Rattle.mig_relay.specs.Following.{ComesNext, count}
-use Rattle.mig_relay.specs.Parts.{AtFront, AtWords}
-use Rattle.mig_relay.specs.Spots.{InImage, spot}
-use Rattle.mig_relay.specs.Steps.{answer_of}
-use Rattle.mig_relay.specs.declared.answer.RelayAnswer.TheVariants.{Refused}
-use Rattle.mig_relay.specs.declared.state.Coming.TheVariants as comes
-use Rattle.mig_relay.specs.declared.state.Relay.{Relay}
+use Rattle.mig_relay.proofs.Common.{arith, refl, sym, subst, [], ap, ◌∙◌, Record, fault_of_count, ComesNext, AtFront, AtWords, InImage, spot, answer_of, Refused, Relay}
+use Rattle.mig_relay.specs.Following.{count}
 use Rattle.mig_relay.proofs.Moves.{not_taken, not_allowed, not_written, went}
 use Rattle.mig_relay.proofs.Kept.{this_number}
 use Rattle.mig_relay.proofs.Paging.{IsKept, front_is, in_count, outer_stays, records_stay}
+use Rattle.mig_relay.specs.declared.state.Coming.TheVariants as comes
 use Rattle.mig_relay.proofs.state.Relay.front.Goals as goal
 
 pub returns-in-Err-clause-moved : goal.returns-in-Err-clause-moved

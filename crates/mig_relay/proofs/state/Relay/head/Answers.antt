@@ -1,20 +1,5 @@
-use Rattle.std.proofs.Common.{arith, refl, sym, ap, subst, ◌∙◌, [], ◌∷◌, ◌++◌}
-use Rattle.std.specs.Option.{option_or}
-use Rattle.mig_headers.specs.declared.fault.Place.TheVariants.{Record}
-use Rattle.mig_bytes.specs.Fields.{le32}
-use Rattle.mig_records.specs.Heads.{head_in}
-use Rattle.mig_records.specs.declared.head.RecordHead.{RecordHead}
-use Rattle.mig_restore_form.specs.Judging.{before, fault_of_fields}
-use Rattle.mig_restore_form.specs.Record.{types_of}
-use Rattle.mig_relay.specs.Keeping.{fault_of_empty}
-use Rattle.mig_relay.specs.Parts.{AtBody}
-use Rattle.mig_relay.specs.Spots.{InImage, carry, spot}
-use Rattle.mig_relay.specs.Steps.{answer_of}
-use Rattle.mig_relay.specs.declared.answer.RelayAnswer.TheVariants.{Refused}
+use Rattle.mig_relay.proofs.Common.{arith, refl, sym, ap, subst, ◌∙◌, [], ◌∷◌, ◌++◌, option_or, Record, le32, head_in, RecordHead, before, fault_of_fields, types_of, fault_of_empty, AtBody, InImage, carry, spot, answer_of, Refused, Relay, IsSeen, RecordsSeen}
 use Rattle.mig_relay.proofs.HeadParts.{whole_head_is, begun, HasBegun, IsJudged}
-use Rattle.mig_relay.specs.declared.state.Relay.{Relay}
-use Rattle.mig_restore_form.specs.Seen.{IsSeen}
-use Rattle.mig_restore_form.specs.declared.head.RecordsSeen.{RecordsSeen}
 use Rattle.mig_relay.proofs.Kept.{number_is, outer_same}
 use Rattle.mig_relay.proofs.Moves.{not_taken, not_allowed, not_written, went, err_fault, ok_none}
 use Rattle.mig_relay.proofs.SpotParts.{lifted}

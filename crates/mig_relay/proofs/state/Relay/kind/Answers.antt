@@ -1,11 +1,6 @@
-use Rattle.std.proofs.Common.{arith, refl, sym, ap, []}
-use Rattle.mig_bytes.specs.Fields.{le32}
-use Rattle.mig_headers.specs.Headers.{fault_of_domain, kind_of_number}
+use Rattle.mig_relay.proofs.Common.{arith, refl, sym, ap, [], le32, fault_of_domain, kind_of_number, opening_of, AtHead, InImage, carry, spot}
 use Rattle.mig_headers.specs.declared.header.DomainHeader.{DomainHeader}
-use Rattle.mig_restore_form.specs.Judging.{opening_of}
 use Rattle.mig_relay.specs.Following.{kind}
-use Rattle.mig_relay.specs.Parts.{AtHead}
-use Rattle.mig_relay.specs.Spots.{InImage, carry, spot}
 use Rattle.mig_relay.proofs.Openings.{no_records}
 use Rattle.mig_relay.proofs.Kept.{outer_same}
 use Rattle.mig_relay.proofs.Unrolls.{kind_is}

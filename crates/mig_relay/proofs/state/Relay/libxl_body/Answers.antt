@@ -1,14 +1,5 @@
-use Rattle.std.proofs.Common.{◌≡◌, ◌+◌, ◌++◌, refl, sym, [], ap, subst, ◌∙◌, arith, length, length-append, append_assoc}
-use Rattle.std.proofs.lemmas.Grind.{common_steps}
+use Rattle.mig_relay.proofs.Common.{◌≡◌, ◌+◌, ◌++◌, refl, sym, [], ap, subst, ◌∙◌, arith, length, length-append, append_assoc, common_steps, IsBegunBody, fault_of_libxl_body, more, AtLibxlBody, spot, answer_of, counted, Refused, Piece, Relay}
 use Rattle.mig_headers.specs.declared.fault.Place.TheVariants.{LibxlRecord as AtRecord}
-use Rattle.mig_relay_bodies.specs.Begun.{IsBegunBody}
-use Rattle.mig_relay_bodies.specs.Bodies.{fault_of_libxl_body}
-use Rattle.mig_relay.specs.Following.{more}
-use Rattle.mig_relay.specs.Spots.{AtLibxlBody, spot}
-use Rattle.mig_relay.specs.Steps.{answer_of, counted}
-use Rattle.mig_relay.specs.declared.answer.RelayAnswer.TheVariants.{Refused}
-use Rattle.mig_relay.specs.declared.answer.Step.TheVariants.{Piece}
-use Rattle.mig_relay.specs.declared.state.Relay.{Relay}
 use Rattle.mig_relay.proofs.BehindBodies.{behind_libxl, no_image}
 use Rattle.mig_relay.proofs.Kept.{libxl_number, going_same}
 use Rattle.mig_relay.proofs.Moves.{stopped, unwritten, refused_behind, goes_on, passes}

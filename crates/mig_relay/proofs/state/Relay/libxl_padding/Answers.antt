@@ -1,17 +1,9 @@
-use Rattle.std.proofs.Common.{◌≡◌, Some, refl, [], ap, ◌∙◌, arith, length}
-use Rattle.std.proofs.lemmas.Grind.{common_steps}
+use Rattle.mig_relay.proofs.Common.{◌≡◌, Some, refl, [], ap, ◌∙◌, arith, length, common_steps, Relay, answer_of, counted, Piece, RecordHead, with_one, whole, libxl_next, AtLibxlHead, AtLibxlPadding}
 use Rattle.mig_headers.specs.declared.fault.Place.TheVariants.{LibxlRecord as AtRecord}
-use Rattle.mig_relay.specs.declared.state.Relay.{Relay}
-use Rattle.mig_relay.specs.Steps.{answer_of, counted}
-use Rattle.mig_relay.specs.declared.answer.Step.TheVariants.{Piece}
-use Rattle.mig_records.specs.declared.head.RecordHead.{RecordHead}
-use Rattle.mig_relay.specs.Keeping.{with_one}
-use Rattle.mig_relay.specs.declared.state.Coming.TheVariants as comes
-use Rattle.mig_relay.specs.Following.{whole, libxl_next}
-use Rattle.mig_relay.specs.Spots.{AtLibxlHead, AtLibxlPadding}
 use Rattle.mig_relay.proofs.SpotParts.{libxl_padding_is, with_libxl}
 use Rattle.mig_relay.proofs.Kept.{libxl_number, wrapped_more}
 use Rattle.mig_relay.proofs.Moves.{not_taken, not_written, went}
+use Rattle.mig_relay.specs.declared.state.Coming.TheVariants as comes
 use Rattle.mig_relay.proofs.state.Relay.libxl_padding.Goals as goal
 
 pub returns-in-Err-clause-moved : goal.returns-in-Err-clause-moved

@@ -1,7 +1,5 @@
-use Rattle.std.proofs.Common.{arith, refl, ap, []}
+use Rattle.mig_relay.proofs.Common.{arith, refl, ap, [], AtVersion, InImage, carry}
 use Rattle.mig_relay.specs.Following.{marker}
-use Rattle.mig_relay.specs.Parts.{AtVersion}
-use Rattle.mig_relay.specs.Spots.{InImage, carry}
 use Rattle.mig_relay.proofs.Kept.{outer_same}
 use Rattle.mig_relay.proofs.Unrolls.{marker_is}
 use Rattle.mig_relay.proofs.SpotParts.{lifted}

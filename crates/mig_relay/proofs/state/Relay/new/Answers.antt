@@ -1,5 +1,4 @@
-use Rattle.std.proofs.Common.{[], refl}
-use Rattle.mig_relay.specs.Spots.{AtStart}
+use Rattle.mig_relay.proofs.Common.{[], refl, AtStart}
 use Rattle.mig_relay.proofs.Steps.{begins}
 use Rattle.mig_relay.proofs.state.Relay.new.Goals as goal
 

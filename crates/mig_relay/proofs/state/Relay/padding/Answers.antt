@@ -1,13 +1,4 @@
-use Rattle.std.proofs.Common.{◌≡◌, refl, [], ap, ◌∙◌, arith, length}
-use Rattle.std.proofs.lemmas.Grind.{common_steps}
-use Rattle.mig_headers.specs.declared.fault.Place.TheVariants.{Record}
-use Rattle.mig_relay.specs.declared.state.Relay.{Relay}
-use Rattle.mig_relay.specs.Steps.{answer_of, counted}
-use Rattle.mig_relay.specs.declared.answer.Step.TheVariants.{Piece}
-use Rattle.mig_records.specs.declared.head.RecordHead.{RecordHead}
-use Rattle.mig_relay.specs.Spots.{InImage, carry}
-use Rattle.mig_relay.specs.Following.{whole, image_next}
-use Rattle.mig_relay.specs.Parts.{AtHead, AtPadding, record_with}
+use Rattle.mig_relay.proofs.Common.{◌≡◌, refl, [], ap, ◌∙◌, arith, length, common_steps, Record, Relay, answer_of, counted, Piece, RecordHead, InImage, carry, whole, image_next, AtHead, AtPadding, record_with}
 use Rattle.mig_relay.proofs.Unrolls.{padding_is, with}
 use Rattle.mig_relay.proofs.SpotParts.{lifted}
 use Rattle.mig_relay.proofs.Kept.{this_number, records_same, records_more, outer_same}

@@ -1,13 +1,5 @@
-use Rattle.std.proofs.Common.{◌≡◌, ◌≤◌, ◌+◌, ◌^◌, ◌∷◌, ◌++◌, Some, length, length-append, arith, refl, sym, [], ap, ◌∙◌}
+use Rattle.mig_relay.proofs.Common.{◌≡◌, ◌≤◌, ◌+◌, ◌^◌, ◌∷◌, ◌++◌, Some, length, length-append, arith, refl, sym, [], ap, ◌∙◌, Record, before, type_in_word, meant_type, AtPages, entry_of_word, InImage, spot, answer_of, Refused, Relay}
 use Rattle.std.proofs.lemmas.List.{get_or_read}
-use Rattle.mig_headers.specs.declared.fault.Place.TheVariants.{Record}
-use Rattle.mig_restore_form.specs.Judging.{before, type_in_word}
-use Rattle.mig_restore_form.specs.Mean.{meant_type}
-use Rattle.mig_relay.specs.Parts.{AtPages, entry_of_word}
-use Rattle.mig_relay.specs.Spots.{InImage, spot}
-use Rattle.mig_relay.specs.Steps.{answer_of}
-use Rattle.mig_relay.specs.declared.answer.RelayAnswer.TheVariants.{Refused}
-use Rattle.mig_relay.specs.declared.state.Relay.{Relay}
 use Rattle.mig_relay.proofs.Moves.{not_taken, not_allowed, not_written, went}
 use Rattle.mig_relay.proofs.Kept.{this_number}
 use Rattle.mig_relay.proofs.Paging.{IsKept, next_word, others, page_is, outer_stays, records_stay, turned, turning_keeps, same_page_fault, page_left}

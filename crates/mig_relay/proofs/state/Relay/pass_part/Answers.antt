@@ -1,6 +1,6 @@
-use Rattle.std.proofs.Common.{refl}
-use Rattle.mig_relay.specs.declared.state.Coming.TheVariants as comes
+use Rattle.mig_relay.proofs.Common.{refl}
 use Rattle.mig_relay.proofs.Steps.{moved_from, stands_from}
+use Rattle.mig_relay.specs.declared.state.Coming.TheVariants as comes
 use Rattle.mig_relay.proofs.state.Relay.pass_part.Goals as goal
 
 pub returns-in-Start-clause-moved : goal.returns-in-Start-clause-moved

@@ -1,11 +1,5 @@
-use Rattle.std.proofs.Common.{arith, refl, sym, ap, subst, ◌∙◌, [], List, ℕ, length, Option, Ok, Err}
-use Rattle.mig_bytes.specs.Judged.{Gives, part}
-use Rattle.mig_headers.specs.declared.fault.Cause.TheVariants.{Truncated}
+use Rattle.mig_relay.proofs.Common.{arith, refl, sym, ap, subst, ◌∙◌, [], List, ℕ, length, Option, Ok, Err, Gives, part, Truncated, AtVersion, Alone, AtLibxlHeader, InImage, IsNotRefused, RelayAnswer}
 use Rattle.mig_relay.specs.Following.{wrapper_opens, image_opens}
-use Rattle.mig_relay.specs.Parts.{AtVersion}
-use Rattle.mig_relay.specs.Spots.{Alone, AtLibxlHeader, InImage}
-use Rattle.mig_relay.specs.Standing.{IsNotRefused}
-use Rattle.mig_relay.specs.declared.answer.RelayAnswer.{RelayAnswer}
 use Rattle.mig_relay.proofs.Openings.{wrapped_form, bare_form, none_behind, begun_long, whole_not_short, ident_is_fine}
 use Rattle.mig_relay.proofs.SpotParts.{start_is}
 use Rattle.mig_relay.proofs.Moves.{Buffered, not_taken, not_allowed, not_written, went}

@@ -1,14 +1,4 @@
-use Rattle.std.proofs.Common.{◌≡◌, ◌≤◌, ◌*◌, ◌^◌, length, arith, refl, sym, subst, [], ap, ◌∙◌}
-use Rattle.std.specs.Io.KnownBytes.{Appends}
-use Rattle.mig_bytes.specs.Bytes.{AppendsPart}
-use Rattle.mig_headers.specs.declared.fault.Place.TheVariants.{Record}
-use Rattle.mig_records.specs.Words.{words}
-use Rattle.mig_restore_form.specs.Judging.{before, with_places}
-use Rattle.mig_relay.specs.Parts.{AtPages, AtWords}
-use Rattle.mig_relay.specs.Spots.{InImage, spot}
-use Rattle.mig_relay.specs.Steps.{answer_of, counted}
-use Rattle.mig_relay.specs.declared.answer.RelayAnswer.TheVariants.{Refused}
-use Rattle.mig_relay.specs.declared.state.Relay.{Relay}
+use Rattle.mig_relay.proofs.Common.{◌≡◌, ◌≤◌, ◌*◌, ◌^◌, length, arith, refl, sym, subst, [], ap, ◌∙◌, Appends, AppendsPart, Record, words, before, with_places, AtPages, AtWords, InImage, spot, answer_of, counted, Refused, Relay}
 use Rattle.mig_relay.proofs.Moves.{not_taken, not_allowed, not_written, gave_up, went}
 use Rattle.mig_relay.proofs.Kept.{this_number}
 use Rattle.mig_relay.proofs.Paging.{IsKept, words_is, blank, blank_len, few_bytes, buffered, unbuffered, whole_list, outer_stays, records_stay, turned, turning_keeps, same_list_fault, filled, words_left}

@@ -1,8 +1,5 @@
-use Rattle.std.proofs.Common.{rules, ◌≡◌, true, arith, sym, subst, Err}
-use Rattle.mig_relay.specs.Relaying.{RisesOnAnswer, Turned, WritesOnReadFault}
+use Rattle.mig_relay.proofs.Common.{rules, ◌≡◌, true, arith, sym, subst, Err, RisesOnAnswer, Turned, WritesOnReadFault, RelayAnswer, Step}
 use Rattle.mig_relay.specs.Standing.{goes_on}
-use Rattle.mig_relay.specs.declared.answer.RelayAnswer.{RelayAnswer}
-use Rattle.mig_relay.specs.declared.answer.Step.{Step}
 use Rattle.mig_relay.proofs.Steps.{turned_on, turned_flushed, turn_broke_off, turn_ended, read_on, read_broke_off, read_written, rises_unwritten}
 use Rattle.mig_relay.proofs.state.Relay.turn.Goals as goal
 

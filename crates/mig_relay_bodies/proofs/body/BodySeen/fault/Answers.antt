@@ -1,5 +1,4 @@
-use Rattle.std.proofs.Common.{sym, ◌∙◌}
-use Rattle.mig_relay_bodies.specs.declared.known.Knows.TheVariants.{Entries, Texts, Params, Verdict}
+use Rattle.mig_relay_bodies.proofs.Common.{sym, ◌∙◌, Entries, Texts, Params, Verdict}
 use Rattle.mig_relay_bodies.proofs.NextPieces.{known_as, entries_end, texts_end, params_end, verdict_end}
 use Rattle.mig_relay_bodies.proofs.body.BodySeen.fault.Goals as goal
 

@@ -1,4 +1,4 @@
-use Rattle.std.proofs.Common.{arith, length-append}
+use Rattle.mig_relay_bodies.proofs.Common.{arith, length-append}
 use Rattle.mig_relay_bodies.proofs.body.BodySeen.pass.Goals as goal
 
 pub returns-clause-begun : goal.returns-clause-begun

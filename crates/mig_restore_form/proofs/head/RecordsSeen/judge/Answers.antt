@@ -1,5 +1,6 @@
-use Rattle.mig_restore_form.proofs.Common.{rules, ◌≡◌, ℕ, Option, Some, None, Result, Ok, Err, sym, ap, ◌∙◌, unless_faulty, Cause, fault_of_type, fault_of_long, fault_of_length, RecordsSeen, Before, fault_of_number, IsSeen}
-use Rattle.std.specs.Option.{option_or}
+use Rattle.mig_restore_form.proofs.Common.{rules, ◌≡◌, ℕ, Option, Some, None, Result, Ok, Err, sym, ap, ◌∙◌, unless_faulty, Cause, fault_of_type, fault_of_long, fault_of_length, Before, fault_of_number, option_or}
+use Rattle.mig_restore_form.specs.declared.head.RecordsSeen.{RecordsSeen}
+use Rattle.mig_restore_form.specs.Seen.{IsSeen}
 use Rattle.mig_restore_form.specs.Judging.{fault_of_fields}
 use Rattle.mig_restore_form.proofs.head.RecordsSeen.judge.Goals as goal
 

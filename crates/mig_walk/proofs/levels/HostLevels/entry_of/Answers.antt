@@ -1,6 +1,5 @@
-use Rattle.std.proofs.Common.{◌≡◌, Option, Some, IfSome, IfNone, subst, ◌∙◌, option_and_then}
-use Rattle.mig_pagetypes.specs.PageTypes.{level_of}
-use Rattle.mig_pagetypes.specs.declared.page_type.PageType.{PageType}
+use Rattle.mig_walk.proofs.Common.{◌≡◌, Option, Some, IfSome, subst, ◌∙◌, option_and_then, level_of, PageType}
+use Rattle.std.proofs.Common.{IfNone}
 use Rattle.mig_walk.proofs.HostFrames.{bare, bare_type, bare_page, entry_said}
 use Rattle.mig_walk.proofs.levels.HostLevels.entry_of.Goals as goal
 

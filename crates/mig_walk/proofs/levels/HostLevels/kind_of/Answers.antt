@@ -1,4 +1,4 @@
-use Rattle.std.proofs.Common.{◌∙◌}
+use Rattle.mig_walk.proofs.Common.{◌∙◌}
 use Rattle.mig_walk.proofs.HostFrames.{bare_type}
 use Rattle.mig_walk.proofs.levels.HostLevels.kind_of.Goals as goal
 
