@@ -5,7 +5,7 @@ pub use Rattle.std.proofs.lemmas.List.Elements.{recursion_from_All}
 pub use Rattle.std.specs.Cmp.{IsTotalOrder}
 pub use Rattle.std.specs.FinMap.{IsAntisymmetric}
 pub use Rattle.std.specs.Ordering.{eq_by_cmp, is_lt}
-pub use Rattle.std.specs.Prelude.{filter}
+pub use Rattle.std.specs.Prelude.{filter, option_and_then}
 pub use Rattle.std.specs.declared.cmp.Ordering.{Ordering}
 pub use Rattle.std.specs.declared.cmp.Ordering.TheVariants.{Less}
 pub use Rattle.mig_bytes.proofs.ByteLists.{Bytes, long_below}
@@ -30,7 +30,7 @@ pub use Rattle.mig_host_view.specs.RenamedContexts.{field_named, renamed_context
 pub use Rattle.mig_host_view.specs.Sound.{IsSound, absent, needed_keys, unsoundness}
 pub use Rattle.mig_host_view.specs.View.{guest_in, view}
 pub use Rattle.mig_pvtables.proofs.BlankSays.{place_field}
-pub use Rattle.mig_pvtables.proofs.Common.{Blank, Bool, Entry, Frame, FrameMap, FrameOf, GuestOf, List, None, NotPresent, Option, PageType, PartKey, PartMap, Pv, Some, Superpage, [], ap, arith, blanked_context, blanked_part, cases_lt, cond, count_in, each_value, eq-eqb, eqb-true, false, fault_of_guest, field_at, field_value, find, find_entry, first_cause, first_some, fits_field, frame_of_field, gdt_ents, inl, inr, is_none, is_notab, is_some, is_superpage, is_this, is_used, length, length_longs, list_any, listed, long_at, long_of_longs, lt-ltb, ltb-true, nat_cmp, nat_cmp-IsAntisymmetric, nat_cmp_total, nat_lt, not, option_and_then, option_map, option_or, p2m_key, part_cmp, part_exact, part_total, range_with_len, refl, shared_key, subst, suc, sym, true, type_at, value_blanked, vcpu_key, zero, ℕ, ◌%◌, ◌&&◌, ◌*◌, ◌+◌, ◌-◌, ◌/◌, ◌<◌, ◌==◌, ◌^◌, ◌||◌, ◌↔◌, ◌∙◌, ◌∷◌, ◌≡◌, ◌≤◌}
+pub use Rattle.mig_pvtables.proofs.Common.{Blank, Bool, Entry, Frame, FrameMap, FrameOf, GuestOf, List, None, NotPresent, Option, PageType, PartKey, PartMap, Pv, Some, Superpage, [], ap, arith, blanked_context, blanked_part, cases_lt, cond, count_in, each_value, eq-eqb, eqb-true, false, fault_of_guest, field_at, field_value, find, find_entry, first_cause, first_some, fits_field, frame_of_field, gdt_ents, inl, inr, is_none, is_notab, is_some, is_superpage, is_this, is_used, length, length_longs, list_any, listed, long_at, long_of_longs, lt-ltb, ltb-true, nat_cmp, nat_cmp-IsAntisymmetric, nat_cmp_total, nat_lt, not, option_map, option_or, p2m_key, part_cmp, part_exact, part_total, range_with_len, refl, shared_key, subst, suc, sym, true, type_at, value_blanked, vcpu_key, zero, ℕ, ◌%◌, ◌&&◌, ◌*◌, ◌+◌, ◌-◌, ◌/◌, ◌<◌, ◌==◌, ◌^◌, ◌||◌, ◌↔◌, ◌∙◌, ◌∷◌, ◌≡◌, ◌≤◌}
 pub use Rattle.mig_pvtables.proofs.EachValue.{to_each}
 pub use Rattle.mig_pvtables.proofs.Moduli.{long_of_each}
 pub use Rattle.mig_pvtables.specs.BadEntries.{is_unknown}

@@ -5,8 +5,8 @@ use Rattle.std.specs.Int.{bytes_low_first, byte_at}
 use Rattle.byteorder.specs.Endian.{little_bytes}
 use Rattle.mig_bytes.specs.Fields.{with_field}
 use Rattle.mig_guest.specs.Longs.{longs}
-use Rattle.mig_guest.proofs.Longs.{same_longs}
-use Rattle.mig_pvtables.proofs.Common.{◌≢◌, nat_le, cases_eq, ne_eqb, le-leb, longs_back, put_long}
+use Rattle.mig_guest.proofs.Longs.{longs_back, same_longs}
+use Rattle.mig_pvtables.proofs.Common.{◌≢◌, nat_le, cases_eq, ne_eqb, le-leb, put_long}
 use Rattle.mig_pvtables.proofs.BlankSays.{field_there}
 use Rattle.mig_pvtables.specs.Faults.{is_notab, is_root}
 use Rattle.mig_host_laws.specs.Fields.{IsNumbered}

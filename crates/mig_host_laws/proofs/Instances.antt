@@ -1,8 +1,8 @@
 -- What is looked for in a guest at the end of its stream, and in a host, are rows of how it stands.
 use Rattle.std.specs.FinMap as maps
 use Rattle.mig_host_laws.proofs.Common.{Cause, Kind, Unsound, number_of_unsound, HostOf, HostFrame, IsValid, pfn_in, ◌≡◌, ℕ, ◌+◌, ◌*◌, ◌<◌, List, [], ◌∷◌, true, false, cond, not, is_none, is_some, Option, Some, None, refl, sym, ap, subst, ◌∙◌, ◌&&◌, ◌||◌, find, list_any, range_with_len, option_map, option_or, option_and_then, nat_cmp_total, nat_cmp-IsAntisymmetric, gdt_ents, FrameOf, FrameMap, GuestOf, PartMap, PartKey, p2m_key, vcpu_key, shared_key, Entry, Blank, NotPresent, Superpage, Frame, Pv, first_cause, first_some, is_notab, is_this, find_entry, type_at, fits_field, is_superpage, count_in, listed, field_value, frame_of_field, is_used, fault_of_guest, is_unknown, absent, needed_keys, unsoundness, guest_in, NamesFirst, Standing, said_of, in_stream, in_host, has_some, is_ill_listed, names_ill, row_1, row_2, row_5, row_6, row_7, first_row, IsWide, cause_in_stream, IsWrong, UnsoundHas, NamesFirstRow}
-use Rattle.mig_pvtables.proofs.Common.{is_needed, is_misplaced, find_p2m, find_field, is_absent, faults_for}
-use Rattle.mig_pvtables.specs.Faults.{slots, find_in_contexts, missing, too_many}
+use Rattle.mig_pvtables.proofs.Common.{is_needed, is_misplaced, find_p2m, is_absent, faults_for}
+use Rattle.mig_pvtables.specs.Faults.{slots, find_field, find_in_contexts, missing, too_many}
 use Rattle.mig_pvtables.proofs.EachValue.{get_each}
 use Rattle.mig_host_view.specs.Sound.{unsound_rows}
 use Rattle.mig_host_view.specs.View.{without_machine}
