@@ -1,12 +1,13 @@
 -- The parts of some codes of a host: they make a well formed guest, and their records are those of the host's view.
 use Rattle.mig_dirtysave_parts.proofs.Common.{ℕ, ◌+◌, ◌-◌, ◌<◌, ◌≤◌, ◌^◌, Bool, true, false, cond, List, [], ◌∷◌, length, Option, Some, None, option_map, arith, ◌==◌, eqb-true, part_total, part_exact, Pv, Hvm, PartKey, FrameOf, IsFormed, IsPart, context_key, part_cmp, ◌≢◌, AllByRecursion, append_assoc, inl, inr, Kind, PartCode, Tsc, is_policy, HostOf, IsHostPart, IsValid, pfn_in, row_of, code_number, Part, FitsPolicy, same_parts, empty_formed, tied, one_code, shape_of, Record, info_records, p2m_records, records_of, records_in_order, static_bodies, last_records, AreRecordsWithin, blanked_context, blanked_shared, is_used_somewhere, renamed_part, renamed_context, view, guest_in, top_of, pv_part, each_policy, top_is, is_early, is_setting, kept_parts, parts_alone, IsContextFront, context_record, closing_records}
-use Rattle.mig_host_view.proofs.Common.{◌≡◌, ◌++◌, replicate, refl, sym, ap, subst, ◌∙◌, append-nil, and_parts, ne_eqb, length-append, length-take-le, GuestOf}
+use Rattle.mig_host_view.proofs.Common.{◌≡◌, ◌++◌, replicate, refl, sym, ap, subst, ◌∙◌, ne_eqb, GuestOf}
+use Rattle.std.proofs.Common.{append-nil, length-append, length-take-le}
 use Rattle.std.specs.Prelude.{map}
 use Rattle.std.specs.Ordering.{eq_by_cmp, nat_cmp}
 use Rattle.byteorder.specs.Endian.{little_bytes}
 use Rattle.byteorder.specs.Numbers.{length-bytes_low_first}
 use Rattle.std.proofs.lemmas.Cmp.{eq_by_cmp_equiv}
-use Rattle.std.proofs.lemmas.Bool.{leb-true, or_cases}
+use Rattle.std.proofs.lemmas.Bool.{and_parts, leb-true, or_cases}
 use Rattle.std.proofs.lemmas.List.{length-replicate}
 use Rattle.mig_headers.specs.Contexts.{scan}
 use Rattle.mig_guest.specs.declared.part_code.PartCode.TheVariants.{HvmContext, HvmParam, CpuidLeaf, Msr}

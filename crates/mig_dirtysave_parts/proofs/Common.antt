@@ -19,7 +19,8 @@ pub use Rattle.mig_guest.specs.Parts.{FitsPolicy, Part}
 pub use Rattle.mig_guest.specs.declared.part_code.PartCode.{PartCode}
 pub use Rattle.mig_guest.specs.declared.part_code.PartCode.TheVariants.{Tsc, VcpuBasic}
 pub use Rattle.mig_headers.specs.declared.kind.Kind.{Kind}
-pub use Rattle.mig_host_view.proofs.Common.{Bool, FrameOf, Hvm, IsFormed, IsPart, List, None, Option, PartKey, Pv, Some, [], arith, cond, context_key, eqb-true, false, gdt_ents, length, option_map, part_cmp, part_exact, part_total, true, ℕ, ◌+◌, ◌-◌, ◌<◌, ◌==◌, ◌^◌, ◌∷◌, ◌≤◌}
+pub use Rattle.mig_host_view.proofs.Common.{Bool, FrameOf, Hvm, IsFormed, IsPart, List, None, Option, PartKey, Pv, Some, [], arith, cond, context_key, eqb-true, false, gdt_ents, length, option_map, part_exact, part_total, true, ℕ, ◌+◌, ◌-◌, ◌<◌, ◌==◌, ◌^◌, ◌∷◌, ◌≤◌}
+pub use Rattle.mig_guest.specs.Order.{part_cmp}
 pub use Rattle.mig_host_view.proofs.ViewedFrames.{each_policy, top_is}
 pub use Rattle.mig_host_view.proofs.ViewedParts.{pv_part}
 pub use Rattle.mig_host_view.specs.Localised.{renamed_part}
