@@ -1,6 +1,8 @@
 -- What is found in a PV host at the pause and doesn't speak of types stands in the host, over any machine.
 use Rattle.mig_dirtysave.proofs.Common.{◌⊎◌, inl, inr, get_or, scan, Unsound, HostOf, HostFrame, IsValid, pfn_in, Kind, HvmContext, row_of, long_at, one_code, is_unknown, get_each, fault_in, find_gdt, unsoundness, without_machine, footprint, footprint_of, table_in, names_in, named_by, superpage_in, superpage_slot, is_lost, lost_in, lost_slot, IsUnsound, Standing, is_of_no_type, said_in, said_of, row_1, row_2, row_5, row_6, row_7, UnsoundHas, standing_seen, first_around}
-use Rattle.mig_pvtables.proofs.Common.{◌≡◌, ℕ, zero, suc, ◌+◌, ◌*◌, ◌<◌, ◌≤◌, List, [], ◌∷◌, Bool, true, false, cond, Option, Some, None, is_none, refl, sym, ap, subst, ◌∙◌, arith, ◌==◌, ◌&&◌, find, range_with_len, option_map, option_or, option_and_then, nat_lt, nat_cmp_total, nat_cmp-IsAntisymmetric, eq-eqb, part_total, part_exact, PageType, level_of, gdt_ents, PartKey, Entry, Blank, NotPresent, Superpage, Frame, entry, Pv, context_key, first_cause, is_superpage}
+use Rattle.mig_pvtables.proofs.Common.{◌≡◌, ℕ, zero, suc, ◌+◌, ◌*◌, ◌<◌, ◌≤◌, List, [], ◌∷◌, Bool, true, false, cond, Option, Some, None, is_none, refl, sym, ap, subst, ◌∙◌, arith, ◌==◌, ◌&&◌, find, range_with_len, option_map, option_or, nat_lt, nat_cmp_total, nat_cmp-IsAntisymmetric, eq-eqb, part_total, part_exact, PageType, level_of, gdt_ents, PartKey, Entry, Blank, NotPresent, Superpage, Frame, entry, Pv, first_cause, is_superpage}
+use Rattle.std.specs.Prelude.{option_and_then}
+use Rattle.mig_guest.specs.PartKeys.{context_key}
 use Rattle.std.proofs.lemmas.Bool.{ltb-false}
 use Rattle.mig_pvtables.specs.Faults.{slots}
 use Rattle.mig_pvtables.proofs.Searches.{first_found}
