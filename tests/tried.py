@@ -6,7 +6,6 @@ import sys
 TOP = os.path.dirname(os.path.dirname(os.path.abspath(__file__)))
 if TOP not in sys.path:
     sys.path.insert(0, TOP)
-from build.words import USAGE as USAGE_LINE  # noqa: E402,F401  what the program says of words that name no command
 
 
 def heed_signals():

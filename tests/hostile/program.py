@@ -21,6 +21,7 @@ HERE = os.path.dirname(os.path.abspath(__file__))
 TESTS = os.path.dirname(HERE)
 sys.dont_write_bytecode = True
 sys.path.append(TESTS)
+import lines  # noqa: E402
 import tried  # noqa: E402
 
 ENVIRONMENT = dict(os.environ)
@@ -28,8 +29,8 @@ TRACER = 'HOSTILE_TRACER'                            # names the program that ru
 DONE, REFUSED, USAGE, READ_FAULT, WRITE_FAULT, MEMORY = range(6)
 # status, what stands on standard output, what stands on standard error
 Answer = collections.namedtuple('Answer', 'status out report')
-NO_READ, NO_WRITE, NO_MEMORY = (Answer(*it) for it in (
-    (READ_FAULT, b'', b'fault: read\n'), (WRITE_FAULT, None, b'fault: write\n'), (MEMORY, b'', b'fault: memory\n')))
+NO_READ, NO_WRITE, NO_MEMORY = (Answer(status, out, line.encode() + b'\n') for status, out, line in (
+    (READ_FAULT, b'', lines.READ_FAULT), (WRITE_FAULT, None, lines.WRITE_FAULT), (MEMORY, b'', lines.MEMORY)))
 # what faults.c counts, in its order
 Told = collections.namedtuple('Told', 'reads bytes_read outs reports allocations asked most_asked live peak')
 TOLD = struct.Struct('<7Q2q')
@@ -49,7 +50,7 @@ def script(name):
 examples, second = script('examples/run'), script('second_reader/run')
 
 
-NO_COMMAND = Answer(USAGE, b'', tried.USAGE_LINE.encode() + b'\n')
+NO_COMMAND = Answer(USAGE, b'', lines.USAGE.encode() + b'\n')
 
 
 @functools.cache
