@@ -1,7 +1,9 @@
-"""What both kinds of guest have in common in the second reader: numbers of the format, input, refusals, records."""
+"""What both kinds of guest have in common in the second reader: numbers and limits of the format, input, refusals, records."""
 import struct
 
-MOST_BODY, MOST_RECORDS, MOST_FRAMES = 1 << 27, 1 << 28, 1 << 24
+# the limits, in one place for all of the second reader
+MOST_BODY, MOST_RECORDS, MOST_CHUNKS, MOST_FRAMES, MOST_PAIRS = 1 << 27, 1 << 28, 1 << 28, 1 << 24, 1 << 24
+MOST_POLICY_ENTRIES, MOST_GDT_ENTRIES, VCPU_LIMIT, MACHINE_LIMIT = 65536, 7168, 4096, 1 << 40
 PAGE = 4096
 PV, HVM = 1, 2
 END, PAGE_DATA, PV_INFO, P2M_FRAMES, BASIC, EXTENDED, XSAVE, SHARED_INFO, TSC_INFO, CONTEXT, PARAMS = range(11)

@@ -11,23 +11,22 @@ from form import *
 
 NAMES = {b'XGIMAGE1': 1, b'XGIMAGE2': 2}
 MOST_SAVED_WIDTH, MOST_WIDTH_OF_ONE, MOST_PV_WIDTH = 1 << 28, 1 << 28, 1 << 32
-MACHINE_LIMIT, MOST_POLICY = 1 << 40, 65536
 XALLOC, PAIRS, EMULATOR = 14, 258, 259
 
 # code: the kinds of guest that have it, whether these are its keys, and whether this is a length of it in a host so wide
 PARTS = {
     P2M_FRAMES: ((PV,), lambda one, two: one == two == 0, lambda n, width: n == 8 * ((width - 1) // 512 + 1)),
-    BASIC: ((PV,), lambda one, two: one < 4096 and two == 0, lambda n, _: n == 5168),
-    EXTENDED: ((PV,), lambda one, two: one < 4096 and two == 0, lambda n, _: 1 <= n <= MOST_BODY - 8),
-    XSAVE: ((PV,), lambda one, two: one < 4096 and two == 0, lambda n, _: 1 <= n <= MOST_BODY - 8),
+    BASIC: ((PV,), lambda one, two: one < VCPU_LIMIT and two == 0, lambda n, _: n == 5168),
+    EXTENDED: ((PV,), lambda one, two: one < VCPU_LIMIT and two == 0, lambda n, _: 1 <= n <= MOST_BODY - 8),
+    XSAVE: ((PV,), lambda one, two: one < VCPU_LIMIT and two == 0, lambda n, _: 1 <= n <= MOST_BODY - 8),
     SHARED_INFO: ((PV,), lambda one, two: one == two == 0, lambda n, _: n == PAGE),
     TSC_INFO: ((PV, HVM), lambda one, two: one == two == 0, lambda n, _: n == 20),
     CONTEXT: ((HVM,), lambda one, two: one == two == 0, lambda n, _: n <= MOST_BODY),
-    PARAMS: ((HVM,), lambda one, two: one < 4096 and two == 0, lambda n, _: n == 8),
-    VCPU_MSRS: ((PV,), lambda one, two: one < 4096 and two == 0, lambda n, _: n % 16 == 0 and 16 <= n <= MOST_BODY - 16),
+    PARAMS: ((HVM,), lambda one, two: one < VCPU_LIMIT and two == 0, lambda n, _: n == 8),
+    VCPU_MSRS: ((PV,), lambda one, two: one < VCPU_LIMIT and two == 0, lambda n, _: n % 16 == 0 and 16 <= n <= MOST_BODY - 16),
     CPUID_POLICY: ((PV, HVM), lambda one, two: True, lambda n, _: n == 16),
     MSR_POLICY: ((PV, HVM), lambda one, two: two == 0, lambda n, _: n == 12),
-    PAIRS: ((HVM,), lambda one, two: one < 3 and two < 256, lambda n, _: 1 <= n <= libxl.MOST_PAIRS),
+    PAIRS: ((HVM,), lambda one, two: one < 3 and two < 256, lambda n, _: 1 <= n <= MOST_PAIRS),
     EMULATOR: ((HVM,), lambda one, two: one < 3 and two < 256, lambda n, _: n <= MOST_BODY - 8),
 }
 
@@ -98,7 +97,7 @@ def read_part(source, host):
     kinds, keys, allows = PARTS.get(code, ((), None, None))
     refuse_if(host['kind'] not in kinds or not keys(one, two), '12 PartKey %d' % code)
     refuse_if(host['parts'] and (code, one, two) <= next(reversed(host['parts'])), '13 PartOrder %d' % code)
-    many = sum(key[0] == code for key in host['parts']) >= MOST_POLICY
+    many = sum(key[0] == code for key in host['parts']) >= MOST_POLICY_ENTRIES
     refuse_if(many and code in (CPUID_POLICY, MSR_POLICY), '14 PartMany %d' % code)
     refuse_if(not allows(length, host['width']), '15 PartLength %d' % length)
     data = source.take(length)
@@ -160,7 +159,7 @@ def judge_contexts(contexts, frames, pfns):
     """The contexts of the vCPUs by their numbers."""
     for vcpu, context in sorted(contexts.items()):
         count = pv.number_at(context, pv.GDT_ENTS)
-        refuse_if(count > pv.MOST_GDT_ENTS, '5 GdtEnts %d %d' % (vcpu, count))
+        refuse_if(count > MOST_GDT_ENTRIES, '5 GdtEnts %d %d' % (vcpu, count))
     for vcpu, context in sorted(contexts.items()):
         for field, mfn, kinds in pv.fields_of(vcpu, context, in_host=True):
             refuse_if(frames.get(pfns.get(mfn), (None,))[0] not in kinds, '6 VcpuFrame %d %d' % (vcpu, field))

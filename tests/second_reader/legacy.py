@@ -9,7 +9,7 @@ import libxl
 from form import *
 from reader import MARKER, empty_guest, end_of_chain
 
-MOST_CHUNKS, MOST_BATCH, VCPU_LIMIT, LEGACY_FRAMES = 1 << 28, 1024, 4096, 1 << 28
+MOST_BATCH, LEGACY_FRAMES = 1024, 1 << 28
 TAIL, VCPU_MAP, TSC, LAST_CHECKPOINT, TOOLSTACK = 0, -2, -7, -9, -18
 VERIFY, TMEM, COMPRESSED = (-1,), (-5, -6), (-12, -13)
 IOREQ_SERVER = {-19, -20}
@@ -126,7 +126,7 @@ def read_toolstack(data, emulators):
         pairs.update(read_entry(fields))
     refuse_if(fields.at < len(data), '12 BadToolstack %d' % fields.at)
     text = libxl.spelled(pairs)
-    refuse_if(len(text) > libxl.MOST_PAIRS, '19 TooManyPairs')
+    refuse_if(len(text) > MOST_PAIRS, '19 TooManyPairs')
     if pairs:
         emulators[EMULATOR_PAIRS] = text
 

@@ -1,6 +1,7 @@
 """Legacy streams of HVM guests that are made at random, and how they are spoiled."""
 import struct
 
+from form import MOST_BODY, MOST_PAIRS
 from streams import chain, rarely
 
 PARAM_CHUNKS = -3, -4, -8, -10, -11, -14, -15, -16, -17
@@ -9,8 +10,8 @@ VCPU_MOST = 0, 1, 62, 63, 64, 65, 127, 128, 4094, 4095
 BEGINS = 0, 0, 1, 0xe0000000, 0xf0000000, 0xffffffff, 1 << 32, (1 << 64) - 1
 NAMES = b'', b'\0', b'vram\0', b'vga.vram\0', b'a=/\xff\0'
 OTHER_TYPES = (-1, -5, -6, -12, -13, -21, -22, -(1 << 31), 1025, (1 << 31) - 1, 0, 1, 1024, *range(-20, 0))
-MOST_PAIRS, AROUND_A_NAME = 1 << 24, 56              # what the pairs of an entry that begins at 0 spell besides its name
-LONGEST, LONGEST_OF_DEVICE = 1 << 27, (1 << 27) - 8
+AROUND_A_NAME = 56                                  # what the pairs of an entry that begins at 0 spell besides its name
+LONGEST, LONGEST_OF_DEVICE = MOST_BODY, MOST_BODY - 8
 
 
 def chunk(kind, *pieces):

@@ -1,12 +1,12 @@
 """Streams in the wrapper of libxl that are made at random, around images of guests of either kind."""
 import struct
 
+from form import MOST_PAIRS
 from streams import rarely, record
 
 KEYS = b'a', b'a', b'b', b'ab', b'Z', b'_', b'@', b'-', b'0/x', b'/9', b'physmap/1f/name'
 VALUES = b'', b'1', b'/', b'\xff\x01', b'2=3', b'  '
 BESIDE_KEY_BYTES = b',.:?A[^`{ \x7f\xff'             # next to those that keys have, and one that they have
-MOST_PAIRS = 1 << 24
 
 
 def key(dice):

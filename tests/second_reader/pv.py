@@ -11,7 +11,6 @@ from form import *
 BLANK_SLOTS = range(256, 272)
 SHARED_BLANK = 3096, 3104                    # the bytes of SHARED_INFO that the blank form has as zeros
 RDX, GDT_FRAMES, GDT_ENTS, CTRLREG1, CTRLREG3 = 616, 4832, 4960, 4992, 5008     # offsets in a vCPU's context
-MOST_GDT_ENTS, VCPU_LIMIT = 7168, 4096
 L4_TABLES = 4, 12
 NO_FRAME = (1 << 64) - 1                     # in a slot of a P2M frame: the PFN has no frame
 
@@ -85,7 +84,7 @@ def read_vcpu(kind, body, guest):
     refuse_if(vcpu >= VCPU_LIMIT, '23 VcpuId %d' % vcpu)
     if kind == BASIC and context:
         count = number_at(context, GDT_ENTS)
-        refuse_if(count > MOST_GDT_ENTS, '24 GdtEnts %d' % count)
+        refuse_if(count > MOST_GDT_ENTRIES, '24 GdtEnts %d' % count)
     if context:
         guest['vcpus'][vcpu, kind] = context
 

@@ -2,13 +2,14 @@
 records that say it, with frames sent twice, lists of P2M frames in parts, and records in any order that may be taken."""
 import struct
 
+from form import MOST_GDT_ENTRIES
 from streams import headers, rarely, record, sent_again, some_record
 
 TOPS = 15, 16, 100, 511, 512, 600, 1023, 1024, 1535
 SLOTS = 0, 1, 255, 256, 263, 271, 272, 510, 511
 TABLES = {1: 1, 2: 2, 3: 3, 4: 4, 9: 1, 10: 2, 11: 3, 12: 4}     # the level of each type of page table
 LEVEL_4 = 4, 12
-GDT_SIZES = 0, 1, 512, 513, 7167, 7168
+GDT_SIZES = 0, 1, 512, 513, MOST_GDT_ENTRIES - 1, MOST_GDT_ENTRIES
 RDX, GDT_FRAMES, GDT_ENTS, CTRLREG1, CTRLREG3 = 616, 4832, 4960, 4992, 5008
 
 
