@@ -1,5 +1,5 @@
 -- The parts of a code that a well formed guest has: each by its row, and how many there are at most.
-use Rattle.mig_guest.proofs.Common.{◌≡◌, ℕ, ◌+◌, ◌≤◌, ◌<◌, List, [], ◌∷◌, length, true, refl, sym, ap, subst, ◌∙◌, arith, T, nat_lt, ◌==◌, and_parts, eqb-true, ltb-true, nat_cmp_total, ranked, tied_itself, All-nil, All-cons, All-head, All-tail, All-filter, filter_passes, All, is_lt, nat_cmp, ordering_then, Ordering, Less, Equal, Greater, is_sorted, below_all, is_sorted-where_key, IsPart, IsFormed, width_of, GuestOf, part_cmp, Part, parts_of}
+use Rattle.mig_guest.proofs.Common.{◌≡◌, ℕ, ◌+◌, ◌≤◌, ◌<◌, List, [], ◌∷◌, length, true, refl, sym, ap, subst, ◌∙◌, arith, T, nat_lt, ◌==◌, and_parts, eqb-true, ltb-true, nat_cmp_total, ranked, tied_itself, All-nil, All-cons, All-head, All-tail, All-filter, filter_passes, All, is_lt, nat_cmp, ordering_then, Ordering, Less, Equal, Greater, is_sorted, below_all, is_sorted-where_key, IsPart, IsFormed, width_of, GuestOf, part_cmp, Part, parts_of, vcpu_limit}
 use Rattle.std.specs.FinMap as maps
 use Rattle.mig_guest.specs.declared.part_code.PartCode.{PartCode}
 use Rattle.mig_guest.specs.PartCodes.{code_number, row_of, small_number}
@@ -43,13 +43,13 @@ in_order : (g : GuestOf) (code : PartCode) → T (is_sorted part_cmp (held_in co
 in_order g code = is_sorted-where_key part_cmp (λ k. k.code == code_number code) (maps.entries g.parts) (maps.entries_sorted g.parts)
 
 -- a code whose parts have one small number each
-pub few_small : (g : GuestOf) (code : PartCode) → ((key1 key2 : ℕ) → (row_of code).keys key1 key2 ≡ small_number key1 key2) → IsFormed g → length (held_in code g) ≤ 4096
-few_small g code small formed = few_rows code (width_of g) 4096 (λ p. p.0.key1) (λ p one. (is_small p one).0) rises (held_in code g) (in_order g code) (parts_are g code formed)
+pub few_small : (g : GuestOf) (code : PartCode) → ((key1 key2 : ℕ) → (row_of code).keys key1 key2 ≡ small_number key1 key2) → IsFormed g → length (held_in code g) ≤ vcpu_limit
+few_small g code small formed = few_rows code (width_of g) vcpu_limit (λ p. p.0.key1) (λ p one. (is_small p one).0) rises (held_in code g) (in_order g code) (parts_are g code formed)
   where
-    is_small : (p : Part) → IsOf code (width_of g) p → (p.0.key1 < 4096) × (p.0 ≡ record { code = code_number code; key1 = p.0.key1; key2 = 0 })
+    is_small : (p : Part) → IsOf code (width_of g) p → (p.0.key1 < vcpu_limit) × (p.0 ≡ record { code = code_number code; key1 = p.0.key1; key2 = 0 })
     is_small p one =
-        let (low, none) = and_parts (nat_lt p.0.key1 4096) (p.0.key2 == 0) (sym (small p.0.key1 p.0.key2) ∙ one.keys) in let key2 = eqb-true p.0.key2 0 none in
-        (ltb-true p.0.key1 4096 low, λ i. record { code = one.number i; key1 = p.0.key1; key2 = key2 i })
+        let (low, none) = and_parts (nat_lt p.0.key1 vcpu_limit) (p.0.key2 == 0) (sym (small p.0.key1 p.0.key2) ∙ one.keys) in let key2 = eqb-true p.0.key2 0 none in
+        (ltb-true p.0.key1 vcpu_limit low, λ i. record { code = one.number i; key1 = p.0.key1; key2 = key2 i })
 
     by : (i j : ℕ) (r : Ordering) → nat_cmp i j ≡ r → T (is_lt (ordering_then r Equal)) → i < j
     by i j Less is t = ranked i j Less (sym is)

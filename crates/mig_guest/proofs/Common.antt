@@ -20,3 +20,4 @@ pub use Rattle.mig_guest.specs.Guests.{GuestOf}
 pub use Rattle.mig_guest.specs.Order.{IsAbove, part_cmp}
 pub use Rattle.mig_guest.specs.Parts.{FitsPolicy, Part, PartMap, parts_after, parts_behind, parts_of, parts_seen, put_part, put_parts, replace_code}
 pub use Rattle.mig_guest.specs.declared.part_key.PartKey.{PartKey}
+pub use Rattle.mig_headers.specs.RecordTypes.{most_policy_entries, vcpu_limit}

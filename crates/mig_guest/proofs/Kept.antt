@@ -1,5 +1,5 @@
 -- What is kept of a well formed guest where parts are set: one lemma over the table, whatever the code.
-use Rattle.mig_guest.proofs.Common.{◌≡◌, ◌≢◌, ℕ, ◌≤◌, List, [], ◌∷◌, length, Bool, true, false, not, nat_eq, Option, Some, None, refl, sym, ap, subst, ◌∙◌, arith, nat_cmp, AllByRecursion, nat_cmp-IsAntisymmetric, nat_cmp_total, eqb-true, eq-eqb, PartKey, FrameOf, FrameMap, framed, GuestOf, part_cmp, Part, PartMap, put_part, put_parts, replace_code, parts_of, FitsPolicy, IsPart, IsTop, IsGuestFrame, is_policy, width_of, IsFormed, AreParts, is_emulator_code, HasNoEmulators}
+use Rattle.mig_guest.proofs.Common.{◌≡◌, ◌≢◌, ℕ, ◌≤◌, List, [], ◌∷◌, length, Bool, true, false, not, nat_eq, Option, Some, None, refl, sym, ap, subst, ◌∙◌, arith, nat_cmp, AllByRecursion, nat_cmp-IsAntisymmetric, nat_cmp_total, eqb-true, eq-eqb, PartKey, FrameOf, FrameMap, framed, GuestOf, part_cmp, Part, PartMap, put_part, put_parts, replace_code, parts_of, FitsPolicy, IsPart, IsTop, IsGuestFrame, is_policy, width_of, IsFormed, AreParts, is_emulator_code, HasNoEmulators, most_policy_entries}
 use Rattle.std.specs.FinMap as fin
 use Rattle.mig_headers.specs.declared.kind.Kind.{Kind}
 use Rattle.mig_headers.specs.declared.kind.Kind.TheVariants.{Pv, Hvm}
@@ -31,13 +31,13 @@ parts_keep g code ps not_policy are formed = record {
   top = formed.top;
   frames = formed.frames;
   parts = puts_hold g.kind (width_of g) code (IsPart g.kind (width_of g)) (λ p is same. is) g.parts ps are formed.parts;
-  policies = λ d one. subst (λ ps. length ps ≤ 65536) (sym (same_parts d (put_parts g.parts ps) g.parts (λ q of_d. puts_other code ps (of_code g.kind (width_of g) code ps are) g.parts q (λ is.
+  policies = λ d one. subst (λ ps. length ps ≤ most_policy_entries) (sym (same_parts d (put_parts g.parts ps) g.parts (λ q of_d. puts_other code ps (of_code g.kind (width_of g) code ps are) g.parts q (λ is.
       let clash : true ≡ false = sym one ∙ ap is_policy (sym of_d ∙ is) ∙ not_policy in cc)))) (formed.policies d one);
 }
 
 -- ---- a policy
 
-replace_fits : (kind : Kind) (width code : ℕ) (m : PartMap) (d : ℕ) (ps : List Part) → AreParts kind width code ps → length ps ≤ 65536 → FitsPolicy d m → FitsPolicy d (replace_code code m ps)
+replace_fits : (kind : Kind) (width code : ℕ) (m : PartMap) (d : ℕ) (ps : List Part) → AreParts kind width code ps → length ps ≤ most_policy_entries → FitsPolicy d m → FitsPolicy d (replace_code code m ps)
 replace_fits kind width code m d [] are few fits = fits
 replace_fits kind width code m d (p ∷ ps) are few fits = which (nat_eq d code) refl
   where
@@ -49,11 +49,11 @@ replace_fits kind width code m d (p ∷ ps) are few fits = which (nat_eq d code)
 
     which : (b : Bool) → nat_eq d code ≡ b → FitsPolicy d (put_parts less (p ∷ ps))
     which true is = subst (λ n. FitsPolicy n (put_parts less (p ∷ ps))) (sym (eqb-true d code is)) (omega (arith, set_len code less (p ∷ ps) of, ap length (none_left code m), few))
-    which false is = subst (λ ps. length ps ≤ 65536) (sym (same_parts d (put_parts less (p ∷ ps)) m (λ q of_d.
+    which false is = subst (λ ps. length ps ≤ most_policy_entries) (sym (same_parts d (put_parts less (p ∷ ps)) m (λ q of_d.
         let differ : q.code ≢ code = λ e. let clash : true ≡ false = sym (eq-eqb d code (sym of_d ∙ e)) ∙ is in cc in
         puts_other code (p ∷ ps) of less q differ ∙ cleared_other code m q differ))) fits
 
-pub policies_keep : (g : GuestOf) (code : ℕ) (ps : List Part) → length ps ≤ 65536 → AreParts g.kind (width_of g) code ps → IsFormed g → IsFormed (record g { parts = replace_code code g.parts ps })
+pub policies_keep : (g : GuestOf) (code : ℕ) (ps : List Part) → length ps ≤ most_policy_entries → AreParts g.kind (width_of g) code ps → IsFormed g → IsFormed (record g { parts = replace_code code g.parts ps })
 policies_keep g code ps few are formed = record {
   top = formed.top;
   frames = formed.frames;
@@ -102,7 +102,7 @@ bare_formed kind top fits = record {
   top = fits;
   frames = λ pfn frame got. let no : None ≡ Some frame = sym (fin.get-empty nat_cmp pfn) ∙ got in cc;
   parts = λ key bytes got. let no : None ≡ Some bytes = sym (fin.get-empty part_cmp key) ∙ got in cc;
-  policies = λ code one. subst (λ es. length (parts_of code es) ≤ 65536) (sym (empty_list (fin.entries fin.empty) (sym (fin.len-entries fin.empty) ∙ fin.len-empty part_cmp (List ℕ)))) (omega arith);
+  policies = λ code one. subst (λ es. length (parts_of code es) ≤ most_policy_entries) (sym (empty_list (fin.entries fin.empty) (sym (fin.len-entries fin.empty) ∙ fin.len-empty part_cmp (List ℕ)))) (omega arith);
 }
   where
     empty_list : (l : List Part) → length l ≡ 0 → l ≡ []

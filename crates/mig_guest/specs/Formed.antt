@@ -10,6 +10,7 @@ use Rattle.mig_pagetypes.specs.Limits.{pfn_limit, top_limit}
 use Rattle.mig_guest.specs.declared.part_code.PartCode.{PartCode}
 use Rattle.mig_guest.specs.declared.part_code.PartCode.TheVariants.{VcpuBasic, HvmContext, EmulatorPairs}
 use Rattle.mig_guest.specs.declared.part_key.PartKey.{PartKey}
+use Rattle.mig_guest.specs.Limits.{most_gdt_entries}
 use Rattle.mig_guest.specs.PartCodes.{row_of, code_number}
 use Rattle.mig_guest.specs.Frames.{FrameOf, IsFrame, is_type_of}
 use Rattle.mig_guest.specs.Guests.{GuestOf}
@@ -46,7 +47,7 @@ IsRawContent _ bytes = ⊤
 abbrev pub IsContent : PartCode → List ℕ → Type 0
 IsContent EmulatorPairs bytes = AreCanonicalPairs bytes
 IsContent HvmContext bytes = IsCut bytes
-IsContent VcpuBasic bytes = gdt_ents bytes ≤ 7168
+IsContent VcpuBasic bytes = gdt_ents bytes ≤ most_gdt_entries
 IsContent _ bytes = ⊤
 
 abbrev pub IsPart : Kind → ℕ → PartKey → List ℕ → Type 0

@@ -10,7 +10,7 @@ use Rattle.mig_headers.specs.contracts.kind.Kind as kind
 use Rattle.mig_pagetypes.specs.declared.page_type.PageType.{PageType}
 use Rattle.mig_pagetypes.specs.contracts.page_type.PageType as page_type
 use Rattle.mig_pagetypes.specs.PageTypes.{type_has_data}
-use Rattle.mig_pagetypes.specs.Limits.{top_limit}
+use Rattle.mig_pagetypes.specs.Limits.{top_limit, machine_limit}
 use Rattle.mig_guest.specs.declared.part_key.PartKey.{PartKey}
 use Rattle.mig_guest.specs.Frames.{IsFew, is_type_of}
 use Rattle.mig_guest.specs.Formed.{IsRowPart, IsRawContent}
@@ -45,10 +45,6 @@ most_width = 2 ^ 52
 
 abbrev pub most_saved_width : ℕ
 most_saved_width = 2 ^ 28
-
--- machine frames are below this
-abbrev pub machine_limit : ℕ
-machine_limit = 2 ^ 40
 
 -- a frame of a host of this kind and width
 pub record IsHostFrame (kind : Kind) (width pfn : ℕ) (frame : HostFrame) : Type 0 where

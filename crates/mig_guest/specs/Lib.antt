@@ -1,4 +1,5 @@
 pub mod Order
+pub mod Limits
 pub mod Frames
 pub mod Lending
 pub mod Guests

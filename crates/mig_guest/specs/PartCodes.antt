@@ -2,7 +2,8 @@
 -- the lengths of their bytes (libxc migration stream, "Records", and libxl migration stream, the emulator records).
 use Rattle.std.specs.Prelude.{ℕ, ◌+◌, ◌-◌, ◌*◌, ◌/◌, ◌^◌, ◌%◌, Bool, true, List, [], ◌∷◌, Option, ◌==◌, ◌&&◌, ◌||◌, nat_le, nat_lt, find}
 use Rattle.mig_headers.specs.declared.kind.Kind.{Kind}
-use Rattle.mig_headers.specs.RecordTypes.{both, pv, hvm, exactly, most_body}
+use Rattle.mig_headers.specs.RecordTypes.{both, pv, hvm, exactly, most_body, vcpu_limit}
+use Rattle.mig_guest.specs.Limits.{most_pairs}
 use Rattle.mig_guest.specs.declared.part_code.PartCode.{PartCode}
 use Rattle.mig_guest.specs.declared.part_code.PartCode.TheVariants.{P2mFrames, VcpuBasic, VcpuExtended, VcpuXsave, SharedInfo, Tsc, HvmContext, HvmParam, VcpuMsrs, CpuidLeaf, Msr, EmulatorPairs, EmulatorContext}
 
@@ -18,7 +19,7 @@ no_keys key1 key2 = (key1 == 0) && (key2 == 0)
 
 -- a vCPU's id, or a parameter's index
 abbrev pub small_number : ℕ → ℕ → Bool
-small_number key1 key2 = nat_lt key1 4096 && (key2 == 0)
+small_number key1 key2 = nat_lt key1 vcpu_limit && (key2 == 0)
 
 -- an emulator's id and index
 abbrev pub emulator : ℕ → ℕ → Bool
@@ -63,7 +64,7 @@ row_of HvmParam = row 10 hvm small_number (always (exactly 8))
 row_of VcpuMsrs = row 12 pv small_number (always some_msrs)
 row_of CpuidLeaf = row 17 both any_keys (always (exactly 16))
 row_of Msr = row 18 both one_key (always (exactly 12))
-row_of EmulatorPairs = row 258 hvm emulator (always (from_to 1 (2 ^ 24)))
+row_of EmulatorPairs = row 258 hvm emulator (always (from_to 1 most_pairs))
 row_of EmulatorContext = row 259 hvm emulator (always (at_most (most_body - 8)))
 
 abbrev pub code_number : PartCode → ℕ

@@ -5,6 +5,7 @@ use Rattle.std.specs.Ordering.{is_lt}
 use Rattle.std.specs.FinMap as maps
 use Rattle.std.specs.Coded.{Coded, coded_ℕ, coded_list}
 use Rattle.std.specs.declared.vec.Vec.{Vec}
+use Rattle.mig_headers.specs.RecordTypes.{most_policy_entries}
 use Rattle.mig_guest.specs.declared.part_key.PartKey.{PartKey}
 use Rattle.mig_guest.specs.contracts.part_key.PartKey as part_key
 use Rattle.mig_guest.specs.Order.{part_cmp, IsAbove}
@@ -56,7 +57,7 @@ NextPart code after es (Some e) = parts_after code after es ≡ e ∷ parts_afte
 
 -- no more entries of a policy than its record can have
 abbrev pub FitsPolicy : ℕ → PartMap → Type 0
-FitsPolicy code parts = length (parts_of code (maps.entries parts)) ≤ 65536
+FitsPolicy code parts = length (parts_of code (maps.entries parts)) ≤ most_policy_entries
 
 -- ---- all parts, one after another
 

@@ -1,6 +1,7 @@
 ghost use Rattle.std.specs.Prelude.{◌≡◌, ◌≢◌, ◌≤◌, ℕ, List, length, false, Option};
 ghost use Rattle.std.specs.FinMap as maps;
 ghost use Rattle.mig_headers.specs.declared.kind.Kind.{Kind};
+ghost use Rattle.mig_headers.specs.RecordTypes.{most_policy_entries};
 ghost use Rattle.mig_pagetypes.specs.declared.page_type.PageType.{PageType};
 ghost use Rattle.mig_pagetypes.specs.declared.page_type.PageType.TheVariants.{Xtab};
 ghost use Rattle.mig_guest.specs.declared.part_key.PartKey.{PartKey};
@@ -24,7 +25,7 @@ pub fn setting_parts_keeps_formed()
 /// A well formed guest stays so where all entries of a policy are replaced.
 #[tactic(auto, using(crate::proofs::Kept::policies_keep))]
 pub fn setting_policies_keeps_formed()
-    ensures { (g : GuestOf) (code : ℕ) (ps : List (PartKey × List ℕ)) → length ps ≤ 65536 → AreParts g.kind (width_of g) code ps
+    ensures { (g : GuestOf) (code : ℕ) (ps : List (PartKey × List ℕ)) → length ps ≤ most_policy_entries → AreParts g.kind (width_of g) code ps
         → IsFormed g → IsFormed (record g { parts = replace_code code g.parts ps }) }
 {}
 

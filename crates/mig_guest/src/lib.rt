@@ -34,7 +34,9 @@ pub use law::{
 };
 pub use machine_law::{footprint_laws, members_laws, rounds_laws};
 pub use mig_pagestore::FrameStore;
-pub use part_code::{EMULATOR_CONTEXT, EMULATOR_PAIRS, PartCode, is_fixed};
+pub use part_code::{
+    EMULATOR_CONTEXT, EMULATOR_PAIRS, MOST_GDT_ENTRIES, MOST_PAIRS, PartCode, is_fixed,
+};
 pub use part_key::PartKey;
 pub use parts::Parts;
 pub use table::Entry;

@@ -2,7 +2,7 @@ ghost use Rattle.std.specs.Prelude.{◌≡◌, ◌≤◌};
 ghost use Rattle.mig_guest.specs.PartCodes.{is_fixed as is_fixed_code};
 ghost use Rattle.mig_guest.specs.declared.part_code.PartCode.TheVariants.{P2mFrames};
 
-use mig_headers::{Kind, MOST_BODY};
+use mig_headers::{Kind, MOST_BODY, VCPU_LIMIT};
 
 /// The bytes of a vCPU's basic context and of an MSR of a vCPU.
 const VCPU_CONTEXT: u32 = 5168;
@@ -13,7 +13,10 @@ const VCPU_MSR: u32 = 16;
 const P2M_SLOTS: u64 = 512;
 
 /// The most bytes of an emulator's pairs.
-const MAX_PAIRS: u32 = 1 << 24;
+pub const MOST_PAIRS: u32 = 1 << 24;
+
+/// The most descriptors of a vCPU's GDT: those of 14 frames.
+pub const MOST_GDT_ENTRIES: u64 = 7168;
 
 /// The number of the parts that are an emulator's pairs.
 pub const EMULATOR_PAIRS: u32 = 258;
@@ -113,7 +116,7 @@ impl PartCode {
                 key1 == 0 && key2 == 0
             }
             PartCode::EmulatorPairs | PartCode::EmulatorContext => key1 < 3 && key2 < 256,
-            _ => key1 < 4096 && key2 == 0,
+            _ => key1 < VCPU_LIMIT && key2 == 0,
         }
     }
 
@@ -135,7 +138,7 @@ impl PartCode {
             }
             PartCode::CpuidLeaf => len == 16,
             PartCode::Msr => len == 12,
-            PartCode::EmulatorPairs => 1 <= len && len <= MAX_PAIRS,
+            PartCode::EmulatorPairs => 1 <= len && len <= MOST_PAIRS,
             PartCode::EmulatorContext => len <= MOST_BODY - 8,
         }
     }

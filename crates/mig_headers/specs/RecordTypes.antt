@@ -9,6 +9,14 @@ use Rattle.mig_headers.specs.declared.record_type.RecordType.TheVariants.{End, P
 abbrev pub most_body : ℕ
 most_body = 2 ^ 27
 
+-- the most entries of a policy
+abbrev pub most_policy_entries : ℕ
+most_policy_entries = 2 ^ 16
+
+-- vCPU ids are below this, and indices of HVM parameters
+abbrev pub vcpu_limit : ℕ
+vcpu_limit = 4096
+
 -- a row of the table: the type's number, whether it is supported, the kinds of guest that have it, and the body lengths that it may have
 pub record Row : Type 0 where
   pub number : ℕ
@@ -74,8 +82,8 @@ record_row_of Verify = supported 0xD both (exactly 0)
 record_row_of Checkpoint = unsupported 0xE any_length
 record_row_of CheckpointDirtyPfnList = unsupported 0xF any_length
 record_row_of StaticDataEnd = supported 0x10 both (exactly 0)
-record_row_of X86CpuidPolicy = supported 0x11 both (entries 24 (2 ^ 16 * 24))
-record_row_of X86MsrPolicy = supported 0x12 both (entries 16 (2 ^ 16 * 16))
+record_row_of X86CpuidPolicy = supported 0x11 both (entries 24 (most_policy_entries * 24))
+record_row_of X86MsrPolicy = supported 0x12 both (entries 16 (most_policy_entries * 16))
 
 abbrev pub type_number : RecordType → ℕ
 type_number type = (record_row_of type).number

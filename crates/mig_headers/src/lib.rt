@@ -31,5 +31,9 @@ pub use laws::{
     record_number_law,
 };
 pub use legacy_fault::{LegacyCause, LegacyPlace};
-pub use record_type::{MOST_BODY, RecordType, is_optional};
+pub use record_type::{
+    END, HVM_CONTEXT, MOST_BODY, MOST_POLICY_ENTRIES, PAGE_DATA, RecordType, STATIC_DATA_END,
+    VCPU_LIMIT, VERIFY, X86_PV_INFO, X86_PV_VCPU_BASIC, X86_PV_VCPU_EXTENDED, X86_PV_VCPU_MSRS,
+    X86_PV_VCPU_XSAVE, is_optional,
+};
 pub use unsound::Unsound;

@@ -14,7 +14,10 @@ const MSR_ENTRY: u32 = 16;
 const CPUID_LEAF: u32 = 24;
 
 /// The most entries of a policy.
-const MOST_ENTRIES: u32 = 65536;
+pub const MOST_POLICY_ENTRIES: u32 = 65536;
+
+/// vCPU ids are below this, and indices of HVM parameters.
+pub const VCPU_LIMIT: u32 = 4096;
 
 /// The record types of a libxc stream (libxc migration stream, "Records"), in the order of their numbers, from 0.
 #[derive(Clone, Copy, Debug, PartialEq, Eq)]
@@ -39,6 +42,27 @@ pub enum RecordType {
     X86CpuidPolicy,
     X86MsrPolicy,
 }
+
+/// The numbers of the types that are named in other crates.
+pub const END: u32 = RecordType::End as u32;
+
+pub const PAGE_DATA: u32 = RecordType::PageData as u32;
+
+pub const X86_PV_INFO: u32 = RecordType::X86PvInfo as u32;
+
+pub const X86_PV_VCPU_BASIC: u32 = RecordType::X86PvVcpuBasic as u32;
+
+pub const X86_PV_VCPU_EXTENDED: u32 = RecordType::X86PvVcpuExtended as u32;
+
+pub const X86_PV_VCPU_XSAVE: u32 = RecordType::X86PvVcpuXsave as u32;
+
+pub const HVM_CONTEXT: u32 = RecordType::HvmContext as u32;
+
+pub const X86_PV_VCPU_MSRS: u32 = RecordType::X86PvVcpuMsrs as u32;
+
+pub const VERIFY: u32 = RecordType::Verify as u32;
+
+pub const STATIC_DATA_END: u32 = RecordType::StaticDataEnd as u32;
 
 impl RecordType {
     ghost use Rattle.mig_headers.specs.RecordTypes.{type_number, type_of_number, record_row_of};
@@ -122,8 +146,10 @@ impl RecordType {
             RecordType::SharedInfo => len == 4096,
             RecordType::X86TscInfo => len == 24,
             RecordType::X86PvVcpuMsrs => len >= 8 && (len - 8) % MSR_ENTRY == 0,
-            RecordType::X86CpuidPolicy => len % CPUID_LEAF == 0 && len <= MOST_ENTRIES * CPUID_LEAF,
-            RecordType::X86MsrPolicy => len % MSR_ENTRY == 0 && len <= MOST_ENTRIES * MSR_ENTRY,
+            RecordType::X86CpuidPolicy => len % CPUID_LEAF == 0
+                && len <= MOST_POLICY_ENTRIES * CPUID_LEAF,
+            RecordType::X86MsrPolicy => len % MSR_ENTRY == 0
+                && len <= MOST_POLICY_ENTRIES * MSR_ENTRY,
             RecordType::HvmContext
             | RecordType::Toolstack
             | RecordType::Checkpoint

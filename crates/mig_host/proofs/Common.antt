@@ -20,7 +20,7 @@ pub use Rattle.mig_guest.proofs.PartRows.{one_code}
 pub use Rattle.mig_guest.specs.Formed.{IsTop}
 pub use Rattle.mig_guest.specs.Frames.{FrameMap, FrameOf, entries_from, framed, is_type_of}
 pub use Rattle.mig_guest.specs.Guests.{GuestOf}
-pub use Rattle.mig_guest.specs.Hosts.{HostFrame, HostFrames, HostOf, IsHostFrame, IsHostPart, IsOneToOne, IsValid, machine_limit, most_width, pfn_in}
+pub use Rattle.mig_guest.specs.Hosts.{HostFrame, HostFrames, HostOf, IsHostFrame, IsHostPart, IsOneToOne, IsValid, most_width, pfn_in}
 pub use Rattle.mig_guest.specs.Order.{part_cmp}
 pub use Rattle.mig_guest.specs.PartCodes.{code_number, row_of}
 pub use Rattle.mig_guest.specs.PartKeys.{p2m_key}
@@ -29,6 +29,7 @@ pub use Rattle.mig_guest.specs.declared.part_code.PartCode.{PartCode}
 pub use Rattle.mig_guest.specs.declared.part_key.PartKey.{PartKey}
 pub use Rattle.mig_headers.specs.declared.kind.Kind.{Kind}
 pub use Rattle.mig_headers.specs.declared.kind.Kind.TheVariants.{Hvm, Pv}
+pub use Rattle.mig_headers.specs.RecordTypes.{most_policy_entries}
 pub use Rattle.mig_host.specs.Changes.{exchanged, raw_page_at, retyped, without_frame}
 pub use Rattle.mig_host.specs.HostView.{AreBelowLimit, AreInverse, AreMatched, HostAndSpare, IsMade, MachineMap, MachinesAndSpare, host_seen, machine_in, pfn_of_machine_in, put_frame, put_part_in, with_machine, with_machines}
 pub use Rattle.mig_host.specs.Hosted.{hosted, hosted_width, least_width, mfn_in, rank_in}
@@ -37,7 +38,7 @@ pub use Rattle.mig_host_view.specs.Localised.{localised, localised_of}
 pub use Rattle.mig_host_view.specs.Normalised.{normalised, part_seen}
 pub use Rattle.mig_host_view.specs.Sound.{IsSound, unsoundness}
 pub use Rattle.mig_host_view.specs.View.{guest_in, top_of, view, without_machine}
-pub use Rattle.mig_pagetypes.specs.Limits.{top_limit}
+pub use Rattle.mig_pagetypes.specs.Limits.{top_limit, machine_limit, most_frames}
 pub use Rattle.mig_pagetypes.specs.PageTypes.{type_has_data}
 pub use Rattle.mig_pagetypes.specs.declared.page_type.PageType.{PageType}
 pub use Rattle.mig_pagetypes.specs.declared.page_type.PageType.TheVariants.{Xtab}

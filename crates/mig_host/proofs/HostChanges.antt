@@ -1,5 +1,5 @@
 -- A host stays valid where a frame is changed in place, or taken away.
-use Rattle.mig_host.proofs.Common.{◌≡◌, ℕ, ◌+◌, ◌-◌, ◌<◌, ◌≤◌, ◌^◌, Bool, true, false, cond, length, List, Option, Some, None, is_some, refl, sym, ap, subst, ◌∙◌, ◌⊎◌, inl, inr, arith, unwrap_or, option_map, option_and_then, nat_cmp, eq_by_cmp, nat_cmp_total, nat_cmp-IsAntisymmetric, same_map, len-entries, none-some, same_Some, Kind, FrameOf, FrameMap, HostOf, HostFrame, HostFrames, IsHostFrame, IsOneToOne, IsValid, PartMap, is_type_of, type_has_data, PageType, MachineMap, with_machine, machine_in, host_seen, AreMatched, IsMade, put_frame, Pv, Hvm, PartKey, part_cmp, part_total, part_exact, FitsPolicy, IsHostPart, IfSome, ◌++◌, ◌==◌, append-nil, row_of, code_number, PartCode, tied, each_value, get_each, is_inserted, insert_holds, remove_holds, raw_page_at, retyped, exchanged, without_frame}
+use Rattle.mig_host.proofs.Common.{◌≡◌, ℕ, ◌+◌, ◌-◌, ◌<◌, ◌≤◌, Bool, true, false, cond, length, List, Option, Some, None, is_some, refl, sym, ap, subst, ◌∙◌, ◌⊎◌, inl, inr, arith, unwrap_or, option_map, option_and_then, nat_cmp, eq_by_cmp, nat_cmp_total, nat_cmp-IsAntisymmetric, same_map, len-entries, none-some, same_Some, Kind, FrameOf, FrameMap, HostOf, HostFrame, HostFrames, IsHostFrame, IsOneToOne, IsValid, PartMap, is_type_of, type_has_data, PageType, MachineMap, with_machine, machine_in, host_seen, AreMatched, IsMade, put_frame, Pv, Hvm, PartKey, part_cmp, part_total, part_exact, FitsPolicy, IsHostPart, IfSome, ◌++◌, ◌==◌, append-nil, row_of, code_number, PartCode, tied, each_value, get_each, is_inserted, insert_holds, remove_holds, raw_page_at, retyped, exchanged, without_frame, machine_limit}
 use Rattle.mig_pagetypes.specs.Limits.{pfn_limit}
 use Rattle.mig_pagetypes.specs.declared.page_type.PageType.TheVariants.{Notab}
 use Rattle.std.proofs.Common.{replicate}
@@ -177,7 +177,7 @@ notab_of : (kind : Kind) → is_type_of kind Notab ≡ true
 notab_of Pv = refl
 notab_of Hvm = refl
 
-pub fine_new : (h : HostOf) (pfn mfn : ℕ) → pfn < h.width → 0 < mfn → mfn < 2 ^ 40 → IsHostFrame h.kind h.width pfn (record { type = Notab; machine = mfn; page = Some (replicate 4096 0) })
+pub fine_new : (h : HostOf) (pfn mfn : ℕ) → pfn < h.width → 0 < mfn → mfn < machine_limit → IsHostFrame h.kind h.width pfn (record { type = Notab; machine = mfn; page = Some (replicate 4096 0) })
 fine_new h pfn mfn inside some below = record {
   inside = inside;
   type = notab_of h.kind;
@@ -206,7 +206,7 @@ module _ (h : HostOf) (pfn : ℕ) (type : PageType) (valid : IsValid h) (is : So
 exchanged_is : (h : HostOf) (pfn mfn : ℕ) (old : HostFrame) → maps.get h.frames pfn ≡ Some old → exchanged h pfn mfn ≡ put_frame h pfn (record old { machine = mfn })
 exchanged_is h pfn mfn old has = ap (λ o. put_or_stay o h pfn (λ f. record f { machine = mfn })) has
 
-fine_moved : (h : HostOf) (pfn mfn : ℕ) (old : HostFrame) → IsValid h → maps.get h.frames pfn ≡ Some old → 0 < mfn → mfn < 2 ^ 40 → IsHostFrame h.kind h.width pfn (record old { machine = mfn })
+fine_moved : (h : HostOf) (pfn mfn : ℕ) (old : HostFrame) → IsValid h → maps.get h.frames pfn ≡ Some old → 0 < mfn → mfn < machine_limit → IsHostFrame h.kind h.width pfn (record old { machine = mfn })
 fine_moved h pfn mfn old valid has some below =
     let was = valid.frames pfn old has in record { inside = was.inside; type = was.type; some_machine = some; machine = below; in_step = was.in_step; whole = was.whole }
 
@@ -226,7 +226,7 @@ module _ (kind : Kind) (width : ℕ) (frames : FrameMap) (machines : MachineMap)
       let (f, found, same) = guest_frame (machine_in machines pfn) (maps.get frames pfn) old (sym (get_with_machines frames (machine_in machines) pfn) ∙ has) in
       seen_moved kind width frames machines parts made pfn f old has found mfn ∙ ap (λ (g : HostFrame). put_frame host pfn (record g { machine = mfn })) same ∙ sym (exchanged_is host pfn mfn old has)
 
-  pub made_exchanged : 0 < mfn → mfn < 2 ^ 40 → ((q : ℕ) (g : HostFrame) → maps.get host.frames q ≡ Some g → g.machine ≡ mfn → ⊥) → IsMade kind width frames (maps.insert machines pfn mfn) parts
+  pub made_exchanged : 0 < mfn → mfn < machine_limit → ((q : ℕ) (g : HostFrame) → maps.get host.frames q ≡ Some g → g.machine ≡ mfn → ⊥) → IsMade kind width frames (maps.insert machines pfn mfn) parts
   made_exchanged some below unused =
       let (old, has) = there_is (maps.get host.frames pfn) there in
       let (f, found, same) = guest_frame (machine_in machines pfn) (maps.get frames pfn) old (sym (get_with_machines frames (machine_in machines) pfn) ∙ has) in

@@ -1,5 +1,5 @@
 -- The host that a whole guest becomes is valid and, where the guest is in blank form, sound, and means this guest.
-use Rattle.mig_host.proofs.Common.{◌≡◌, ◌≢◌, ℕ, ◌+◌, ◌<◌, ◌≤◌, ◌^◌, length, List, Option, Some, None, IsSome, refl, sym, ap, subst, ◌∙◌, inl, inr, arith, option_map, nat_cmp_total, nat_cmp-IsAntisymmetric, cases_lt, Kind, Pv, Hvm, PartKey, FrameOf, is_type_of, HostFrame, HostFrames, IsHostFrame, IsHostPart, IsOneToOne, IsValid, IsTop, FitsPolicy, part_total, part_exact, with_machine, with_machines, rank_in, hosted, top_limit, GuestOf, pfn_in, most_width, blank, IsWhole, to_each, localised_of, localised, normalised, IsSound, unsoundness, without_machine, top_of, guest_in, view, sound_is_faultless, mfn_in, hosted_width}
+use Rattle.mig_host.proofs.Common.{◌≡◌, ◌≢◌, ℕ, ◌+◌, ◌<◌, ◌≤◌, length, List, Option, Some, None, IsSome, refl, sym, ap, subst, ◌∙◌, inl, inr, arith, option_map, nat_cmp_total, nat_cmp-IsAntisymmetric, cases_lt, Kind, Pv, Hvm, PartKey, FrameOf, is_type_of, HostFrame, HostFrames, IsHostFrame, IsHostPart, IsOneToOne, IsValid, IsTop, FitsPolicy, part_total, part_exact, with_machine, with_machines, rank_in, hosted, top_limit, GuestOf, pfn_in, most_width, blank, IsWhole, to_each, localised_of, localised, normalised, IsSound, unsoundness, without_machine, top_of, guest_in, view, sound_is_faultless, mfn_in, hosted_width, machine_limit}
 use Rattle.std.proofs.lemmas.Bool.{cases_order}
 use Rattle.mig_guest.specs.Formed.{IsPart, width_of, IsInside}
 use Rattle.mig_guest.proofs.PartRows.{host_part}
@@ -26,10 +26,10 @@ some_value (Some x) is = (x, refl)
 
 -- the base and what is counted up from it lie in range
 abbrev pub IsBaseInside : GuestOf → ℕ → Type 0
-IsBaseInside g base = (0 < base) × (base + length (maps.entries g.frames) ≤ 2 ^ 40)
+IsBaseInside g base = (0 < base) × (base + length (maps.entries g.frames) ≤ machine_limit)
 
 pub base_inside : (g : GuestOf) (base : ℕ) → (IsBaseOutside g base → ⊥) → IsBaseInside g base
-base_inside g base inside = (positive base (λ e. inside (inl e)), elim (cases_lt (2 ^ 40) (base + length (maps.entries g.frames))) [ inl lt ↦ absurd (inside (inr lt)) | inr ge ↦ ge ])
+base_inside g base inside = (positive base (λ e. inside (inl e)), elim (cases_lt machine_limit (base + length (maps.entries g.frames))) [ inl lt ↦ absurd (inside (inr lt)) | inr ge ↦ ge ])
   where
     positive : (n : ℕ) → n ≢ 0 → 0 < n
     positive n ne = elim (cases_lt 0 n) [ inl lt ↦ lt | inr ge ↦ absurd (ne (omega (arith, ge))) ]

@@ -1,5 +1,5 @@
 -- A host stays valid where a frame or a part is added, and stays what its guest and its machine frames make.
-use Rattle.mig_host.proofs.Common.{◌≡◌, ℕ, ◌<◌, ◌≤◌, ◌^◌, Bool, true, false, cond, length, List, Option, Some, None, is_some, refl, sym, ap, subst, ◌∙◌, ◌⊎◌, inl, inr, arith, unwrap_or, option_map, nat_cmp, eq_by_cmp, nat_cmp_total, nat_cmp-IsAntisymmetric, same_map, get-empty, len-entries, none-some, same_Some, Kind, Pv, PartKey, FrameOf, FrameMap, HostOf, HostFrame, HostFrames, IsHostFrame, IsHostPart, IsOneToOne, IsValid, part_cmp, PartMap, FitsPolicy, part_total, part_exact, MachineMap, with_machine, machine_in, host_seen, AreMatched, IsMade, put_frame, put_part_in, top_limit, most_width, insert_holds}
+use Rattle.mig_host.proofs.Common.{◌≡◌, ℕ, ◌<◌, ◌≤◌, Bool, true, false, cond, length, List, Option, Some, None, is_some, refl, sym, ap, subst, ◌∙◌, ◌⊎◌, inl, inr, arith, unwrap_or, option_map, nat_cmp, eq_by_cmp, nat_cmp_total, nat_cmp-IsAntisymmetric, same_map, get-empty, len-entries, none-some, same_Some, Kind, Pv, PartKey, FrameOf, FrameMap, HostOf, HostFrame, HostFrames, IsHostFrame, IsHostPart, IsOneToOne, IsValid, part_cmp, PartMap, FitsPolicy, part_total, part_exact, MachineMap, with_machine, machine_in, host_seen, AreMatched, IsMade, put_frame, put_part_in, top_limit, most_width, insert_holds, most_policy_entries, most_frames}
 use Rattle.std.specs.FinMap.{len-empty, empty_of_len}
 use Rattle.mig_guest.specs.Parts.{parts_of}
 use Rattle.mig_guest.proofs.KeyedMaps.{insert_len}
@@ -23,10 +23,10 @@ module _ (h : HostOf) (pfn : ℕ) (frame : HostFrame) (valid : IsValid h) (fine 
       by (inr b) (inl (c, d)) = absurd (unused p f b (alike ∙ ap (λ (x : HostFrame). x.machine) (sym d)))
       by (inr b) (inr d) = valid.one_to_one p q f g b d alike
 
-  few_more : length (maps.entries h.frames) < 2 ^ 24 → length (maps.entries more) ≤ 2 ^ 24
+  few_more : length (maps.entries h.frames) < most_frames → length (maps.entries more) ≤ most_frames
   few_more few = omega (arith, few, insert_len nat_cmp_total h.frames pfn frame, len-entries more, len-entries h.frames)
 
-  pub valid_frame : length (maps.entries h.frames) < 2 ^ 24 → IsValid (put_frame h pfn frame)
+  pub valid_frame : length (maps.entries h.frames) < most_frames → IsValid (put_frame h pfn frame)
   valid_frame few = record {
     width = valid.width;
     some_width = valid.some_width;
@@ -70,14 +70,14 @@ valid_empty kind width small some most = record {
   pv_width = most;
   frames = λ pfn f has. absurd (none-some f (sym (get-empty nat_cmp pfn) ∙ has));
   one_to_one = λ p q f g has gets alike. absurd (none-some f (sym (get-empty nat_cmp p) ∙ has));
-  few = subst (λ (es : List (ℕ × HostFrame)). length es ≤ 2 ^ 24) (sym (no_entries nat_cmp HostFrame)) (omega arith);
+  few = subst (λ (es : List (ℕ × HostFrame)). length es ≤ most_frames) (sym (no_entries nat_cmp HostFrame)) (omega arith);
   parts = λ k b has. absurd (none-some b (sym (get-empty part_cmp k) ∙ has));
   leaves = none_of 17;
   msrs = none_of 18;
 }
   where
     none_of : (code : ℕ) → FitsPolicy code maps.empty
-    none_of code = subst (λ (es : List (PartKey × List ℕ)). length (parts_of code es) ≤ 65536) (sym (no_entries part_cmp (List ℕ))) (omega arith)
+    none_of code = subst (λ (es : List (PartKey × List ℕ)). length (parts_of code es) ≤ most_policy_entries) (sym (no_entries part_cmp (List ℕ))) (omega arith)
 
 -- nothing makes such a host
 pub made_empty : (kind : Kind) (width : ℕ) → width ≤ most_width → (kind ≡ Pv → 0 < width) → (kind ≡ Pv → width ≤ top_limit) → IsMade kind width maps.empty maps.empty maps.empty
@@ -137,7 +137,7 @@ module _ (kind : Kind) (width : ℕ) (frames : FrameMap) (machines : MachineMap)
     seen_frame = ap (λ (m : HostFrames). record { kind = kind; width = width; frames = m; parts = parts }) (joined_put frames machines pfn f machine)
 
     pub made_frame : IsMade kind width frames machines parts → IsHostFrame kind width pfn (with_machine f machine)
-        → ((other : ℕ) (x : HostFrame) → maps.get (joined frames machines) other ≡ Some x → x.machine ≡ machine → ⊥) → length (maps.entries (joined frames machines)) < 2 ^ 24
+        → ((other : ℕ) (x : HostFrame) → maps.get (joined frames machines) other ≡ Some x → x.machine ≡ machine → ⊥) → length (maps.entries (joined frames machines)) < most_frames
         → IsMade kind width (maps.insert frames pfn f) (maps.insert machines pfn machine) parts
     made_frame made fine unused few = record {
       matched = matched_put frames machines pfn f machine made.matched;

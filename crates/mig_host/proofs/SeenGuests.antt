@@ -1,5 +1,5 @@
 -- The guest that stands in a host, copied frame by frame and part by part.
-use Rattle.mig_host.proofs.Common.{◌≡◌, ℕ, ◌+◌, ◌<◌, ◌^◌, Bool, true, false, cond, ◌==◌, List, ◌∷◌, length, Option, Some, None, IsSome, IfSome, is_some, refl, sym, ap, subst, ◌∙◌, arith, eqb-true, nat_cmp_total, nat_cmp-IsAntisymmetric, Kind, Pv, Hvm, PageType, type_has_data, FrameOf, FrameMap, entries_from, HostFrame, HostOf, IsHostFrame, IsHostPart, IsValid, PartKey, PartMap, parts_behind, part_total, part_exact, one_code, Xtab, PartCode, framed, GuestOf, row_of, code_number, pfn_in, each_value, each_same, part_seen, normalised, IsSound, without_machine, top_of, guest_in, view}
+use Rattle.mig_host.proofs.Common.{◌≡◌, ℕ, ◌+◌, ◌<◌, Bool, true, false, cond, ◌==◌, List, ◌∷◌, length, Option, Some, None, IsSome, IfSome, is_some, refl, sym, ap, subst, ◌∙◌, arith, eqb-true, nat_cmp_total, nat_cmp-IsAntisymmetric, Kind, Pv, Hvm, PageType, type_has_data, FrameOf, FrameMap, entries_from, HostFrame, HostOf, IsHostFrame, IsHostPart, IsValid, PartKey, PartMap, parts_behind, part_total, part_exact, one_code, Xtab, PartCode, framed, GuestOf, row_of, code_number, pfn_in, each_value, each_same, part_seen, normalised, IsSound, without_machine, top_of, guest_in, view, machine_limit}
 use Rattle.std.specs.Prelude.{◌&&◌}
 use Rattle.std.proofs.lemmas.Bool.{and_parts}
 use Rattle.std.specs.Result.{IsOk}
@@ -93,7 +93,7 @@ abbrev pub copied_in : HostOf → GuestOf
 copied_in h = record (guest_in h) { parts = each_value part_seen h.parts }
 
 -- PFNs of a host fit into entries
-pub pfns_fit : (h : HostOf) → IsValid h → h.kind ≡ Pv → (mfn pfn : ℕ) → pfn_in h.frames mfn ≡ Some pfn → pfn < 2 ^ 40
+pub pfns_fit : (h : HostOf) → IsValid h → h.kind ≡ Pv → (mfn pfn : ℕ) → pfn_in h.frames mfn ≡ Some pfn → pfn < machine_limit
 pfns_fit h valid pv mfn pfn found = omega (arith, pfn_small h valid pv mfn pfn found)
 
 module _ (h : HostOf) (g : GuestOf) (is : g ≡ copied_in h) where

@@ -8,8 +8,9 @@ use Rattle.std.specs.Coded.{Coded, code_by, coded×, coded_ℕ}
 use Rattle.mig_headers.specs.declared.kind.Kind.{Kind}
 use Rattle.mig_guest.specs.declared.part_key.PartKey.{PartKey}
 use Rattle.mig_guest.specs.Frames.{FrameMap, FrameOf}
-use Rattle.mig_guest.specs.Hosts.{HostOf, HostFrame, HostFrames, IsValid, host_code, machine_limit}
+use Rattle.mig_guest.specs.Hosts.{HostOf, HostFrame, HostFrames, IsValid, host_code}
 use Rattle.mig_guest.specs.Parts.{PartMap}
+use Rattle.mig_pagetypes.specs.Limits.{machine_limit}
 
 -- machine frames by PFN
 abbrev pub MachineMap : Type 0

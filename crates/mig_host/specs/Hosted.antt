@@ -7,9 +7,10 @@ use Rattle.mig_headers.specs.declared.kind.Kind.TheVariants.{Pv, Hvm}
 use Rattle.mig_guest.specs.Formed.{width_of}
 use Rattle.mig_guest.specs.Frames.{FrameMap}
 use Rattle.mig_guest.specs.Guests.{GuestOf}
-use Rattle.mig_guest.specs.Hosts.{HostOf, machine_limit}
+use Rattle.mig_guest.specs.Hosts.{HostOf}
 use Rattle.mig_host_view.specs.Localised.{localised}
 use Rattle.mig_host.specs.HostView.{with_machines}
+use Rattle.mig_pagetypes.specs.Limits.{machine_limit}
 
 -- how many of the frames have a smaller PFN
 abbrev pub rank_in : FrameMap → ℕ → ℕ

@@ -1,7 +1,6 @@
 ghost use Rattle.std.specs.Prelude.{◌≡◌, ℕ, ◌+◌, ◌≤◌, ◌<◌, IsOk, IsSome, OnOk, OnErr, IfOk, IfSome, IfNone, Some, None};
 ghost use Rattle.std.specs.FinMap as maps;
-ghost use Rattle.mig_pagetypes.specs.Limits.{pfn_limit};
-ghost use Rattle.mig_guest.specs.Hosts.{machine_limit};
+ghost use Rattle.mig_pagetypes.specs.Limits.{pfn_limit, machine_limit};
 ghost use Rattle.mig_host.specs.HostView.{pfn_of_machine_in};
 
 use mig_bytes::Memory;
@@ -10,9 +9,6 @@ use mig_pagestore_index::Index;
 use mig_pvtables::Frames;
 use std::alloc::Global;
 use std::marker::Model;
-
-/// Machine frames are below this.
-pub const MACHINE_LIMIT: u64 = 1 << 40;
 
 /// The machine frame of each PFN, one to one and below 2^40, and room for spare ones.
 #[derive(Drop)]

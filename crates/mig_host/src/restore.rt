@@ -1,17 +1,18 @@
-ghost use Rattle.std.specs.Prelude.{◌≡◌, ◌⊎◌, ℕ, ◌+◌, ◌<◌, ◌≤◌, ◌^◌, ◌↔◌, true, false, IfOk, Err, IsSome, length};
+ghost use Rattle.std.specs.Prelude.{◌≡◌, ◌⊎◌, ℕ, ◌+◌, ◌<◌, ◌≤◌, ◌↔◌, true, false, IfOk, Err, IsSome, length};
 ghost use Rattle.std.specs.FinMap as maps;
 ghost use Rattle.std.specs.Option.{option_map};
-ghost use Rattle.mig_pagetypes.specs.Limits.{top_limit};
+ghost use Rattle.mig_pagetypes.specs.Limits.{top_limit, machine_limit};
 ghost use Rattle.mig_pvtables.specs.Whole.{IsWhole};
 ghost use Rattle.mig_host.specs.Hosted.{hosted, hosted_width, rank_in, least_width, IsBaseOutside};
 ghost use Rattle.mig_host.specs.declared.restore.HostAnswer.TheVariants.{BaseRange};
 
 use crate::host::Host;
-use crate::machine_frames::{MACHINE_LIMIT, MachineFrames};
+use crate::machine_frames::MachineFrames;
 use mig_bytes::Memory;
 use mig_guest::Guest;
 use mig_headers::Kind;
 use mig_host_view::localise_guest;
+use mig_pagetypes::MACHINE_LIMIT;
 use std::alloc::Global;
 use thiserror::Error;
 
@@ -28,8 +29,8 @@ pub enum HostAnswer {
 
 /// Whether the machine frames of so many frames, counted up from the base, don't lie from 1 to 2^40 - 1.
 fn is_outside(base: u64, frames: u64) -> bool
-    ensures yes { result ≡ true → (base ≡ 0) ⊎ (2 ^ 40 < base + frames) }
-    ensures no { result ≡ false → (0 < base) × (base + frames ≤ 2 ^ 40) }
+    ensures yes { result ≡ true → (base ≡ 0) ⊎ (machine_limit < base + frames) }
+    ensures no { result ≡ false → (0 < base) × (base + frames ≤ machine_limit) }
 {
     base == 0 || base > MACHINE_LIMIT || frames > MACHINE_LIMIT - base
 }
@@ -38,7 +39,7 @@ fn is_outside(base: u64, frames: u64) -> bool
 #[tactic(auto, using(crate::proofs::Ranks::rank_full, crate::proofs::Ranks::frames_inside, crate::proofs::InOrder::entries_counted, crate::proofs::RestoredHosts::counted_all))]
 fn count_up(alloc: Global, guest: &Guest, base: u64) -> Result<(MachineFrames, u64), Memory>
     requires some { 0 < base }
-    requires range { base + length (maps.entries guest.now.frames) ≤ 2 ^ 40 }
+    requires range { base + length (maps.entries guest.now.frames) ≤ machine_limit }
     ensures machines { IfOk result (λ r. (pfn : ℕ) → maps.get r.0.machines pfn ≡ option_map (λ _. base + rank_in guest.now.frames pfn) (maps.get guest.now.frames pfn)) }
     ensures width { IfOk result (λ r. r.1 ≡ least_width (maps.entries guest.now.frames)) }
 {

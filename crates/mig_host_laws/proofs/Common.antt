@@ -13,6 +13,7 @@ pub use Rattle.mig_bytes.specs.Bytes.{AreBytes}
 pub use Rattle.mig_guest.proofs.KeyedMaps.{tied}
 pub use Rattle.mig_guest.proofs.PartCursor.{less}
 pub use Rattle.mig_guest.specs.Hosts.{HostFrame, HostOf, IsValid, pfn_in}
+pub use Rattle.mig_guest.specs.Limits.{most_gdt_entries}
 pub use Rattle.mig_headers.specs.CauseNumbers.{number_of_cause}
 pub use Rattle.mig_headers.specs.declared.fault.Cause.{Cause}
 pub use Rattle.mig_headers.specs.declared.kind.Kind.{Kind}

@@ -1,5 +1,5 @@
 -- Each row names the first of what its line says, and the rows together the first of all that is wrong.
-use Rattle.mig_host_laws.proofs.Common.{◌⊎◌, false≢true, Less, Kind, Unsound, number_of_unsound, ◌≡◌, inl, inr, ℕ, zero, suc, ◌+◌, ◌*◌, ◌<◌, ◌≤◌, List, [], ◌∷◌, Bool, true, false, cond, not, nat_lt, is_none, is_some, Option, Some, None, refl, sym, ap, subst, ◌∙◌, arith, ltb-true, lt-ltb, eqb-true, eq-eqb, cases_lt, nat_cmp, ◌==◌, ◌&&◌, ◌||◌, find, list_any, range_with_len, option_map, option_or, option_and_then, nat_cmp_total, nat_cmp-IsAntisymmetric, PageType, gdt_ents, FrameOf, FrameMap, PartKey, part_cmp, p2m_key, vcpu_key, shared_key, Entry, Superpage, Frame, NotPresent, Pv, part_total, part_exact, first_cause, first_some, is_notab, is_this, find_entry, is_superpage, count_in, listed, field_value, is_unknown, needed_keys, absent, NamesFirst, Standing, said_of, has_some, is_ill_listed, names_ill, row_1, row_2, row_5, row_6, row_7, first_row, IsWide, IsWrong, NamesFirstRow, is_left_at_end, no_context, no_p2m, no_shared, no_vcpu, other_type, listed_twice, large, nameless, many_descriptors, field_ill, bad_context}
+use Rattle.mig_host_laws.proofs.Common.{◌⊎◌, false≢true, Less, Kind, Unsound, number_of_unsound, ◌≡◌, inl, inr, ℕ, zero, suc, ◌+◌, ◌*◌, ◌<◌, ◌≤◌, List, [], ◌∷◌, Bool, true, false, cond, not, nat_lt, is_none, is_some, Option, Some, None, refl, sym, ap, subst, ◌∙◌, arith, ltb-true, lt-ltb, eqb-true, eq-eqb, cases_lt, nat_cmp, ◌==◌, ◌&&◌, ◌||◌, find, list_any, range_with_len, option_map, option_or, option_and_then, nat_cmp_total, nat_cmp-IsAntisymmetric, PageType, gdt_ents, FrameOf, FrameMap, PartKey, part_cmp, p2m_key, vcpu_key, shared_key, Entry, Superpage, Frame, NotPresent, Pv, part_total, part_exact, first_cause, first_some, is_notab, is_this, find_entry, is_superpage, count_in, listed, field_value, is_unknown, needed_keys, absent, NamesFirst, Standing, said_of, has_some, is_ill_listed, names_ill, row_1, row_2, row_5, row_6, row_7, first_row, IsWide, IsWrong, NamesFirstRow, is_left_at_end, no_context, no_p2m, no_shared, no_vcpu, other_type, listed_twice, large, nameless, many_descriptors, field_ill, bad_context, most_gdt_entries}
 use Rattle.std.proofs.lemmas.Bool.{and_from, and_parts, not-true, or_cases, or_left, or_right}
 use Rattle.std.proofs.lemmas.List.Folds.{list_any_at}
 use Rattle.std.proofs.lemmas.List.FromFn.{length-range_with_len, get_or-range_with_len}
@@ -201,7 +201,7 @@ module _ (s : Standing) where
 
   -- 5: descriptors
   abbrev ManyAt : PartKey × List ℕ → ℕ → Unsound → Type 0
-  ManyAt e = Alone ((e.0.code ≡ 4) × (7168 < gdt_ents e.1)) (key_rank s.parts e.0) (causes.GdtEnts e.0.key1 (gdt_ents e.1))
+  ManyAt e = Alone ((e.0.code ≡ 4) × (most_gdt_entries < gdt_ents e.1)) (key_rank s.parts e.0) (causes.GdtEnts e.0.key1 (gdt_ents e.1))
 
   abbrev Many : ℕ → Unsound → Type 0
   Many = firsts.InEntries number_of_unsound part_total part_exact ManyAt s.parts
@@ -215,15 +215,15 @@ module _ (s : Standing) where
       (firsts.entries_name number_of_unsound part_total part_exact ManyAt s.parts
       (λ q r v w at there before j k c d (_, is, named) (_, also, other). inr (ap number_of_unsound named ∙ sym (ap number_of_unsound other), omega (arith, is, also, rank_rises q r v at before)))
       (λ e. option_map told (search e))
-      (λ key context is. subst (Found (ManyAt (key, context))) (told_if told ((key.code == 4) && nat_lt 7168 (gdt_ents context)) (key.key1, gdt_ents context))
-      (firsts.alone number_of_unsound _ _ _ ((key.code == 4) && nat_lt 7168 (gdt_ents context))
-      (λ h. let both = and_parts (key.code == 4) _ h in (eqb-true key.code 4 both.0, ltb-true 7168 (gdt_ents context) both.1)) (λ h. and_from _ _ (eq-eqb key.code 4 h.0) (lt-ltb 7168 (gdt_ents context) h.1)))))
+      (λ key context is. subst (Found (ManyAt (key, context))) (told_if told ((key.code == 4) && nat_lt most_gdt_entries (gdt_ents context)) (key.key1, gdt_ents context))
+      (firsts.alone number_of_unsound _ _ _ ((key.code == 4) && nat_lt most_gdt_entries (gdt_ents context))
+      (λ h. let both = and_parts (key.code == 4) _ h in (eqb-true key.code 4 both.0, ltb-true most_gdt_entries (gdt_ents context) both.1)) (λ h. and_from _ _ (eq-eqb key.code 4 h.0) (lt-ltb most_gdt_entries (gdt_ents context) h.1)))))
     where
       told : ℕ × ℕ → Unsound
       told at = causes.GdtEnts at.0 at.1
 
       search : PartKey × List ℕ → Option (ℕ × ℕ)
-      search e = cond ((e.0.code == 4) && nat_lt 7168 (gdt_ents e.1)) (Some (e.0.key1, gdt_ents e.1)) None
+      search e = cond ((e.0.code == 4) && nat_lt most_gdt_entries (gdt_ents e.1)) (Some (e.0.key1, gdt_ents e.1)) None
 
   -- 6: fields
   abbrev IllAt : PartKey × List ℕ → ℕ → Unsound → Type 0

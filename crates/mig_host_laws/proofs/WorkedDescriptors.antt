@@ -1,5 +1,5 @@
 -- Which of the GDT's frames the worked contexts use.
-use Rattle.mig_host_laws.proofs.Common.{filter, ◌≡◌, ℕ, ◌^◌, ◌<◌, cond, List, [], ◌∷◌, ap, arith, ◌==◌, range_with_len, field_value, is_used, long_of_longs, Usage, is_used_somewhere}
+use Rattle.mig_host_laws.proofs.Common.{filter, ◌≡◌, ℕ, ◌^◌, ◌<◌, cond, List, [], ◌∷◌, ap, arith, ◌==◌, range_with_len, field_value, is_used, long_of_longs, Usage, is_used_somewhere, most_gdt_entries}
 use Rattle.mig_guest.specs.Formed.{gdt_ents}
 use Rattle.mig_host_laws.specs.WorkedDescriptors.{descriptors_context, gdt_fields, AreUsedFor}
 
@@ -25,5 +25,5 @@ for_one_frame id = (used_for is_used id 512 (omega arith), used_for is_used_some
 pub for_one_more : AreUsedFor 513 (1 ∷ 2 ∷ [])
 for_one_more id = (used_for is_used id 513 (omega arith), used_for is_used_somewhere id 513 (omega arith))
 
-pub for_most : AreUsedFor 7168 (range_with_len 1 14)
-for_most id = (used_for is_used id 7168 (omega arith), used_for is_used_somewhere id 7168 (omega arith))
+pub for_most : AreUsedFor most_gdt_entries (range_with_len 1 14)
+for_most id = (used_for is_used id most_gdt_entries (omega arith), used_for is_used_somewhere id most_gdt_entries (omega arith))

@@ -20,6 +20,7 @@ use Rattle.mig_guest.specs.Hosts.{HostOf}
 use Rattle.mig_guest.specs.Order.{part_cmp}
 use Rattle.mig_guest.specs.Parts.{PartMap}
 use Rattle.mig_guest.specs.PartKeys.{p2m_key, vcpu_key, shared_key, context_key}
+use Rattle.mig_guest.specs.Limits.{most_gdt_entries}
 use Rattle.mig_pvtables.specs.Faults.{fits_field}
 use Rattle.mig_pvtables.specs.P2mFrames.{listed}
 use Rattle.mig_pvtables.specs.VcpuContexts.{field_value, frame_of_field}
@@ -46,7 +47,7 @@ pub data IsWrong (s : Standing) : ℕ → Unsound → Type 0 where
   large : (pfn slot : ℕ) → slot < 512 → s.says pfn slot ≡ Superpage → IsWrong s (512 * pfn + slot) (causes.Superpage pfn slot)
   nameless : (pfn slot n : ℕ) → slot < 512 → s.says pfn slot ≡ Frame n → s.names n ≡ None → IsWrong s (512 * pfn + slot) (causes.NoFrame pfn slot)
   many_descriptors : (key : PartKey) (context : List ℕ) → maps.get s.parts key ≡ Some context → key.code ≡ 4
-      → 7168 < gdt_ents context → IsWrong s (key_rank s.parts key) (causes.GdtEnts key.key1 (gdt_ents context))
+      → most_gdt_entries < gdt_ents context → IsWrong s (key_rank s.parts key) (causes.GdtEnts key.key1 (gdt_ents context))
   field_ill : (key : PartKey) (context : List ℕ) (field : ℕ) → maps.get s.parts key ≡ Some context → key.code ≡ 4
       → field ≤ 18 → IsTrue (s.used key.key1 (gdt_ents context) field (field_value context field))
       → IsFalse (fits_field field (type_named s (frame_of_field field (field_value context field)))) → IsWrong s (32 * key_rank s.parts key + field) (causes.VcpuFrame key.key1 field)

@@ -7,6 +7,7 @@ ghost use Rattle.mig_guest.specs.declared.part_key.PartKey.{PartKey};
 ghost use Rattle.mig_guest.specs.Formed.{gdt_ents};
 ghost use Rattle.mig_guest.specs.Hosts.{HostOf, IsValid, pfn_in};
 ghost use Rattle.mig_guest.specs.Longs.{long_at};
+ghost use Rattle.mig_guest.specs.Limits.{most_gdt_entries};
 ghost use Rattle.mig_pvtables.specs.VcpuContexts.{field_at, frame_of_field, is_used, is_used_somewhere};
 ghost use Rattle.mig_host_view.specs.RenamedContexts.{renamed_context};
 ghost use Rattle.mig_host_view.specs.Sound.{IsSound};
@@ -76,8 +77,8 @@ pub fn worked_user_root()
 {}
 
 /// A frame of the GDT holds 512 descriptors. A context that counts none of them, at byte 4960, uses none of the GDT's frames;
-/// one that counts 1 or 512 the first, field 1; one that counts 513 fields 1 and 2; and one that counts 7168, the most that
-/// there are, 14 frames: in a stream and in a host, and whatever vCPU it is.
+/// one that counts 1 or 512 the first, field 1; one that counts 513 fields 1 and 2; and one that counts the most that there
+/// are, `most_gdt_entries`, 14 frames: in a stream and in a host, and whatever vCPU it is.
 #[tactic(auto, using(crate::proofs::WorkedDescriptors::are_counted, crate::proofs::WorkedDescriptors::for_none, crate::proofs::WorkedDescriptors::for_one, crate::proofs::WorkedDescriptors::for_one_frame, crate::proofs::WorkedDescriptors::for_one_more, crate::proofs::WorkedDescriptors::for_most))]
 pub fn worked_descriptors()
     ensures counted { (n : ℕ) → n < 2 ^ 64 → gdt_ents (descriptors_context n) ≡ n }
@@ -85,5 +86,5 @@ pub fn worked_descriptors()
     ensures one { AreUsedFor 1 (1 ∷ []) }
     ensures one_frame { AreUsedFor 512 (1 ∷ []) }
     ensures one_more { AreUsedFor 513 (1 ∷ 2 ∷ []) }
-    ensures most { AreUsedFor 7168 (range_with_len 1 14) }
+    ensures most { AreUsedFor most_gdt_entries (range_with_len 1 14) }
 {}

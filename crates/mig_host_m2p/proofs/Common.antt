@@ -7,3 +7,4 @@ pub use Rattle.mig_host_m2p.specs.declared.cell.Cell.{Cell}
 pub use Rattle.mig_host_m2p.specs.Cells.{Agree, HasAbove, IsNext, cell_at, either_below, free_cell, led, next_cell, with_cell}
 unfoldable pub use Rattle.mig_host_m2p.specs.Cells.{below_on, collected, led_on}
 pub use Rattle.mig_host_m2p.specs.Trees.{AreFree, IsGrown, IsStanding, IsStandingTree, cell_of, kept, kept_in}
+pub use Rattle.mig_pagetypes.specs.Limits.{machine_limit}

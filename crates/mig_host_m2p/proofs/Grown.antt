@@ -1,5 +1,5 @@
 -- A tree of cells stays one where a cell is hung below another, where a leaf is lifted out, and where PFNs change.
-use Rattle.mig_host_m2p.proofs.Common.{◌≡◌, ◌≢◌, ◌⊎◌, ℕ, zero, suc, ◌+◌, ◌<◌, ◌≤◌, ◌^◌, Bool, true, false, sym, ap, subst, ◌∙◌, inl, inr, arith, cases_eq, bit_at, Cell, Agree, HasAbove, IsNext, IsGrown, below_on, next_cell}
+use Rattle.mig_host_m2p.proofs.Common.{◌≡◌, ◌≢◌, ◌⊎◌, ℕ, zero, suc, ◌+◌, ◌<◌, ◌≤◌, Bool, true, false, sym, ap, subst, ◌∙◌, inl, inr, arith, cases_eq, bit_at, Cell, Agree, HasAbove, IsNext, IsGrown, below_on, next_cell, machine_limit}
 use Rattle.mig_host_m2p.proofs.Ways.{not_root, next_is}
 
 pub not_both : (b : Bool) → b ≡ false → b ≡ true → ⊥
@@ -78,7 +78,7 @@ pub record Hung (at now : ℕ → Cell) (p n machine pfn : ℕ) : Type 0 where
   pub still : (q other : ℕ) → q ≢ n → (q ≡ p → bit_at other (at p).depth ≡ bit_at machine (at p).depth → ⊥) → next_cell (now q) other ≡ next_cell (at q) other
 
 module _ (at now : ℕ → Cell) (g : IsGrown at) (p n machine pfn : ℕ) (h : Hung at now p n machine pfn) (used_p : (at p).used ≡ true) (same : Agree (at p).depth (at p).machine machine)
-    (room : (at p).depth < 40) (ends : next_cell (at p) machine ≡ 0) (none : (j : ℕ) → (at j).used ≡ true → (at j).machine ≢ machine) (some : 0 < n) (free : (at n).used ≡ false) (small : machine < 2 ^ 40) where
+    (room : (at p).depth < 40) (ends : next_cell (at p) machine ≡ 0) (none : (j : ℕ) → (at j).used ≡ true → (at j).machine ≢ machine) (some : 0 < n) (free : (at n).used ≡ false) (small : machine < machine_limit) where
   old : (q : ℕ) → q ≢ n → (now q).used ≡ true → (at q).used ≡ true
   old q ne used = sym (h.used q ne) ∙ used
 
@@ -207,10 +207,10 @@ module _ (at now : ℕ → Cell) (g : IsGrown at) (p n machine pfn : ℕ) (h : H
       by (inl e) = let d = ap (λ k. (now k).depth) e in omega (arith, d, depth_here, room)
       by (inr ne) = omega (arith, h.depth i ne, g.low i (old i ne used))
 
-  hung_inside : (i : ℕ) → 0 < i → (now i).used ≡ true → (now i).machine < 2 ^ 40
+  hung_inside : (i : ℕ) → 0 < i → (now i).used ≡ true → (now i).machine < machine_limit
   hung_inside i lt used = by (cases_eq i n)
     where
-      by : (i ≡ n) ⊎ (i ≢ n) → (now i).machine < 2 ^ 40
+      by : (i ≡ n) ⊎ (i ≢ n) → (now i).machine < machine_limit
       by (inl e) = let d = ap (λ k. (now k).machine) e in omega (arith, d, machine_here, small)
       by (inr ne) = omega (arith, h.machines i ne, g.inside i lt (old i ne used))
 
@@ -302,10 +302,10 @@ module _ (at now : ℕ → Cell) (g : IsGrown at) (i l : ℕ) (h : Lifted at now
       by (inr a) (inl b) = absurd (moved q p b a used_q used_p (sym e))
       by (inr a) (inr b) = g.sole p q (before p used_p) (before q used_q) (sym (h.machines p (left p used_p) a) ∙ e ∙ h.machines q (left q used_q) b)
 
-  lifted_inside : (q : ℕ) → 0 < q → (now q).used ≡ true → (now q).machine < 2 ^ 40
+  lifted_inside : (q : ℕ) → 0 < q → (now q).used ≡ true → (now q).machine < machine_limit
   lifted_inside q lt used = by (cases_eq q i)
     where
-      by : (q ≡ i) ⊎ (q ≢ i) → (now q).machine < 2 ^ 40
+      by : (q ≡ i) ⊎ (q ≢ i) → (now q).machine < machine_limit
       by (inl e) = let f = ap (λ k. (now k).machine) e ∙ h.machine (λ k. left q used (e ∙ k)) in omega (arith, f, g.inside l some used_l)
       by (inr non) = omega (arith, h.machines q (left q used) non, g.inside q lt (before q used))
 

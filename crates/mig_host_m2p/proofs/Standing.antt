@@ -1,5 +1,5 @@
 -- A tree with its stack stays sound through each change.
-use Rattle.mig_host_m2p.proofs.Common.{◌≡◌, ◌≢◌, ℕ, zero, suc, ◌+◌, ◌-◌, ◌<◌, ◌≤◌, ◌^◌, true, false, Some, None, IsSome, List, [], length, length-set, slice_index, set, refl, sym, ap, subst, ◌∙◌, inl, inr, arith, is_some, cases_lt, cases_eq, bit_at, Cell, Agree, IsNext, ValueMap, cell_at, free_cell, led, next_cell, below_on, collected, kept_in, IsGrown, AreFree, IsStanding}
+use Rattle.mig_host_m2p.proofs.Common.{◌≡◌, ◌≢◌, ℕ, zero, suc, ◌+◌, ◌-◌, ◌<◌, ◌≤◌, ◌^◌, true, false, Some, None, IsSome, List, [], length, length-set, slice_index, set, refl, sym, ap, subst, ◌∙◌, inl, inr, arith, is_some, cases_lt, cases_eq, bit_at, Cell, Agree, IsNext, ValueMap, cell_at, free_cell, led, next_cell, below_on, collected, kept_in, IsGrown, AreFree, IsStanding, machine_limit}
 use Rattle.std.specs.Ordering.{nat_cmp}
 use Rattle.std.specs.FinMap as maps
 use Rattle.std.specs.FinMap.{len-empty}
@@ -19,7 +19,7 @@ pub map_now : (cells : List Cell) → IsGrown (cell_at cells) → IsMapOf (cell_
 map_now cells g = map_of (cell_at cells) g (length cells) (behind_free cells)
 
 -- a tree in which no cell but maybe the root is in use
-module _ (at : ℕ → Cell) (root : (at 0).depth ≡ 0) (outside : (at 0).used ≡ true → 2 ^ 40 ≤ (at 0).machine) (ends : (m : ℕ) → next_cell (at 0) m ≡ 0) (free : (i : ℕ) → 0 < i → (at i).used ≡ false) where
+module _ (at : ℕ → Cell) (root : (at 0).depth ≡ 0) (outside : (at 0).used ≡ true → machine_limit ≤ (at 0).machine) (ends : (m : ℕ) → next_cell (at 0) m ≡ 0) (free : (i : ℕ) → 0 < i → (at i).used ≡ false) where
   only_root : (i : ℕ) → (at i).used ≡ true → i ≡ 0
   only_root zero used = refl
   only_root (suc i) used = absurd (not_both (at (suc i)).used (free (suc i) (omega arith)) used)
@@ -38,7 +38,7 @@ module _ (at : ℕ → Cell) (root : (at 0).depth ≡ 0) (outside : (at 0).used 
 
 -- ---- a cell more
 
-module _ (cells : List Cell) (free : List ℕ) (spare : ℕ) (st : IsStanding cells free spare) (p machine pfn : ℕ) (small : machine < 2 ^ 40) (used_p : (cell_at cells p).used ≡ true) (same : Agree (cell_at cells p).depth (cell_at cells p).machine machine)
+module _ (cells : List Cell) (free : List ℕ) (spare : ℕ) (st : IsStanding cells free spare) (p machine pfn : ℕ) (small : machine < machine_limit) (used_p : (cell_at cells p).used ≡ true) (same : Agree (cell_at cells p).depth (cell_at cells p).machine machine)
     (room : (cell_at cells p).depth < 40) (ends : next_cell (cell_at cells p) machine ≡ 0) (none : (j : ℕ) → (cell_at cells j).used ≡ true → (cell_at cells j).machine ≢ machine) (some : 1 ≤ spare) where
   abbrev n : ℕ
   n = slice_index free (spare - 1)
@@ -149,7 +149,7 @@ module _ (cells : List Cell) (free : List ℕ) (spare : ℕ) (st : IsStanding ce
 
 -- ---- another PFN in place
 
-module _ (cells : List Cell) (free : List ℕ) (spare : ℕ) (st : IsStanding cells free spare) (i machine pfn : ℕ) (used : (cell_at cells i).used ≡ true) (is : (cell_at cells i).machine ≡ machine) (small : machine < 2 ^ 40) where
+module _ (cells : List Cell) (free : List ℕ) (spare : ℕ) (st : IsStanding cells free spare) (i machine pfn : ℕ) (used : (cell_at cells i).used ≡ true) (is : (cell_at cells i).machine ≡ machine) (small : machine < machine_limit) where
   abbrev put : List Cell
   put = set cells i (record (cell_at cells i) { machine = machine; pfn = pfn })
 
@@ -351,10 +351,10 @@ module _ (cells : List Cell) (free : List ℕ) (spare : ℕ) (st : IsStanding ce
   pub get_empty : length cells ≡ 0 → maps.get (kept_in cells) machine ≡ None
   get_empty e = get_nothing (λ j used _. omega (arith, e, in_range cells j used))
 
-  pub get_outside : 2 ^ 40 ≤ machine → maps.get (kept_in cells) machine ≡ None
+  pub get_outside : machine_limit ≤ machine → maps.get (kept_in cells) machine ≡ None
   get_outside le = none_at (kept_in cells) machine (λ v is. let f : HasFrame (cell_at cells) machine v = (map_now cells st.grown).back machine v is in omega (arith, st.grown.inside f.cell f.some f.used, f.machine_is, le))
 
-  pub get_found : (i : ℕ) → (cell_at cells i).used ≡ true → (cell_at cells i).machine ≡ machine → machine < 2 ^ 40 → maps.get (kept_in cells) machine ≡ Some (cell_at cells i).pfn
+  pub get_found : (i : ℕ) → (cell_at cells i).used ≡ true → (cell_at cells i).machine ≡ machine → machine < machine_limit → maps.get (kept_in cells) machine ≡ Some (cell_at cells i).pfn
   get_found i used is small = there_kept cells free spare st i machine 0 used is small
 
   -- a machine frame that is there is found
@@ -373,8 +373,8 @@ module _ (cells : List Cell) (free : List ℕ) (spare : ℕ) (st : IsStanding ce
     | inr ne ↦ omega (arith, ne)
   ]
 
-  pub some_small : IsSome (maps.get (kept_in cells) machine) → machine < 2 ^ 40
-  some_small some = elim (cases_lt machine (2 ^ 40)) [
+  pub some_small : IsSome (maps.get (kept_in cells) machine) → machine < machine_limit
+  some_small some = elim (cases_lt machine machine_limit) [
     | inl lt ↦ lt
     | inr le ↦ absurd (none_is_not_some (maps.get (kept_in cells) machine) (get_outside le) some)
   ]

@@ -1,5 +1,5 @@
 -- Ways in a tree of cells: where they go on, where they end, and what isn't there then.
-use Rattle.mig_host_m2p.proofs.Common.{◌≡◌, ◌≢◌, ◌⊎◌, ℕ, zero, suc, ◌+◌, ◌-◌, ◌<◌, ◌≤◌, ◌^◌, true, refl, sym, ap, subst, ◌∙◌, inl, inr, arith, cases_lt, cases_eq, either_below, bit_at, Cell, Agree, HasAbove, IsNext, IsGrown, below_on, next_cell}
+use Rattle.mig_host_m2p.proofs.Common.{◌≡◌, ◌≢◌, ◌⊎◌, ℕ, zero, suc, ◌+◌, ◌-◌, ◌<◌, ◌≤◌, ◌^◌, true, refl, sym, ap, subst, ◌∙◌, inl, inr, arith, cases_lt, cases_eq, either_below, bit_at, Cell, Agree, HasAbove, IsNext, IsGrown, below_on, next_cell, machine_limit}
 use Rattle.std.proofs.lemmas.Nat.Bits.{same_from_bits_below, bit_at-zero, bit_at-pow_same}
 use Rattle.std.specs.Prelude.{if◌then◌else◌}
 use Rattle.std.proofs.lemmas.Bool.{eq-eqb, ne_eqb}
@@ -93,7 +93,7 @@ module _ (at : ℕ → Cell) (g : IsGrown at) where
           omega (arith, some, ends)
 
       -- all bits lead to non cell but the one that has the machine frame
-      pub room_below : machine < 2 ^ 40 → (at i).depth < 40
+      pub room_below : machine < machine_limit → (at i).depth < 40
       room_below small = by (cases_lt (at i).depth 40)
         where
           by : ((at i).depth < 40) ⊎ (40 ≤ (at i).depth) → (at i).depth < 40

@@ -5,12 +5,13 @@ use Rattle.mig_pagestore_index.specs.Indexed.{ValueMap}
 use Rattle.mig_host_m2p.specs.declared.cell.Cell.{Cell}
 use Rattle.mig_host_m2p.specs.declared.tree.Tree.{Tree}
 use Rattle.mig_host_m2p.specs.Cells.{cell_at, next_cell, Agree, IsNext, HasAbove, collected}
+use Rattle.mig_pagetypes.specs.Limits.{machine_limit}
 
 -- The cells in use form a tree with root 0, in which the bits of a machine frame lead to its cell.
 pub record IsGrown (at : ℕ → Cell) : Type 0 where
   pub root : (at 0).depth ≡ 0
-  pub outside : (at 0).used ≡ true → 2 ^ 40 ≤ (at 0).machine
-  pub inside : (i : ℕ) → 0 < i → (at i).used ≡ true → (at i).machine < 2 ^ 40
+  pub outside : (at 0).used ≡ true → machine_limit ≤ (at 0).machine
+  pub inside : (i : ℕ) → 0 < i → (at i).used ≡ true → (at i).machine < machine_limit
   pub low : (i : ℕ) → (at i).used ≡ true → (at i).depth ≤ 40
   pub down : (i machine : ℕ) → (at i).used ≡ true → 0 < next_cell (at i) machine → IsNext (at i) machine (at (next_cell (at i) machine))
   pub up : (j : ℕ) → 0 < j → (at j).used ≡ true → HasAbove at j

@@ -1,5 +1,6 @@
-ghost use Rattle.std.specs.Prelude.{◌≡◌, ◌+◌, ◌<◌, ◌≤◌, ◌^◌, IsSome, IsOk, OnOk, IfOk, None};
+ghost use Rattle.std.specs.Prelude.{◌≡◌, ◌+◌, ◌<◌, ◌≤◌, IsSome, IsOk, OnOk, IfOk, None};
 ghost use Rattle.std.specs.FinMap as maps;
+ghost use Rattle.mig_pagetypes.specs.Limits.{machine_limit};
 
 use crate::tree::Tree;
 use mig_bytes::Memory;
@@ -68,7 +69,7 @@ impl M2p {
 
     /// Gives a machine frame this PFN, and takes no memory: a machine frame that had none takes a spare place.
     pub fn put_spare(&mut self, machine: u64, pfn: u64)
-        requires below { machine < 2 ^ 40 }
+        requires below { machine < machine_limit }
         requires room { maps.get self.old.values machine ≡ None → 1 ≤ self.old.spare }
         ensures values { self.new.values ≡ maps.insert self.old.values machine pfn }
         ensures taken { self.old.spare ≤ self.new.spare + 1 }

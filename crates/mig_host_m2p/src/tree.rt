@@ -2,12 +2,11 @@ ghost use Rattle.std.specs.Prelude.{◌≡◌, ◌≢◌, ◌+◌, ◌-◌, ◌^
 ghost use Rattle.std.specs.FinMap as maps;
 ghost use Rattle.mig_host_m2p.specs.Cells.{Agree, next_cell};
 ghost use Rattle.mig_host_m2p.specs.Trees.{IsStandingTree, IsGrown, AreFree, kept, cell_of};
+ghost use Rattle.mig_pagetypes.specs.Limits.{machine_limit};
 
 use crate::cell::Cell;
+use mig_pagetypes::MACHINE_LIMIT;
 use std::alloc::{AllocError, Global};
-
-/// Machine frames are below this.
-const MACHINE_LIMIT: u64 = 1 << 40;
 
 /// There are no more cells than their numbers of 32 bits tell apart.
 const MOST_CELLS: usize = 1 << 32;
@@ -137,7 +136,7 @@ impl Tree {
     /// Hangs a free cell with this machine frame below the cell where the way to it ends.
     fn hang(&mut self, at: usize, machine: u64, pfn: u64)
         requires sound { IsStandingTree self.old }
-        requires below { machine < 2 ^ 40 }
+        requires below { machine < machine_limit }
         requires used { (cell_of self.old at).used ≡ true }
         requires agrees { Agree (cell_of self.old at).depth (cell_of self.old at).machine machine }
         requires ends { next_cell (cell_of self.old at) machine ≡ 0 }
@@ -163,7 +162,7 @@ impl Tree {
     /// Gives a machine frame this PFN, and takes no memory.
     pub(crate) fn put_spare(&mut self, machine: u64, pfn: u64)
         requires sound { IsStandingTree self.old }
-        requires below { machine < 2 ^ 40 }
+        requires below { machine < machine_limit }
         requires room { maps.get (kept self.old) machine ≡ None → 1 ≤ self.old.spare }
         ensures sound { IsStandingTree self.new }
         ensures kept { kept self.new ≡ maps.insert (kept self.old) machine pfn }

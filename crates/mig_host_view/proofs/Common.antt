@@ -27,10 +27,12 @@ pub use Rattle.mig_guest.specs.declared.part_code.PartCode.TheVariants.{HvmConte
 pub use Rattle.mig_guest.specs.declared.part_key.PartKey.{PartKey}
 pub use Rattle.mig_guest.specs.declared.table.Entry.{Entry}
 pub use Rattle.mig_guest.specs.declared.table.Entry.TheVariants.{Blank, Frame, NotPresent, Superpage}
+pub use Rattle.mig_guest.specs.Limits.{most_gdt_entries}
 pub use Rattle.mig_headers.specs.Contexts.{cut_at, scan}
 pub use Rattle.mig_headers.specs.declared.fault.ContextFault.{ContextFault}
 pub use Rattle.mig_headers.specs.declared.kind.Kind.{Kind}
 pub use Rattle.mig_headers.specs.declared.kind.Kind.TheVariants.{Hvm, Pv}
+pub use Rattle.mig_headers.specs.RecordTypes.{most_body}
 pub use Rattle.mig_host_view.specs.LocaliseSteps.{filled_at, filled_where_listed}
 pub use Rattle.mig_host_view.specs.Localised.{localised, localised_frame, localised_of, localised_page, renamed, renamed_frame, renamed_page, renamed_part}
 pub use Rattle.mig_host_view.specs.NormaliseSteps.{normalised_frame}

@@ -1,5 +1,5 @@
 -- A whole, blank guest that is localised can be seen.
-use Rattle.mig_host_view.proofs.Common.{◌≡◌, ℕ, ◌<◌, ◌≤◌, Bool, true, false, List, Option, Some, None, is_some, IsSome, refl, sym, ap, subst, ◌∙◌, arith, option_and_then, nat_cmp_total, nat_cmp-IsAntisymmetric, Pv, Hvm, PageType, level_of, PartKey, Entry, Blank, NotPresent, Superpage, Frame, FrameOf, FrameMap, GuestOf, PartMap, IsPart, width_of, p2m_key, context_key, place_of, gdt_ents, entry, EachEntry, IsWithin, is_type_of, part_total, part_exact, blank, blank_of, type_at, fits_field, field_at, field_place, field_value, frame_of_field, is_used, listed, listed_in, IsWhole, recursion_from_All, AreBytes, Kind, PartCode, P2mFrames, VcpuBasic, HvmContext, row_of, code_number, one_code, of_part, NamesKnown, name_for, renamed_table, entry_named, GoesBack, is_used_somewhere, IsCompletePv, field_there, from_each, entries_changed, kept_p2m, pv_complete, TableGoesBack, renamed_part, localised_page, localised_frame, localised_of, localised, value_renamed, renamed_context, needed_keys, AreThere, machine_type, CanBeSeen}
+use Rattle.mig_host_view.proofs.Common.{◌≡◌, ℕ, ◌<◌, ◌≤◌, Bool, true, false, List, Option, Some, None, is_some, IsSome, refl, sym, ap, subst, ◌∙◌, arith, option_and_then, nat_cmp_total, nat_cmp-IsAntisymmetric, Pv, Hvm, PageType, level_of, PartKey, Entry, Blank, NotPresent, Superpage, Frame, FrameOf, FrameMap, GuestOf, PartMap, IsPart, width_of, p2m_key, context_key, place_of, gdt_ents, entry, EachEntry, IsWithin, is_type_of, part_total, part_exact, blank, blank_of, type_at, fits_field, field_at, field_place, field_value, frame_of_field, is_used, listed, listed_in, IsWhole, recursion_from_All, AreBytes, Kind, PartCode, P2mFrames, VcpuBasic, HvmContext, row_of, code_number, one_code, of_part, NamesKnown, name_for, renamed_table, entry_named, GoesBack, is_used_somewhere, IsCompletePv, field_there, from_each, entries_changed, kept_p2m, pv_complete, TableGoesBack, renamed_part, localised_page, localised_frame, localised_of, localised, value_renamed, renamed_context, needed_keys, AreThere, machine_type, CanBeSeen, most_gdt_entries}
 use Rattle.mig_guest.proofs.PartRows.{no_entries}
 use Rattle.mig_pvtables.specs.Renaming.{NamesFit}
 use Rattle.mig_pvtables.proofs.BlankShape.{table_unlisted}
@@ -83,8 +83,8 @@ module _ (g : GuestOf) (pv : g.kind ≡ Pv) (whole : IsWhole g) (blanked : blank
     ents : gdt_ents there ≡ gdt_ents context
     ents = same_ents f back key.key1 context (recursion_from_All (λ b. b < 256) context (context_bytes g blanked key context found code)) (context_goes g whole complete blanked f back goes key context found code)
 
-    few_ents : gdt_ents there ≤ 7168
-    few_ents = let few : gdt_ents context ≤ 7168 = (of_part VcpuBasic g.kind (width_of g) (key, context) (whole.formed.parts key context found) code).content in omega (arith, few, ents)
+    few_ents : gdt_ents there ≤ most_gdt_entries
+    few_ents = let few : gdt_ents context ≤ most_gdt_entries = (of_part VcpuBasic g.kind (width_of g) (key, context) (whole.formed.parts key context found) code).content in omega (arith, few, ents)
 
     field_named_there : (field : ℕ) → field ≤ 18 → is_used_somewhere key.key1 (gdt_ents there) field (field_value there field) ≡ true → fits_field field (machine_type frames_there back (frame_of_field field (field_value there field))) ≡ true
     field_named_there field most host =
@@ -113,7 +113,7 @@ module _ (g : GuestOf) (pv : g.kind ≡ Pv) (whole : IsWhole g) (blanked : blank
     parts = subst (λ (k : Kind). AreThere parts_there (needed_keys k)) (sym pv) (still_there _ complete.p2m_there, (still_there _ complete.shared_there, (still_there _ complete.vcpu_there, tt)));
     p2m = kept_p2m g.frames frames_there g.parts parts_there (localised_type f g) (renamed_listed is_used f g.parts) complete.p2m;
     entries = entries_there;
-    gdt = λ key part is code. let (context, found, same) = from_context is_used f g.parts key part is code in subst (λ c. gdt_ents c ≤ 7168) same (few_ents key context found code);
+    gdt = λ key part is code. let (context, found, same) = from_context is_used f g.parts key part is code in subst (λ c. gdt_ents c ≤ most_gdt_entries) same (few_ents key context found code);
     fields = λ key part is code field most.
         let (context, found, same) = from_context is_used f g.parts key part is code in
         subst (λ c. is_used_somewhere key.key1 (gdt_ents c) field (field_value c field) ≡ true → fits_field field (machine_type frames_there back (frame_of_field field (field_value c field))) ≡ true) same

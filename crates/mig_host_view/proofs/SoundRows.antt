@@ -1,5 +1,5 @@
 -- The rows of unsoundness find nothing exactly where a host can be seen.
-use Rattle.mig_host_view.proofs.Common.{◌≡◌, ℕ, ◌≤◌, Bool, true, false, cond, List, [], ◌∷◌, Option, Some, None, refl, sym, ap, ◌∙◌, ◌==◌, nat_lt, option_and_then, eqb-true, eq-eqb, le-ltb, PartKey, gdt_ents, FrameOf, FrameMap, GuestOf, PartMap, context_key, entry, EachEntry, part_total, part_exact, is_superpage, Result, Ok, Err, scan, ContextFault, HostOf, pfn_in, is_unknown, NamesKnown, is_used_somewhere, needed_keys, AreThere, machine_type, CanBeSeen, IsSound, misnames, guest_in}
+use Rattle.mig_host_view.proofs.Common.{◌≡◌, ℕ, ◌≤◌, Bool, true, false, cond, List, [], ◌∷◌, Option, Some, None, refl, sym, ap, ◌∙◌, ◌==◌, nat_lt, option_and_then, eqb-true, eq-eqb, le-ltb, PartKey, gdt_ents, FrameOf, FrameMap, GuestOf, PartMap, context_key, entry, EachEntry, part_total, part_exact, is_superpage, Result, Ok, Err, scan, ContextFault, HostOf, pfn_in, is_unknown, NamesKnown, is_used_somewhere, needed_keys, AreThere, machine_type, CanBeSeen, IsSound, misnames, guest_in, most_gdt_entries}
 use Rattle.std.proofs.Common.{◌↔◌}
 use Rattle.std.specs.Prelude.{◌&&◌}
 use Rattle.std.specs.Option.{option_or}
@@ -46,12 +46,12 @@ few_in false b at = (λ is h. cc, λ go. refl)
 few_in true false at = (λ is h. refl, λ go. refl)
 few_in true true at = (λ is h. let no : Some at ≡ None = is in cc, λ go. let no : true ≡ false = go refl in cc)
 
-no_gdt : (parts : PartMap) → (find_gdt parts ≡ None) ↔ ((key : PartKey) (context : List ℕ) → maps.get parts key ≡ Some context → key.code ≡ 4 → gdt_ents context ≤ 7168)
+no_gdt : (parts : PartMap) → (find_gdt parts ≡ None) ↔ ((key : PartKey) (context : List ℕ) → maps.get parts key ≡ Some context → key.code ≡ 4 → gdt_ents context ≤ most_gdt_entries)
 no_gdt parts =
-    let search = first_found part_total part_exact (λ (e : PartKey × List ℕ). cond ((e.0.code == 4) && nat_lt 7168 (gdt_ents e.1)) (Some (e.0.key1, gdt_ents e.1)) None) parts in
-    let few = λ (key : PartKey) (context : List ℕ). few_in (key.code == 4) (nat_lt 7168 (gdt_ents context)) (key.key1, gdt_ents context) in (
-      (λ none key context is code. ltb-false 7168 (gdt_ents context) ((few key context).0 (search.0 none key context is) (eq-eqb key.code 4 code))),
-      (λ good. search.1 (λ key context is. (few key context).1 (λ four. le-ltb 7168 (gdt_ents context) (good key context is (eqb-true key.code 4 four))))),
+    let search = first_found part_total part_exact (λ (e : PartKey × List ℕ). cond ((e.0.code == 4) && nat_lt most_gdt_entries (gdt_ents e.1)) (Some (e.0.key1, gdt_ents e.1)) None) parts in
+    let few = λ (key : PartKey) (context : List ℕ). few_in (key.code == 4) (nat_lt most_gdt_entries (gdt_ents context)) (key.key1, gdt_ents context) in (
+      (λ none key context is code. ltb-false most_gdt_entries (gdt_ents context) ((few key context).0 (search.0 none key context is) (eq-eqb key.code 4 code))),
+      (λ good. search.1 (λ key context is. (few key context).1 (λ four. le-ltb most_gdt_entries (gdt_ents context) (good key context is (eqb-true key.code 4 four))))),
     )
 
 -- ---- the context of an HVM guest

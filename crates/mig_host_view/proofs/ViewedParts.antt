@@ -1,5 +1,5 @@
 -- The parts of a host, renamed and with the context cut, are those of a guest.
-use Rattle.mig_host_view.proofs.Common.{◌≡◌, ℕ, ◌+◌, ◌≤◌, ◌^◌, Bool, true, false, cond, List, length, ◌++◌, take, replicate, refl, sym, ap, subst, ◌∙◌, arith, ◌==◌, eqb-true, eq-eqb, Pv, Hvm, PartKey, IsPart, gdt_ents, length_longs, Ok, scan, cut_at, Kind, PartCode, VcpuBasic, HvmContext, IsHostPart, row_of, code_number, one_code, is_used_somewhere, renamed_part, cut_by, part_seen, renamed_context}
+use Rattle.mig_host_view.proofs.Common.{◌≡◌, ℕ, ◌+◌, ◌≤◌, Bool, true, false, cond, List, length, ◌++◌, take, replicate, refl, sym, ap, subst, ◌∙◌, arith, ◌==◌, eqb-true, eq-eqb, Pv, Hvm, PartKey, IsPart, gdt_ents, length_longs, Ok, scan, cut_at, Kind, PartCode, VcpuBasic, HvmContext, IsHostPart, row_of, code_number, one_code, is_used_somewhere, renamed_part, cut_by, part_seen, renamed_context, most_gdt_entries, most_body}
 use Rattle.std.proofs.Common.{le-leb, length-append}
 use Rattle.std.proofs.lemmas.List.{length-take-le, take_at}
 use Rattle.std.specs.Prelude.{Option}
@@ -28,12 +28,12 @@ not_numbered key code other number isnt same = let no : true ≡ false = sym (eq
 
 -- ---- of a PV host
 
-module _ (f : ℕ → Option ℕ) (width : ℕ) (key : PartKey) (bytes : List ℕ) (is : IsHostPart Pv width key bytes) (few : key.code ≡ 4 → gdt_ents bytes ≤ 7168) where
+module _ (f : ℕ → Option ℕ) (width : ℕ) (key : PartKey) (bytes : List ℕ) (is : IsHostPart Pv width key bytes) (few : key.code ≡ 4 → gdt_ents bytes ≤ most_gdt_entries) where
   pv_case : (b : Bool) → (key.code == 4) ≡ b → IsPart Pv width key (cond b (renamed_context is_used_somewhere f key.key1 bytes) bytes)
   pv_case false other = to_guest width is.code bytes is.number is.len is (plain_content is.code bytes (not_numbered key.code is.code VcpuBasic is.number other) (not_of_kind Pv is.code HvmContext is.of_kind refl) is.content)
   pv_case true four =
       let number = eqb-true key.code 4 four in let renamed = renamed_context is_used_somewhere f key.key1 bytes in let ents = ents_there f key.key1 bytes (few number) in
-      to_guest width VcpuBasic renamed number (eq-eqb (length renamed) 5168 (length_longs 646 _)) is (let less : gdt_ents renamed ≤ 7168 = omega (arith, ents, few number) in less)
+      to_guest width VcpuBasic renamed number (eq-eqb (length renamed) 5168 (length_longs 646 _)) is (let less : gdt_ents renamed ≤ most_gdt_entries = omega (arith, ents, few number) in less)
 
   pub pv_part : IsPart Pv width key (renamed_part is_used_somewhere f key bytes)
   pv_part = pv_case (key.code == 4) refl
@@ -56,8 +56,8 @@ module _ (width other : ℕ) (key : PartKey) (bytes : List ℕ) (is : IsHostPart
       let number = eqb-true key.code 9 nine in
       let (end, scanned) = ends number in
       let (short, cut) = cut_is bytes end scanned in
-      let most : length bytes ≤ 2 ^ 27 = leb-true (length bytes) (2 ^ 27) (subst (λ c. (row_of c).allows width (length bytes) ≡ true) (sym (one_code HvmContext is.code (sym number ∙ is.number))) is.len) in
-      subst (λ r. IsPart Hvm other key (cut_by r bytes)) (sym scanned) (to_guest other HvmContext (cut_at bytes end) number (le-leb (length (cut_at bytes end)) (2 ^ 27) (omega (arith, short, most))) is cut)
+      let most : length bytes ≤ most_body = leb-true (length bytes) most_body (subst (λ c. (row_of c).allows width (length bytes) ≡ true) (sym (one_code HvmContext is.code (sym number ∙ is.number))) is.len) in
+      subst (λ r. IsPart Hvm other key (cut_by r bytes)) (sym scanned) (to_guest other HvmContext (cut_at bytes end) number (le-leb (length (cut_at bytes end)) most_body (omega (arith, short, most))) is cut)
 
   pub hvm_part : IsPart Hvm other key (part_seen key bytes)
   hvm_part = hvm_case (key.code == 9) refl

@@ -1,5 +1,5 @@
 -- What the entries and the fields of a host say once their machine frames are frame numbers again.
-use Rattle.mig_host_view.proofs.Common.{◌≡◌, ℕ, ◌-◌, ◌*◌, ◌%◌, ◌^◌, ◌<◌, ◌≤◌, Bool, true, false, cond, not, nat_le, nat_lt, ◌==◌, List, [], ◌∷◌, Option, Some, None, IsSome, refl, sym, ap, subst, ◌∙◌, arith, find, option_map, option_and_then, nat_cmp_total, nat_cmp-IsAntisymmetric, eqb-true, ne_eqb, PageType, Entry, Blank, NotPresent, Superpage, Frame, gdt_ents, entry, long_at, fits_field, field_at, field_place, field_value, frame_of_field, is_marked, is_used, top_limit, HostFrame, pfn_in, entry_of, NamesKnown, name_for, renamed_table, entry_named, field_of_frame, is_used_somewhere, field_there, renamed_long, by_frames, value_renamed, renamed_context, field_named}
+use Rattle.mig_host_view.proofs.Common.{◌≡◌, ℕ, ◌-◌, ◌*◌, ◌%◌, ◌^◌, ◌<◌, ◌≤◌, Bool, true, false, cond, not, nat_le, nat_lt, ◌==◌, List, [], ◌∷◌, Option, Some, None, IsSome, refl, sym, ap, subst, ◌∙◌, arith, find, option_map, option_and_then, nat_cmp_total, nat_cmp-IsAntisymmetric, eqb-true, ne_eqb, PageType, Entry, Blank, NotPresent, Superpage, Frame, gdt_ents, entry, long_at, fits_field, field_at, field_place, field_value, frame_of_field, is_marked, is_used, top_limit, HostFrame, pfn_in, entry_of, NamesKnown, name_for, renamed_table, entry_named, field_of_frame, is_used_somewhere, field_there, renamed_long, by_frames, value_renamed, renamed_context, field_named, most_gdt_entries}
 use Rattle.std.specs.List.{All}
 use Rattle.mig_guest.proofs.Found.{all_found}
 use Rattle.std.specs.FinMap.{get-entries, entries_sorted}
@@ -109,7 +109,7 @@ module _ (f : ℕ → Option ℕ) (type_of : ℕ → Option PageType) (small : (
 
 -- ---- a context
 
-module _ (f : ℕ → Option ℕ) (id : ℕ) (context : List ℕ) (few : gdt_ents context ≤ 7168) where
+module _ (f : ℕ → Option ℕ) (id : ℕ) (context : List ℕ) (few : gdt_ents context ≤ most_gdt_entries) where
   abbrev there : List ℕ
   there = renamed_context is_used_somewhere f id context
 

@@ -17,6 +17,7 @@ use Rattle.mig_guest.specs.Hosts.{HostOf, pfn_in}
 use Rattle.mig_guest.specs.Parts.{PartMap}
 use Rattle.mig_guest.specs.PartKeys.{p2m_key, vcpu_key, shared_key, context_key}
 use Rattle.mig_guest.specs.Tables.{EachEntry}
+use Rattle.mig_guest.specs.Limits.{most_gdt_entries}
 use Rattle.mig_pvtables.specs.BadEntries.{is_unknown, NamesKnown}
 use Rattle.mig_pvtables.specs.Faults.{first_some, first_cause, type_at, fits_field, find_p2m, find_entry, find_in_contexts}
 use Rattle.mig_pvtables.specs.Tables.{is_superpage}
@@ -51,7 +52,7 @@ pub record CanBeSeen (g : GuestOf) (pfn_of : ℕ → Option ℕ) : Type 0 where
   pub parts : AreThere g.parts (needed_keys g.kind)
   pub p2m : AreP2mFrames g.frames g.parts
   pub entries : (pfn : ℕ) (frame : FrameOf) → maps.get g.frames pfn ≡ Some frame → EachEntry (NamesKnown pfn_of) frame
-  pub gdt : (key : PartKey) (context : List ℕ) → maps.get g.parts key ≡ Some context → key.code ≡ 4 → gdt_ents context ≤ 7168
+  pub gdt : (key : PartKey) (context : List ℕ) → maps.get g.parts key ≡ Some context → key.code ≡ 4 → gdt_ents context ≤ most_gdt_entries
   pub fields : FieldsName g.frames pfn_of g.parts
   pub context : (bytes : List ℕ) → maps.get g.parts context_key ≡ Some bytes → (end : ℕ) × (scan bytes ≡ Ok end)
 
@@ -70,7 +71,7 @@ misnames frames pfn_of id context field =
 
 -- the first vCPU whose GDT has too many descriptors, by its id and their number
 abbrev pub find_gdt : PartMap → Option (ℕ × ℕ)
-find_gdt parts = first_some (λ e. if (e.0.code == 4) && nat_lt 7168 (gdt_ents e.1) then Some (e.0.key1, gdt_ents e.1) else None) (maps.entries parts)
+find_gdt parts = first_some (λ e. if (e.0.code == 4) && nat_lt most_gdt_entries (gdt_ents e.1) then Some (e.0.key1, gdt_ents e.1) else None) (maps.entries parts)
 
 abbrev pub fault_in : Result ℕ ContextFault → Option ContextFault
 fault_in (Ok end) = None

@@ -16,7 +16,7 @@ ghost use Rattle.mig_pvtables.specs.Tables.{is_superpage};
 ghost use Rattle.mig_host_view.specs.Sound.{absent, needed_keys, misnames, machine_type as type_of_machine_frame, find_gdt, find_context_fault, unsound_rows};
 
 use mig_bytes::Memory;
-use mig_guest::{FrameStore, PartCode, PartKey, Parts};
+use mig_guest::{FrameStore, MOST_GDT_ENTRIES, PartCode, PartKey, Parts};
 use mig_headers::{ContextFault, Kind, Unsound};
 use mig_hvm::scan_context;
 use mig_pagetypes::PageType;
@@ -25,9 +25,6 @@ use mig_pvtables::{
     misplaced_frame, sole_key, superpage_slot, unknown_slot,
 };
 use std::alloc::Global;
-
-/// The greatest number of descriptors that a GDT has: those of 14 frames.
-const MAX_GDT_ENTS: u64 = 7168;
 
 /// That the only part of its code isn't there.
 fn absent_part(parts: &Parts, code: PartCode) -> Option<Unsound>
@@ -149,7 +146,7 @@ pub fn large_gdt(parts: &Parts) -> Option<(u32, u64)>
     let mut after = None;
     while let Some((key, context)) = next_context(parts, after) {
         let descriptors = gdt_ents(context);
-        if descriptors > MAX_GDT_ENTS {
+        if descriptors > MOST_GDT_ENTRIES {
             return Some((key.key1, descriptors));
         }
         after = Some(key);

@@ -1,6 +1,6 @@
 -- Names that many proofs of this crate use.
 pub use Rattle.std.proofs.Common.{Bool, Err, IfNone, IfSome, IsSome, List, None, Ok, OnOk, Option, Result, Some, [], ap, append-nil, append_assoc, arith, codes, cond, drop, drop-drop, false, is_some, length, length-append, length-drop, nat_eq, nat_le, nat_lt, not, refl, replicate, rules, subst, suc, sym, take, take-append-drop, true, zero, ℕ, ◌%◌, ◌*◌, ◌++◌, ◌+◌, ◌-◌, ◌/◌, ◌<◌, ◌^◌, ◌∙◌, ◌∷◌, ◌≡◌, ◌≤◌}
-pub use Rattle.mig_pagetypes.specs.Limits.{top_limit}
+pub use Rattle.mig_pagetypes.specs.Limits.{top_limit, most_frames, machine_limit}
 pub use Rattle.std.proofs.lemmas.Bool.{and_from, and_left, and_parts, and_right, eq-eqb, eqb-false, eqb-true, false_from_ne_true, le-leb, le-ltb, leb-false, leb-true, lt-leb, ltb-false, ne_eqb, not-false, or_from, or_parts, true≢false}
 pub use Rattle.std.proofs.lemmas.Grind.{common_steps, flat_map-append}
 pub use Rattle.std.proofs.lemmas.List.{append_cancel_right, length-replicate, take-replicate, take_all}
@@ -49,6 +49,7 @@ pub use Rattle.mig_headers.specs.declared.image_fault.ImagePlace.{ImagePlace}
 pub use Rattle.mig_headers.specs.declared.image_fault.ImagePlace.TheVariants.{Frame, Head, Part, Parts}
 pub use Rattle.mig_headers.specs.declared.kind.Kind.{Kind}
 pub use Rattle.mig_headers.specs.declared.kind.Kind.TheVariants.{Hvm, Pv}
+pub use Rattle.mig_headers.specs.RecordTypes.{most_policy_entries, vcpu_limit}
 pub use Rattle.mig_image.specs.Answer.{BeginsWithImage, IsHost}
 pub use Rattle.mig_image.specs.declared.version.ImageVersion.{ImageVersion}
 pub use Rattle.mig_image.specs.declared.version.ImageVersion.TheVariants.{One, Two}

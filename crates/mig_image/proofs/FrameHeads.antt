@@ -1,5 +1,5 @@
 -- The head of a frame and its page: what they spell is read, and what is read they spell.
-use Rattle.mig_image.proofs.Common.{◌≡◌, ℕ, ◌+◌, ◌*◌, ◌/◌, ◌%◌, ◌^◌, ◌<◌, ◌≤◌, Bool, true, false, cond, not, nat_eq, nat_le, List, [], ◌++◌, length, Option, Some, None, is_some, refl, sym, ap, subst, ◌∙◌, arith, ◌&&◌, and_from, eq-eqb, eqb-true, leb-false, lt-leb, not-false, or_from, or_parts, none-some, same_Some, true≢false, little_bytes, little_number-reads_back, Passes, ImageCause, Truncated, no_fault, rows_fine, ImageVersion, One, Two, PageType, number_of, type_of, type_or_none, type_has_data, HostFrame, host_word, is_left_out, is_all_zero, leaves_out, most_width_of, page_left_out, page_text, zero_flag, frame_said, has_zero_flag, head_pfn, head_type, head_type_number, Bytes, FormOf, Giving, judged_as, ◌>>>◌, first_named, is_passed, gives_gone, said_goes, said_passes, page_causes, reserved_bits, sent_page_form}
+use Rattle.mig_image.proofs.Common.{◌≡◌, ℕ, ◌+◌, ◌*◌, ◌/◌, ◌%◌, ◌^◌, ◌<◌, ◌≤◌, Bool, true, false, cond, not, nat_eq, nat_le, List, [], ◌++◌, length, Option, Some, None, is_some, refl, sym, ap, subst, ◌∙◌, arith, ◌&&◌, and_from, eq-eqb, eqb-true, leb-false, lt-leb, not-false, or_from, or_parts, none-some, same_Some, true≢false, little_bytes, little_number-reads_back, Passes, ImageCause, Truncated, no_fault, rows_fine, ImageVersion, One, Two, PageType, number_of, type_of, type_or_none, type_has_data, HostFrame, host_word, is_left_out, is_all_zero, leaves_out, most_width_of, page_left_out, page_text, zero_flag, frame_said, has_zero_flag, head_pfn, head_type, head_type_number, Bytes, FormOf, Giving, judged_as, ◌>>>◌, first_named, is_passed, gives_gone, said_goes, said_passes, page_causes, reserved_bits, sent_page_form, machine_limit}
 use Rattle.mig_bytes.proofs.ByteLists.{long_below}
 use Rattle.mig_bytes.specs.Fields.{le64}
 use Rattle.mig_pagetypes.specs.declared.page_type.PageType.TheVariants.{Broken, Xalloc, Xtab}
@@ -116,7 +116,7 @@ word_small Two e below =
     let (f, most, flag, one) = flag_number (is_left_out Two e.1.page) in
     subst (λ k. n * 2 ^ 60 + (k + e.0) < 2 ^ 64) (sym flag) (two_word n e.0 f (number_small e.1.type) below most).0
 
-pub says : (version : ImageVersion) (e : ℕ × HostFrame) → e.0 < most_width_of version → is_some e.1.page ≡ type_has_data e.1.type → e.1.machine < 2 ^ 40 → Says version (frame_head_of version e.0 e.1) e
+pub says : (version : ImageVersion) (e : ℕ × HostFrame) → e.0 < most_width_of version → is_some e.1.page ≡ type_has_data e.1.type → e.1.machine < machine_limit → Says version (frame_head_of version e.0 e.1) e
 unfolding le64 frame_head_of
 says version e below step small =
     let head = frame_head_of version e.0 e.1 in

@@ -1,5 +1,5 @@
 -- The frames of an image: what they spell is read, what is read they spell, and both are the frames of a valid host.
-use Rattle.mig_image.proofs.Common.{◌≡◌, ℕ, ◌+◌, ◌^◌, ◌<◌, ◌≤◌, false, not, nat_eq, nat_le, nat_lt, List, [], ◌++◌, length, Option, Some, None, is_some, refl, sym, ap, ◌∙◌, arith, append_assoc, ◌∷◌, true, subst, length-append, ◌||◌, ◌==◌, list_any, not-false, or_parts, or_from, leb-false, lt-leb, ne_eqb, eqb-true, eqb-false, and_parts, common_steps, nat_cmp_total, nat_cmp, is_lt, nat_cmp-IsAntisymmetric, Judged, Passes, ImageCause, Truncated, Kind, no_fault, rows_fine, Frame, Pv, Hvm, PageType, number_of, type_of, type_or_none, type_has_data, all_types, is_type_of, HostOf, HostFrame, HostFrames, IsHostFrame, IsValid, ImageVersion, One, Two, frame_text, leaves_out, most_width_of, page_text, has_zero_flag, head_pfn, head_type, has_machine, has_frame_from, frame_said, put_frame, head_type_number, Bytes, bytes_front, FormOf, Giving, judged_as, ◌>>>◌, first_named, frame_causes, frame_head_form, page_form, host_frame_form, frames_form, then_goes, both_go, bytes_go, bytes_gone, gives_goes, gives_gone, steps_go}
+use Rattle.mig_image.proofs.Common.{◌≡◌, ℕ, ◌+◌, ◌<◌, ◌≤◌, false, not, nat_eq, nat_le, nat_lt, List, [], ◌++◌, length, Option, Some, None, is_some, refl, sym, ap, ◌∙◌, arith, append_assoc, ◌∷◌, true, subst, length-append, ◌||◌, ◌==◌, list_any, not-false, or_parts, or_from, leb-false, lt-leb, ne_eqb, eqb-true, eqb-false, and_parts, common_steps, nat_cmp_total, nat_cmp, is_lt, nat_cmp-IsAntisymmetric, Judged, Passes, ImageCause, Truncated, Kind, no_fault, rows_fine, Frame, Pv, Hvm, PageType, number_of, type_of, type_or_none, type_has_data, all_types, is_type_of, HostOf, HostFrame, HostFrames, IsHostFrame, IsValid, ImageVersion, One, Two, frame_text, leaves_out, most_width_of, page_text, has_zero_flag, head_pfn, head_type, has_machine, has_frame_from, frame_said, put_frame, head_type_number, Bytes, bytes_front, FormOf, Giving, judged_as, ◌>>>◌, first_named, frame_causes, frame_head_form, page_form, host_frame_form, frames_form, then_goes, both_go, bytes_go, bytes_gone, gives_goes, gives_gone, steps_go, most_frames, machine_limit}
 use Rattle.std.specs.FinMap as maps
 use Rattle.mig_bytes.specs.Fields.{le64}
 use Rattle.mig_pagetypes.specs.declared.page_type.PageType.TheVariants.{Xtab}
@@ -22,13 +22,13 @@ pub frame_fits : (version : ImageVersion) (h : HostOf) (head : List ℕ) (page :
     → FrameFits h.kind h.width h.frames (head_pfn version head, frame_said version head page)
 frame_fits version h head page fine in_step whole =
     let (reserved, (type, (order, (outside, (machine, (twice, done)))))) = rows_fine (frame_causes version h head) fine in
-    let (some, small) = or_parts (nat_eq (le64 head 8) 0) (nat_le (2 ^ 40) (le64 head 8)) machine in
+    let (some, small) = or_parts (nat_eq (le64 head 8) 0) (nat_le machine_limit (le64 head 8)) machine in
     record {
       is = record {
         inside = leb-false h.width (head_pfn version head) outside;
         type = not-false (is_type_of h.kind (head_type version head)) type;
         some_machine = positive (le64 head 8) some;
-        machine = leb-false (2 ^ 40) (le64 head 8) small;
+        machine = leb-false machine_limit (le64 head 8) small;
         in_step = in_step;
         whole = whole;
       };
@@ -41,15 +41,15 @@ frame_fits version h head page fine in_step whole =
 
 -- ---- no fault
 
-some_machine : (m : ℕ) → 0 < m → m < 2 ^ 40 → (nat_eq m 0 || nat_le (2 ^ 40) m) ≡ false
-some_machine m a b = or_from (nat_eq m 0) (nat_le (2 ^ 40) m) (ne_eqb m 0 (λ e. absurd (omega arith))) (lt-leb (2 ^ 40) m b)
+some_machine : (m : ℕ) → 0 < m → m < machine_limit → (nat_eq m 0 || nat_le machine_limit m) ≡ false
+some_machine m a b = or_from (nat_eq m 0) (nat_le machine_limit m) (ne_eqb m 0 (λ e. absurd (omega arith))) (lt-leb machine_limit m b)
 
 fine : (version : ImageVersion) (h : HostOf) (e : ℕ × HostFrame) (head : List ℕ) → Says version head e → FrameFits h.kind h.width h.frames e → first_named (frame_causes version h head) ≡ None
 fine version h e head s f =
     let type = ap (λ k. not (is_type_of h.kind k)) s.kind ∙ ap not f.is.type in
     let order = ap (has_frame_from h) s.pfn ∙ f.behind in
     let outside = ap (nat_le h.width) s.pfn ∙ lt-leb h.width e.0 f.is.inside in
-    let machine = ap (λ m. nat_eq m 0 || nat_le (2 ^ 40) m) s.machine ∙ some_machine e.1.machine f.is.some_machine f.is.machine in
+    let machine = ap (λ m. nat_eq m 0 || nat_le machine_limit m) s.machine ∙ some_machine e.1.machine f.is.some_machine f.is.machine in
     let twice = ap (has_machine h) s.machine ∙ f.alone in
     no_fault (frame_causes version h head) (s.reserved, (type, (order, (outside, (machine, (twice, tt))))))
 
@@ -205,16 +205,16 @@ module _ (h : HostOf) where
   frame_entries es chain = chain_entries nat_cmp_total (FrameFits h.kind h.width) (λ m e f. behind m e f.behind) es chain
 
   abbrev IsFine : HostFrames → Type 0
-  IsFine m = length (maps.entries m) ≤ 2 ^ 24 → IsValid (with_frames h m)
+  IsFine m = length (maps.entries m) ≤ most_frames → IsValid (with_frames h m)
 
   fine_more : (m : HostFrames) (e : ℕ × HostFrame) → FrameFits h.kind h.width m e → IsFine m → IsFine (maps.insert m e.0 e.1)
   fine_more m e f fine few =
       let size = ap length (entries_behind nat_cmp_total m e.0 e.1 (behind m e f.behind)) ∙ length-append (maps.entries m) (e ∷ []) in
-      let room : length (maps.entries m) < 2 ^ 24 = omega (arith, size, few) in
-      valid_frame (with_frames h m) e.0 e.1 (fine (let most : length (maps.entries m) ≤ 2 ^ 24 = omega (arith, room) in most)) f.is
+      let room : length (maps.entries m) < most_frames = omega (arith, size, few) in
+      valid_frame (with_frames h m) e.0 e.1 (fine (let most : length (maps.entries m) ≤ most_frames = omega (arith, room) in most)) f.is
       (λ q g found same. eqb-false g.machine e.1.machine (none_passes nat_cmp_total nat_cmp-IsAntisymmetric (λ x. nat_eq x.1.machine e.1.machine) m q g f.alone found) same) room
 
   -- they are those of a valid host
-  pub frames_valid : (es : List (ℕ × HostFrame)) → IsValid (with_frames h maps.empty) → Chain (FrameFits h.kind h.width) maps.empty es → length es ≤ 2 ^ 24 → IsValid (with_frames h (put_all maps.empty es))
+  pub frames_valid : (es : List (ℕ × HostFrame)) → IsValid (with_frames h maps.empty) → Chain (FrameFits h.kind h.width) maps.empty es → length es ≤ most_frames → IsValid (with_frames h (put_all maps.empty es))
   frames_valid es valid chain few =
-      chain_keeps nat_cmp_total (FrameFits h.kind h.width) IsFine fine_more maps.empty es chain (λ _. valid) (subst (λ l. length l ≤ 2 ^ 24) (sym (frame_entries es chain)) few)
+      chain_keeps nat_cmp_total (FrameFits h.kind h.width) IsFine fine_more maps.empty es chain (λ _. valid) (subst (λ l. length l ≤ most_frames) (sym (frame_entries es chain)) few)

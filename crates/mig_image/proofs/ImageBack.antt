@@ -1,5 +1,5 @@
 -- Bytes that are read as a host begin with its image, and the host is valid.
-use Rattle.mig_image.proofs.Common.{◌≡◌, ℕ, ◌^◌, ◌<◌, ◌≤◌, Bool, true, false, not, nat_eq, nat_lt, List, ◌++◌, length, None, refl, sym, ap, subst, ◌∙◌, arith, ◌&&◌, flat_map, not-false, or_parts, ltb-false, eqb-true, eqb-false, recursion_from_All, little_bytes, AreBytes, Passes, kind_number, kind_of_number, Truncated, Head, Parts, Pv, Hvm, PartKey, HostOf, HostFrame, IsValid, frame_text, part_text, IsHostImageUpTo, ImageVersion, One, Two, cond, ◌||◌, head_version, top_limit, most_width, most_width_of, name_number, version_named, opened, behind_head, Bytes, bytes_front, bytes_back, rows_fine, placed_form, judged_as, first_named, host_head_causes, host_head_form, frames_form, host_parts_form, count_form, behind_frames, image_file_form, host_at, both_go, bytes_gone, placed_gone, said_passes}
+use Rattle.mig_image.proofs.Common.{◌≡◌, ℕ, ◌<◌, ◌≤◌, Bool, true, false, not, nat_eq, nat_lt, List, ◌++◌, length, None, refl, sym, ap, subst, ◌∙◌, arith, ◌&&◌, flat_map, not-false, or_parts, ltb-false, eqb-true, eqb-false, recursion_from_All, little_bytes, AreBytes, Passes, kind_number, kind_of_number, Truncated, Head, Parts, Pv, Hvm, PartKey, HostOf, HostFrame, IsValid, frame_text, part_text, IsHostImageUpTo, ImageVersion, One, Two, cond, ◌||◌, head_version, top_limit, most_width, most_width_of, name_number, version_named, opened, behind_head, Bytes, bytes_front, bytes_back, rows_fine, placed_form, judged_as, first_named, host_head_causes, host_head_form, frames_form, host_parts_form, count_form, behind_frames, image_file_form, host_at, both_go, bytes_gone, placed_gone, said_passes, most_frames}
 use Rattle.std.specs.FinMap as maps
 use Rattle.mig_bytes.specs.Fields.{le32, le64, be64}
 use Rattle.mig_image.specs.Image.{host_head, image}
@@ -44,7 +44,7 @@ pub record HeadFine (widest : ℕ) (head : List ℕ) : Type 0 where
   pub holds : le64 head 16 ≤ most_width_of (head_version head)
   pub some_width : kind_of_number (le32 head 8) ≡ Pv → 0 < le64 head 16
   pub pv_narrow : IsPvNarrow (kind_of_number (le32 head 8)) (le64 head 16)
-  pub few : le64 head 24 ≤ 2 ^ 24
+  pub few : le64 head 24 ≤ most_frames
 
 pv_width : (is_pv : Bool) (width : ℕ) → (is_pv && (nat_eq width 0 || nat_lt top_limit width)) ≡ false → cond is_pv Pv Hvm ≡ Pv → (0 < width) × (width ≤ top_limit)
 pv_width true width h is =
@@ -66,7 +66,7 @@ head_fine widest head fine =
     let (name, (known, (reserved, (wide, (many, end))))) = rows_fine (host_head_causes widest head) fine in
     let w = or_parts (nat_lt widest width) (nat_lt (most_width_of version) width || (is_pv && (nat_eq width 0 || nat_lt top_limit width))) wide in
     let v = or_parts (nat_lt (most_width_of version) width) (is_pv && (nat_eq width 0 || nat_lt top_limit width)) w.1 in
-    let m = or_parts (nat_lt (2 ^ 24) count) (nat_lt width count) many in
+    let m = or_parts (nat_lt most_frames count) (nat_lt width count) many in
     record {
       name = named (be64 head 0) name;
       kind = kind_known (le32 head 8) known;
@@ -75,7 +75,7 @@ head_fine widest head fine =
       holds = ltb-false (most_width_of version) width v.0;
       some_width = λ is. (pv_width is_pv width v.1 is).0;
       pv_narrow = λ is. (pv_width is_pv width v.1 is).1;
-      few = ltb-false (2 ^ 24) count m.0;
+      few = ltb-false most_frames count m.0;
     }
 
 -- ---- the number of parts
@@ -116,7 +116,7 @@ module _ (widest : ℕ) (few_widths : widest ≤ most_width) (head : List ℕ) (
   given_valid =
       let small : le64 head 16 ≤ most_width = omega (arith, few_widths, said.narrow) in
       let none = valid_empty (kind_of_number (le32 head 8)) (le64 head 16) small said.some_width said.pv_narrow in
-      parts_valid (framed head fs) ps (frames_valid (opened head) fs none fits (subst (λ n. n ≤ 2 ^ 24) (sym few) said.few)) stand
+      parts_valid (framed head fs) ps (frames_valid (opened head) fs none fits (subst (λ n. n ≤ most_frames) (sym few) said.few)) stand
 
   given_image : image version given ≡ head ++ (flat_map (frame_text version) fs ++ (little_bytes 8 (length ps) ++ flat_map part_text ps))
   given_image =

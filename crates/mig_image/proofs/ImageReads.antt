@@ -1,5 +1,5 @@
 -- The image of a valid host is read as this host.
-use Rattle.mig_image.proofs.Common.{◌≡◌, ℕ, ◌^◌, ◌<◌, ◌≤◌, false, not, nat_eq, nat_lt, List, [], ◌++◌, length, None, refl, sym, ap, ◌∙◌, arith, append_assoc, ◌&&◌, flat_map, or_from, le-ltb, ne_eqb, little_bytes, little_number-reads_back, Passes, same_passes, kind_number, kind_of_number, Truncated, Head, Frame, Parts, Part, Kind, Pv, Hvm, HostOf, IsValid, frame_text, part_text, IsHostImage, IsHostImageUpTo, ImageVersion, One, Two, ◌||◌, head_version, top_limit, most_width, most_width_of, name_number, version_named, opened, behind_head, no_fault, Bool, placed_form, judged_as, first_named, host_head_causes, host_head_form, host_frame_form, host_part_form, frames_form, host_parts_form, count_form, behind_frames, image_file_form, host_at, bytes_go, placed_goes, then_goes, steps_go, said_goes}
+use Rattle.mig_image.proofs.Common.{◌≡◌, ℕ, ◌^◌, ◌<◌, ◌≤◌, false, not, nat_eq, nat_lt, List, [], ◌++◌, length, None, refl, sym, ap, ◌∙◌, arith, append_assoc, ◌&&◌, flat_map, or_from, le-ltb, ne_eqb, little_bytes, little_number-reads_back, Passes, same_passes, kind_number, kind_of_number, Truncated, Head, Frame, Parts, Part, Kind, Pv, Hvm, HostOf, IsValid, frame_text, part_text, IsHostImage, IsHostImageUpTo, ImageVersion, One, Two, ◌||◌, head_version, top_limit, most_width, most_width_of, name_number, version_named, opened, behind_head, no_fault, Bool, placed_form, judged_as, first_named, host_head_causes, host_head_form, host_frame_form, host_part_form, frames_form, host_parts_form, count_form, behind_frames, image_file_form, host_at, bytes_go, placed_goes, then_goes, steps_go, said_goes, most_frames}
 use Rattle.std.specs.FinMap as maps
 use Rattle.mig_bytes.specs.Fields.{le32, le64, be64}
 use Rattle.mig_headers.proofs.KindNumbers.{kind_back}
@@ -80,8 +80,8 @@ fine widest version h head valid narrow holds s =
     let wide =
     ap (λ v. is_wide widest v (le32 head 8) (le64 head 16)) (version_is head s.name) ∙ ap (λ k. is_wide widest version k (le64 head 16)) s.kind ∙ ap (is_wide widest version (kind_number h.kind)) s.width
     ∙ not_wide widest version h.kind h.width narrow holds valid.some_width (valid_narrow h valid) in
-    let few = or_from (nat_lt (2 ^ 24) n) (nat_lt h.width n) (le-ltb (2 ^ 24) n valid.few) (le-ltb h.width n (frames_within h valid)) in
-    let many = ap (λ w. nat_lt (2 ^ 24) (le64 head 24) || nat_lt w (le64 head 24)) s.width ∙ ap (λ c. nat_lt (2 ^ 24) c || nat_lt h.width c) s.count ∙ few in
+    let few = or_from (nat_lt most_frames n) (nat_lt h.width n) (le-ltb most_frames n valid.few) (le-ltb h.width n (frames_within h valid)) in
+    let many = ap (λ w. nat_lt most_frames (le64 head 24) || nat_lt w (le64 head 24)) s.width ∙ ap (λ c. nat_lt most_frames c || nat_lt h.width c) s.count ∙ few in
     no_fault (host_head_causes widest head) (name, (kind, (ap (λ n. not (nat_eq n 0)) s.zero, (wide, (many, tt)))))
   where
     version_is : (head : List ℕ) → be64 head 0 ≡ name_number version → head_version head ≡ version

@@ -1,5 +1,5 @@
 -- The parts of an image: what they spell is read, what is read they spell, and both are the parts of a valid host.
-use Rattle.mig_image.proofs.Common.{◌≡◌, ℕ, ◌^◌, ◌<◌, ◌≤◌, Bool, true, false, not, nat_eq, List, [], ◌∷◌, ◌++◌, length, replicate, Some, None, refl, sym, ap, subst, ◌∙◌, arith, append_assoc, ◌+◌, cond, nat_le, Option, length-append, ◌*◌, ◌&&◌, ◌||◌, ◌==◌, if◌then◌else◌, T, list_all, AllByRecursion, and_from, eqb-true, not-false, and_parts, leb-false, eq-eqb, and_left, and_right, lt-leb, true≢false, common_steps, length-replicate, filter-append, nat_cmp, is_lt, ordering_then, Ordering, Less, Equal, Greater, nat_cmp-IsAntisymmetric, where_key, is_sorted-where_key, little_bytes, little_number-reads_back, padding_len, Judged, Passes, ImageCause, Truncated, Kind, Pv, Hvm, top_limit, no_fault, rows_fine, Part, PartKey, IsRawContent, HostOf, IsHostPart, IsValid, numbered, one_code, number_found, PartMap, parts_of, FitsPolicy, part_cmp, part_total, part_exact, part_text, head_key, code_fits, code_allows, has_part_from, put_part_in, Bytes, bytes_front, word_below, Counts, FormOf, Giving, judged_as, ◌>>>◌, first_named, is_passed, full_policy, part_causes, content_causes, padding_causes, part_head_form, part_bytes_form, padding_form, host_part_form, host_parts_form, then_goes, both_go, bytes_go, bytes_gone, gives_goes, gives_gone, steps_go}
+use Rattle.mig_image.proofs.Common.{◌≡◌, ℕ, ◌^◌, ◌<◌, ◌≤◌, Bool, true, false, not, nat_eq, List, [], ◌∷◌, ◌++◌, length, replicate, Some, None, refl, sym, ap, subst, ◌∙◌, arith, append_assoc, ◌+◌, cond, nat_le, Option, length-append, ◌*◌, ◌&&◌, ◌||◌, ◌==◌, if◌then◌else◌, T, list_all, AllByRecursion, and_from, eqb-true, not-false, and_parts, leb-false, eq-eqb, and_left, and_right, lt-leb, true≢false, common_steps, length-replicate, filter-append, nat_cmp, is_lt, ordering_then, Ordering, Less, Equal, Greater, nat_cmp-IsAntisymmetric, where_key, is_sorted-where_key, little_bytes, little_number-reads_back, padding_len, Judged, Passes, ImageCause, Truncated, Kind, Pv, Hvm, top_limit, no_fault, rows_fine, Part, PartKey, IsRawContent, HostOf, IsHostPart, IsValid, numbered, one_code, number_found, PartMap, parts_of, FitsPolicy, part_cmp, part_total, part_exact, part_text, head_key, code_fits, code_allows, has_part_from, put_part_in, Bytes, bytes_front, word_below, Counts, FormOf, Giving, judged_as, ◌>>>◌, first_named, is_passed, full_policy, part_causes, content_causes, padding_causes, part_head_form, part_bytes_form, padding_form, host_part_form, host_parts_form, then_goes, both_go, bytes_go, bytes_gone, gives_goes, gives_gone, steps_go, most_policy_entries, vcpu_limit}
 use Rattle.std.specs.FinMap as maps
 use Rattle.mig_bytes.specs.Fields.{le32}
 use Rattle.mig_headers.specs.Pairs.{are_canonical_pairs, AreCanonicalPairs}
@@ -154,7 +154,7 @@ module _ (parts : PartMap) (key : PartKey) (bytes : List ℕ) (behind : has_part
       → length (parts_of code (maps.entries more)) ≡ (if b then length (parts_of code (maps.entries parts)) + 1 else length (parts_of code (maps.entries parts))) → FitsPolicy code more
   fits_by code true same policy room fits is =
       let known : full parts code ≡ false = ap (full parts) (sym (eqb-true key.code code same)) ∙ room in
-      let less = leb-false 65536 (length (parts_of code (maps.entries parts))) (sym (ap (λ b. b && nat_le 65536 (length (parts_of code (maps.entries parts)))) policy) ∙ known) in
+      let less = leb-false most_policy_entries (length (parts_of code (maps.entries parts))) (sym (ap (λ b. b && nat_le most_policy_entries (length (parts_of code (maps.entries parts)))) policy) ∙ known) in
       omega (arith, is, less)
   fits_by code false same policy room fits is = omega (arith, is, fits)
 
@@ -217,19 +217,19 @@ abbrev policy : ℕ → Bool
 policy code = nat_eq code 17 || nat_eq code 18
 
 -- there is room for one more of a code where there is room for it and others
-room_for : (code : ℕ) (done more : List Entry) (e : Entry) → e.0.code ≡ code → length (parts_of code (done ++ e ∷ more)) ≤ 65536 → nat_le 65536 (length (parts_of code done)) ≡ false
+room_for : (code : ℕ) (done more : List Entry) (e : Entry) → e.0.code ≡ code → length (parts_of code (done ++ e ∷ more)) ≤ most_policy_entries → nat_le most_policy_entries (length (parts_of code done)) ≡ false
 room_for code done more e is few =
     let split = filter-append (λ (x : Entry). nat_eq x.0.code code) done (e ∷ more) in
     let first : parts_of code (e ∷ more) ≡ e ∷ parts_of code more = ap (λ b. cond b (e ∷ parts_of code more) (parts_of code more)) (eq-eqb e.0.code code is) in
     let size = length-append (parts_of code done) (parts_of code (e ∷ more)) in
-    lt-leb 65536 (length (parts_of code done)) (omega (arith, few, ap length split, size, ap length first))
+    lt-leb most_policy_entries (length (parts_of code done)) (omega (arith, few, ap length split, size, ap length first))
 
 module _ (g : HostOf) (valid : IsValid g) where
   roomy : (m : PartMap) (e : Entry) (more : List Entry) → maps.entries g.parts ≡ maps.entries m ++ e ∷ more → full m e.0.code ≡ false
   roomy m e more eg = by (nat_eq e.0.code 17) (nat_eq e.0.code 18) refl refl
     where
-      few : (code : ℕ) → FitsPolicy code g.parts → e.0.code ≡ code → nat_le 65536 (length (parts_of e.0.code (maps.entries m))) ≡ false
-      few code fits is = ap (λ c. nat_le 65536 (length (parts_of c (maps.entries m)))) is ∙ room_for code (maps.entries m) more e is (subst (λ l. length (parts_of code l) ≤ 65536) eg fits)
+      few : (code : ℕ) → FitsPolicy code g.parts → e.0.code ≡ code → nat_le most_policy_entries (length (parts_of e.0.code (maps.entries m))) ≡ false
+      few code fits is = ap (λ c. nat_le most_policy_entries (length (parts_of c (maps.entries m)))) is ∙ room_for code (maps.entries m) more e is (subst (λ l. length (parts_of code l) ≤ most_policy_entries) eg fits)
 
       by : (a b : Bool) → nat_eq e.0.code 17 ≡ a → nat_eq e.0.code 18 ≡ b → full m e.0.code ≡ false
       by true b p q = and_right (policy e.0.code) _ (few 17 valid.leaves (eqb-true e.0.code 17 p))
@@ -249,10 +249,10 @@ module _ (g : HostOf) (valid : IsValid g) where
 
 -- the place of a key among those that aren't a policy's
 abbrev rank : PartKey → ℕ
-rank k = (k.code * 4096 + k.key1) * 256 + k.key2
+rank k = (k.code * vcpu_limit + k.key1) * 256 + k.key2
 
 abbrev IsSmall : PartKey → Type 0
-IsSmall k = (k.key1 < 4096) × (k.key2 < 256)
+IsSmall k = (k.key1 < vcpu_limit) × (k.key2 < 256)
 
 small_by : (code : PartCode) (k : PartKey) → code_number code ≡ k.code → policy k.code ≡ false → (row_of code).keys k.key1 k.key2 ≡ true → IsSmall k
 small_by CpuidLeaf k is other h = absurd (true≢false (ap policy is ∙ other))

@@ -15,9 +15,10 @@ use Rattle.mig_headers.specs.declared.image_fault.ImageCause.TheVariants.{Trunca
 use Rattle.mig_headers.specs.declared.image_fault.ImageCause.TheVariants as causes
 use Rattle.mig_headers.specs.declared.image_fault.ImagePlace.{ImagePlace}
 use Rattle.mig_headers.specs.declared.image_fault.ImagePlace.TheVariants as places
-use Rattle.mig_pagetypes.specs.Limits.{most_frames, top_limit}
+use Rattle.mig_headers.specs.RecordTypes.{most_policy_entries}
+use Rattle.mig_pagetypes.specs.Limits.{most_frames, top_limit, machine_limit}
 use Rattle.mig_guest.specs.Frames.{is_type_of}
-use Rattle.mig_guest.specs.Hosts.{HostOf, machine_limit}
+use Rattle.mig_guest.specs.Hosts.{HostOf}
 use Rattle.mig_guest.specs.PartCodes.{code_of_number}
 use Rattle.mig_guest.specs.Parts.{PartMap, parts_of}
 use Rattle.mig_host.specs.HostView.{has_machine, put_frame, put_part_in}
@@ -61,7 +62,7 @@ page_causes version pfn page = (Both (Is (leaves_out version)) (Is (is_all_zero 
 
 -- the code is that of a policy's entries, of which these parts have as many as there may be
 abbrev pub full_policy : PartMap → ℕ → Test
-full_policy parts code = Both (Either (Equal code 17) (Equal code 18)) (AtMost 65536 (length (parts_of code (maps.entries parts))))
+full_policy parts code = Both (Either (Equal code 17) (Equal code 18)) (AtMost most_policy_entries (length (parts_of code (maps.entries parts))))
 
 -- the head of a host's part, behind the parts of this host: code, keys and length
 abbrev pub part_causes : HostOf → List ℕ → List (Test × ImageCause)

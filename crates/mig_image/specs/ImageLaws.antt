@@ -1,5 +1,5 @@
 -- What the pages, the order and the length of an image are, in the words of the form.
-use Rattle.std.specs.Prelude.{◌≡◌, ◌↔◌, ◌≤◌, ◌<◌, ◌+◌, ◌*◌, ◌^◌, ⊤, ℕ, Bool, true, not, List, [], ◌∷◌, length, filter, Some, is_some, ◌&&◌, slice_index}
+use Rattle.std.specs.Prelude.{◌≡◌, ◌↔◌, ◌≤◌, ◌<◌, ◌+◌, ◌*◌, ⊤, ℕ, Bool, true, not, List, [], ◌∷◌, length, filter, Some, is_some, ◌&&◌, slice_index}
 use Rattle.std.specs.List.{flat_map, AllByRecursion}
 use Rattle.std.specs.FinMap as maps
 use Rattle.mig_headers.specs.declared.kind.Kind.{Kind}
@@ -35,11 +35,11 @@ pub record IsImageIn (version : ImageVersion) (text : List ℕ) (h : HostOf) : T
   pub image : IsHostImage text h []
   pub in_version : image.version ≡ version
 
--- a valid host has exactly one of version 2, and one of version 1 exactly where its width is at most 2 ^ 28
+-- a valid host has exactly one of version 2, and one of version 1 exactly where its width isn't above the most of version 1
 pub record HostsHaveImages : Type 0 where
   pub two : (h : HostOf) → IsValid h → (text : List ℕ) × IsImageIn Two text h
-  pub one : (h : HostOf) → IsValid h → h.width ≤ 2 ^ 28 → (text : List ℕ) × IsImageIn One text h
-  pub narrow : (text : List ℕ) (h : HostOf) → IsImageIn One text h → h.width ≤ 2 ^ 28
+  pub one : (h : HostOf) → IsValid h → h.width ≤ most_width_of One → (text : List ℕ) × IsImageIn One text h
+  pub narrow : (text : List ℕ) (h : HostOf) → IsImageIn One text h → h.width ≤ most_width_of One
   pub same : (version : ImageVersion) (text other : List ℕ) (h : HostOf) → IsImageIn version text h → IsImageIn version other h → text ≡ other
 
 -- ---- the order and the length

@@ -18,8 +18,8 @@ use crate::version::ImageVersion;
 use crate::zeros::{is_all_zero, zero_page};
 use mig_bytes::{Source, Stop, take_part, u64_le};
 use mig_headers::{ImageCause, Kind};
-use mig_host::{Host, MACHINE_LIMIT};
-use mig_pagetypes::PageType;
+use mig_host::Host;
+use mig_pagetypes::{MACHINE_LIMIT, PageType};
 
 /// The number of the type in a frame's head.
 fn type_number_of(version: ImageVersion, head: &[u8; 16]) -> u64

@@ -14,7 +14,7 @@ ghost use Rattle.mig_image.specs.ImageParts.{head_version};
 use crate::version::ImageVersion;
 use mig_bytes::{Source, Stop, take_part, u32_le, u64_be, u64_le};
 use mig_headers::{ImageCause, Kind};
-use mig_pagetypes::MAX_FRAMES;
+use mig_pagetypes::MOST_FRAMES;
 
 /// "XGIMAGE1" and "XGIMAGE2", the lowest byte last.
 const NAME_ONE: u64 = 0x5847_494D_4147_4531;
@@ -22,13 +22,13 @@ const NAME_ONE: u64 = 0x5847_494D_4147_4531;
 pub(crate) const NAME_TWO: u64 = 0x5847_494D_4147_4532;
 
 /// The greatest width of a host that version 1 holds.
-const MAX_WIDTH_ONE: u64 = 1 << 28;
+const MOST_WIDTH_ONE: u64 = 1 << 28;
 
 /// The greatest width of a host that version 2 holds.
-const MAX_WIDTH_TWO: u64 = 1 << 52;
+const MOST_WIDTH_TWO: u64 = 1 << 52;
 
 /// The greatest width of a PV host.
-const MAX_PV_WIDTH: u64 = 1 << 32;
+const MOST_PV_WIDTH: u64 = 1 << 32;
 
 /// The version of an image with this head.
 pub(crate) fn version_in(head: &[u8; 32]) -> ImageVersion
@@ -46,8 +46,8 @@ fn is_above_version(version: ImageVersion, width: u64) -> bool
     ensures { result ≡ nat_lt (most_width_of version) width }
 {
     match version {
-        ImageVersion::One => width > MAX_WIDTH_ONE,
-        ImageVersion::Two => width > MAX_WIDTH_TWO,
+        ImageVersion::One => width > MOST_WIDTH_ONE,
+        ImageVersion::Two => width > MOST_WIDTH_TWO,
     }
 }
 
@@ -78,11 +78,11 @@ fn head_fault(widest: u64, head: &[u8; 32]) -> Option<ImageCause>
     let (width, frames) = (u64_le(head, 16), u64_le(head, 24));
     if width > widest
         || is_above_version(version_in(head), width)
-        || (kind == 1 && (width == 0 || width > MAX_PV_WIDTH))
+        || (kind == 1 && (width == 0 || width > MOST_PV_WIDTH))
     {
         return Some(ImageCause::Width(width));
     }
-    if frames > MAX_FRAMES || frames > width {
+    if frames > MOST_FRAMES || frames > width {
         return Some(ImageCause::FrameCount(frames));
     }
     None

@@ -8,6 +8,7 @@ ghost use Rattle.mig_bytes.specs.declared.stop.Stop.TheVariants.{Memory};
 ghost use Rattle.mig_bytes_form.specs.Form.{judged_as};
 ghost use Rattle.mig_bytes_form.specs.Tests.{first_named, is_passed};
 ghost use Rattle.mig_headers.specs.declared.kind.Kind.TheVariants.{Pv};
+ghost use Rattle.mig_headers.specs.RecordTypes.{most_policy_entries};
 ghost use Rattle.mig_guest.specs.Hosts.{IsValid};
 ghost use Rattle.mig_guest.specs.PartCodes.{code_of_number};
 ghost use Rattle.mig_guest.specs.Parts.{PartMap};
@@ -17,13 +18,10 @@ ghost use Rattle.mig_image.specs.PartCounts.{Counts};
 
 use mig_bytes::{Source, Stop, pad_len, take_long, take_part, u32_le};
 use mig_guest::{EMULATOR_PAIRS, PartCode, PartKey};
-use mig_headers::{ImageCause, ImagePlace, Kind};
+use mig_headers::{ImageCause, ImagePlace, Kind, MOST_POLICY_ENTRIES};
 use mig_host::Host;
 use mig_policy::canonical_pairs;
 use std::alloc::Global;
-
-/// The most entries of a policy.
-const MAX_ENTRIES: u64 = 65536;
 
 /// The codes of the policies' entries.
 const CPUID_LEAF: u32 = 17;
@@ -42,14 +40,14 @@ impl Entries {
     fn is_full(self, code: u32) -> bool
         ensures { (parts : PartMap) → Counts self parts → result ≡ is_passed (full_policy parts code) }
     {
-        (code == CPUID_LEAF && self.leaves >= MAX_ENTRIES)
-            || (code == MSR && self.msrs >= MAX_ENTRIES)
+        (code == CPUID_LEAF && self.leaves >= u64::from(MOST_POLICY_ENTRIES))
+            || (code == MSR && self.msrs >= u64::from(MOST_POLICY_ENTRIES))
     }
 
     /// Counts a part of this code.
     fn count(&mut self, code: u32)
-        requires leaves { code ≡ 17 → self.old.leaves < 65536 }
-        requires msrs { code ≡ 18 → self.old.msrs < 65536 }
+        requires leaves { code ≡ 17 → self.old.leaves < most_policy_entries }
+        requires msrs { code ≡ 18 → self.old.msrs < most_policy_entries }
         ensures leaves { self.new.leaves ≡ (if code == 17 then self.old.leaves + 1 else self.old.leaves) }
         ensures msrs { self.new.msrs ≡ (if code == 18 then self.old.msrs + 1 else self.old.msrs) }
     {

@@ -1,7 +1,7 @@
 -- The bodies of chunks: those that pass are those that are spelled.
 use Rattle.mig_bytes_form.proofs.Tests.{is_none, none_is}
 use Rattle.mig_bytes_form.proofs.Verdicts.{begins_passes, passes_is_spelled}
-use Rattle.mig_legacy.proofs.Common.{◌≡◌, ℕ, ◌+◌, ◌*◌, ◌/◌, ◌<◌, ◌≤◌, ◌^◌, List, [], ◌++◌, length, take, drop, Option, Some, None, refl, sym, ap, subst, ◌∙◌, arith, take-append-drop, drop-drop, length-append, length-drop, length-take-le, flat_map, option_map, drop_at, take_at, le32, both_none, neither_some, LegacyCause, Truncated, BadToolstack, emulators_of, most_pairs, ChunkKind, End, Batch, VcpuMap, Tsc, LastCheckpoint, Toolstack, Param, toolstack, toolstack_fault, BeginsAs, SpelledAs, nothing, one_part, Given, NoneHolds, first_named, plain_form, max_causes, toolstack_causes, batch_form, vcpus_form, clock_of, clock_form, value_form, toolstack_form, content_form, pairs_of_toolstack, spelled_with, LegacyContent, LegacyChunk, store_records, store_key, Nothing, Frames, Value, Clock, Pairs, HasLegacyContent, StoreFits, IsCounted, pairs_of_physmap, Physmap, IsToolstack}
+use Rattle.mig_legacy.proofs.Common.{◌≡◌, ℕ, ◌+◌, ◌*◌, ◌/◌, ◌<◌, ◌≤◌, List, [], ◌++◌, length, take, drop, Option, Some, None, refl, sym, ap, subst, ◌∙◌, arith, take-append-drop, drop-drop, length-append, length-drop, length-take-le, flat_map, option_map, drop_at, take_at, le32, both_none, neither_some, LegacyCause, Truncated, BadToolstack, emulators_of, most_pairs, ChunkKind, End, Batch, VcpuMap, Tsc, LastCheckpoint, Toolstack, Param, toolstack, toolstack_fault, BeginsAs, SpelledAs, nothing, one_part, Given, NoneHolds, first_named, plain_form, max_causes, toolstack_causes, batch_form, vcpus_form, clock_of, clock_form, value_form, toolstack_form, content_form, pairs_of_toolstack, spelled_with, LegacyContent, LegacyChunk, store_records, store_key, Nothing, Frames, Value, Clock, Pairs, HasLegacyContent, StoreFits, IsCounted, pairs_of_physmap, Physmap, IsToolstack, vcpu_limit, most_body}
 use Rattle.mig_legacy.specs.Spelled.HasLegacyContent.{ends, batch, vcpus, clock, last_checkpoint, toolstack as a_toolstack, value}
 use Rattle.mig_legacy.proofs.Batches.{batch_passes, batch_goes}
 use Rattle.mig_legacy.proofs.Parts.{not_less, not_most, said_spelled, spelled_said, spelled_counted, counted_spelled, toolstack_named, too_many}
@@ -29,7 +29,7 @@ none_says chunks kind _ _ says (nothing _) = (says, tt)
 vcpus_say : (chunks : List LegacyChunk) (c : LegacyContent) (bytes : List ℕ) → SpelledAs vcpus_form bytes c → Says chunks VcpuMap bytes c
 vcpus_say chunks c _ (one_part _ _ _ _ max bits _ four small behind) =
     let (size, none, is) = spelled_said (8 * (le32 max 0 / 64 + 1)) (λ _. []) (λ _. Nothing) bits c behind in
-    subst (Says chunks VcpuMap (max ++ bits)) is (vcpus max bits four (not_most 4096 (le32 max 0) small.0) size, tt)
+    subst (Says chunks VcpuMap (max ++ bits)) is (vcpus max bits four (not_most vcpu_limit (le32 max 0) small.0) size, tt)
 
 clock_parts : (bytes : List ℕ) → length bytes ≡ 20 → bytes ≡ take 4 bytes ++ (take 8 (drop 4 bytes) ++ (take 4 (drop 12 bytes) ++ drop 16 bytes))
 clock_parts bytes size =
@@ -61,7 +61,7 @@ unmapped {X} {Y} f (Some x) h = let no : ◌≡◌ {A = Option Y} (Some (f x)) N
 toolstack_says : (chunks : List LegacyChunk) (c : LegacyContent) (bytes : List ℕ) → SpelledAs (toolstack_form (emulators_of (store_records chunks))) bytes c → Says chunks Toolstack bytes c
 toolstack_says chunks c bytes spelled =
     let e = emulators_of (store_records chunks) in
-    let p = spelled_counted (2 ^ 27) (toolstack_causes e) (λ body. Pairs (pairs_of_toolstack body)) bytes c spelled in
+    let p = spelled_counted most_body (toolstack_causes e) (λ body. Pairs (pairs_of_toolstack body)) bytes c spelled in
     let both = both_none (option_map BadToolstack (toolstack_fault p.bytes)) (first_named (too_many e p.bytes)) (sym (toolstack_named e p.bytes) ∙ none_is (toolstack_causes e p.bytes) p.fine) in
     let is = (toolstack_spelled p.bytes).faultless (unmapped BadToolstack (toolstack_fault p.bytes) both.0) in
     subst (Says chunks Toolstack bytes) p.value (a_toolstack bytes p.bytes (toolstack p.bytes) p.is is, not_less most_pairs (spelled_with e store_key (pairs_of_toolstack p.bytes)) (is_none (too_many e p.bytes) both.1).0)
@@ -77,9 +77,9 @@ body_says chunks (Param index) i c rest begins = body_of chunks (Param index) i 
 
 -- ---- what is spelled passes
 
-vcpus_go : (max bits : List ℕ) → length max ≡ 4 → le32 max 0 < 4096 → length bits ≡ 8 * (le32 max 0 / 64 + 1) → SpelledAs vcpus_form (max ++ bits) Nothing
+vcpus_go : (max bits : List ℕ) → length max ≡ 4 → le32 max 0 < vcpu_limit → length bits ≡ 8 * (le32 max 0 / 64 + 1) → SpelledAs vcpus_form (max ++ bits) Nothing
 vcpus_go max bits four small size =
-    let none : NoneHolds (max_causes max) = (λ (high : 4096 ≤ le32 max 0). omega (arith, high, small), tt) in
+    let none : NoneHolds (max_causes max) = (λ (high : vcpu_limit ≤ le32 max 0). omega (arith, high, small), tt) in
     one_part 4 Truncated max_causes (λ m. plain_form (8 * (le32 m 0 / 64 + 1)) (λ _. Nothing)) max bits Nothing four none (said_spelled (8 * (le32 max 0 / 64 + 1)) (λ _. []) (λ _. Nothing) bits size tt)
 
 module _ (mode nanoseconds frequency incarnation : List ℕ) (four : length mode ≡ 4) (eight : length nanoseconds ≡ 8) (next : length frequency ≡ 4) (last : length incarnation ≡ 4) where
@@ -114,7 +114,7 @@ value_goes : (index : ℕ) (pad bytes : List ℕ) → length pad ≡ 4 → lengt
 value_goes index pad bytes four eight =
     subst (λ l. SpelledAs (value_form index) (pad ++ bytes) (Value index l)) (drop_at pad bytes 4 four) (said_spelled 12 (λ _. []) (λ l. Value index (drop 4 l)) (pad ++ bytes) (omega (arith, length-append pad bytes, four, eight)) tt)
 
-toolstack_goes : (chunks : List LegacyChunk) (text body : List ℕ) (es : List Physmap) → IsCounted (2 ^ 27) text body → IsToolstack body es → StoreFits chunks (Pairs (flat_map pairs_of_physmap es))
+toolstack_goes : (chunks : List LegacyChunk) (text body : List ℕ) (es : List Physmap) → IsCounted most_body text body → IsToolstack body es → StoreFits chunks (Pairs (flat_map pairs_of_physmap es))
     → SpelledAs (toolstack_form (emulators_of (store_records chunks))) text (Pairs (flat_map pairs_of_physmap es))
 toolstack_goes chunks text body es counted is fits =
     let e = emulators_of (store_records chunks) in
@@ -122,7 +122,7 @@ toolstack_goes chunks text body es counted is fits =
     let same : pairs_of_toolstack body ≡ flat_map pairs_of_physmap es = ap (flat_map pairs_of_physmap) found.1 in
     let room : NoneHolds (too_many e body) = (λ (many : most_pairs < spelled_with e store_key (pairs_of_toolstack body)). let few = subst (λ ps. spelled_with e store_key ps ≤ most_pairs) (sym same) fits in omega (arith, many, few), tt) in
     let fine = toolstack_named e body ∙ neither_some (option_map BadToolstack (toolstack_fault body)) (first_named (too_many e body)) (ap (option_map BadToolstack) found.0) (none_is (too_many e body) room) in
-    subst (λ ps. SpelledAs (toolstack_form e) text (Pairs ps)) same (counted_spelled (2 ^ 27) (toolstack_causes e) (λ l. Pairs (pairs_of_toolstack l)) text body counted (is_none (toolstack_causes e body) fine))
+    subst (λ ps. SpelledAs (toolstack_form e) text (Pairs ps)) same (counted_spelled most_body (toolstack_causes e) (λ l. Pairs (pairs_of_toolstack l)) text body counted (is_none (toolstack_causes e body) fine))
 
 pub body_goes : (chunks : List LegacyChunk) (kind : ChunkKind) (body : List ℕ) (c : LegacyContent) (rest : List ℕ) → HasLegacyContent kind body c → StoreFits chunks c → BeginsAs (content_form chunks kind) (body ++ rest) c rest
 body_goes chunks _ _ _ rest ends fits = ([], refl, nothing Nothing)

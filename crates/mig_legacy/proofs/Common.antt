@@ -22,6 +22,7 @@ pub use Rattle.mig_guest.specs.Guests.{GuestOf}
 pub use Rattle.mig_guest.specs.Order.{part_cmp}
 pub use Rattle.mig_guest.specs.PartKeys.{context_key, p2m_key}
 pub use Rattle.mig_guest.specs.declared.part_key.PartKey.{PartKey}
+pub use Rattle.mig_guest.specs.Limits.{most_pairs}
 pub use Rattle.mig_headers.proofs.ContextTexts.{contexts_are_spelled}
 pub use Rattle.mig_headers.proofs.FirstFaults.{no_fault, rows_fine, both_none, neither_some}
 pub use Rattle.mig_headers.specs.Contexts.{scan, cut_at}
@@ -33,6 +34,7 @@ pub use Rattle.mig_headers.specs.declared.legacy_fault.LegacyCause.{LegacyCause}
 pub use Rattle.mig_headers.specs.declared.legacy_fault.LegacyCause.TheVariants.{Truncated, BodyTooLong, Modern, Tools32, BadContext, BadSignature, TooManyPairs, BadVcpuMax, BadToolstack}
 pub use Rattle.mig_headers.specs.declared.legacy_fault.LegacyPlace.{LegacyPlace}
 pub use Rattle.mig_headers.specs.declared.legacy_fault.LegacyPlace.TheVariants.{Start, Tail, Device, Chunk}
+pub use Rattle.mig_headers.specs.RecordTypes.{most_policy_entries, vcpu_limit, most_body}
 pub use Rattle.mig_legacy.specs.Batches.{is_reserved, is_high, fault_of_batch, batch_rows, page_data_words, page_data_word, page_data_words_of}
 unfoldable pub use Rattle.mig_legacy.specs.Chunks.{kind_of}
 pub use Rattle.mig_legacy.specs.Chunks.{IsNumberOf, number_causes, kind_numbered, unless_caused}
@@ -55,10 +57,11 @@ pub use Rattle.mig_legacy.specs.declared.read.ChunksSeen.{ChunksSeen}
 pub use Rattle.mig_libxl_form.proofs.Formed.{store_small, pairs_kept, context_kept}
 pub use Rattle.mig_libxl_form.proofs.EmulatorGuests.{part_there, guest_done}
 unfoldable pub use Rattle.mig_libxl_form.specs.Emulators.{emulators_of}
-pub use Rattle.mig_libxl_form.specs.Emulators.{EmulatorsOf, put_libxl_content, no_emulators, with_emulators, store_at, add_pairs, last_context, most_pairs, spelled_with}
+pub use Rattle.mig_libxl_form.specs.Emulators.{EmulatorsOf, put_libxl_content, no_emulators, with_emulators, store_at, add_pairs, last_context, spelled_with}
 pub use Rattle.mig_libxl_form.specs.Formed.{AreEmulators}
 pub use Rattle.mig_pagetypes.specs.FrameWords.{word_pfn, word_type}
 pub use Rattle.mig_pagetypes.specs.LegacyWords.{legacy_type, legacy_pfn, placeholder}
+pub use Rattle.mig_pagetypes.specs.Limits.{most_frames}
 pub use Rattle.mig_policy.specs.PairFaults.{pairs_fault}
 pub use Rattle.mig_policy.specs.PairMaps.{PairMap, put_pair, put_pairs, text_of_map, pairs_in}
 pub use Rattle.mig_pvtables.specs.Blank.{blank_of, blank, IsOfBytes}

@@ -1,6 +1,6 @@
 -- What the body of a batch, or of a toolstack, makes of what a reader keeps: it leaves the emulators, or the guest, as they were.
 use Rattle.mig_bytes_form.proofs.Verdicts.{passes_is_spelled}
-use Rattle.mig_legacy.proofs.Common.{◌≡◌, ℕ, ◌^◌, List, Option, Some, None, Result, Ok, Err, refl, sym, subst, ◌∙◌, Judged, Passes, Gives, Stop, LegacyCause, ChunkKind, Batch, Toolstack, ChunksSeen, EmulatorsOf, GuestOf, emulators_of, judged_as, toolstack_causes, pairs_of_toolstack, batch_form, toolstack_form, content_form, LegacyContent, LegacyChunk, Pairs, store_records, put_in_guest, put_in_emulators, TakesLegacy}
+use Rattle.mig_legacy.proofs.Common.{◌≡◌, ℕ, List, Option, Some, None, Result, Ok, Err, refl, sym, subst, ◌∙◌, Judged, Passes, Gives, Stop, LegacyCause, ChunkKind, Batch, Toolstack, ChunksSeen, EmulatorsOf, GuestOf, emulators_of, judged_as, toolstack_causes, pairs_of_toolstack, batch_form, toolstack_form, content_form, LegacyContent, LegacyChunk, Pairs, store_records, put_in_guest, put_in_emulators, TakesLegacy, most_body}
 use Rattle.mig_bytes.specs.declared.stop.Stop.TheVariants.{Refused, ReadFault, Memory}
 use Rattle.mig_legacy.proofs.Batches.{batch_passes}
 use Rattle.mig_legacy.proofs.Parts.{spelled_counted}
@@ -20,7 +20,7 @@ batch_leaves e n i c rest h = let b = batch_passes n i c rest h in subst (λ x. 
 toolstack_leaves : (g : GuestOf) (e : EmulatorsOf) (i : List ℕ) (c : LegacyContent) (rest : List ℕ) → judged_as (toolstack_form e) i ≡ Passes c rest → put_in_guest g c ≡ g
 toolstack_leaves g e i c rest h =
     let (bytes, whole, spelled) = passes_is_spelled (toolstack_form e) i c rest h in
-    let counted = spelled_counted (2 ^ 27) (toolstack_causes e) (λ b. Pairs (pairs_of_toolstack b)) bytes c spelled in
+    let counted = spelled_counted most_body (toolstack_causes e) (λ b. Pairs (pairs_of_toolstack b)) bytes c spelled in
     subst (λ x. put_in_guest g x ≡ g) counted.value refl
 
 module _ (old new : ChunksSeen) (chunks : List LegacyChunk) (kind : ChunkKind) (a b : Option (List ℕ)) (r : Result (Unit {0}) (Stop LegacyCause)) (count : new.chunks ≡ old.chunks) (requests : new.requests ≡ old.requests) (buffered : new.buffered ≡ old.buffered) where

@@ -1,5 +1,5 @@
 -- The pairs of a toolstack's data are of bytes where the data are, and leave emulators well formed.
-use Rattle.mig_legacy.proofs.Common.{◌≡◌, ℕ, ◌<◌, ◌≤◌, ◌^◌, true, List, [], ◌∷◌, ◌++◌, Option, Some, None, refl, sym, ap, subst, arith, get_or, eqb-true, common_steps, flat_map, All, All-nil, All-cons, All-append, All-head, All-tail, AreBytes, Pair, pairs_kept, EmulatorsOf, add_pairs, AreEmulators, most_pairs, spelled_with, store_key, pairs_of_physmap, Physmap, IsToolstack}
+use Rattle.mig_legacy.proofs.Common.{◌≡◌, ℕ, ◌<◌, ◌≤◌, true, List, [], ◌∷◌, ◌++◌, Option, Some, None, refl, sym, ap, subst, arith, get_or, eqb-true, common_steps, flat_map, All, All-nil, All-cons, All-append, All-head, All-tail, AreBytes, Pair, pairs_kept, EmulatorsOf, add_pairs, AreEmulators, most_pairs, spelled_with, store_key, pairs_of_physmap, Physmap, IsToolstack}
 use Rattle.std.specs.List.{AllByRecursion}
 use Rattle.std.specs.Prelude.{codes}
 use Rattle.std.proofs.lemmas.List.Elements.{All-from_recursion, All-get_or, All-weaker}
@@ -81,4 +81,4 @@ toolstack_kept e body es are is fits all =
     let read = spelled_read text ps (record { each = each; spelled = refl }) in
     let values = values_bytes is.rest es is.each (bytes_back is.head is.rest (subst AreBytes is.whole all)) in
     pairs_kept e (add_pairs e store_key ps) text 0 0 are (omega arith) (omega arith) (ap (add_pairs e store_key) (sym read.1)) read.0
-    (subst (λ n. n ≤ 2 ^ 24) (ap (λ qs. spelled_with e store_key qs) (sym read.1)) fits) (text_bytes ps each values)
+    (subst (λ n. n ≤ most_pairs) (ap (λ qs. spelled_with e store_key qs) (sym read.1)) fits) (text_bytes ps each values)

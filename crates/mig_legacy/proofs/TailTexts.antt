@@ -2,7 +2,7 @@
 use Rattle.mig_bytes_form.proofs.Joined.{bytes_spelled}
 use Rattle.mig_bytes_form.proofs.Tests.{computed_is, is_none, none_is}
 use Rattle.mig_bytes_form.proofs.Verdicts.{passes_is_spelled, spelled_passes}
-use Rattle.mig_legacy.proofs.Common.{◌≡◌, ℕ, ◌-◌, ◌<◌, ◌^◌, List, [], ◌∷◌, ◌++◌, length, take, drop, Option, Some, None, Result, Ok, Err, inl, inr, refl, sym, ap, subst, ◌∙◌, arith, append_assoc, take-append-drop, drop-drop, length-append, length-drop, length-take-le, drop_at, take_at, le32, Passes, same_passes, contexts_are_spelled, cut_at, scan, ContextFault, LegacyCause, Truncated, BadContext, context_fault, cut_context, tail_of, signature, judged_as, SpelledAs, one_part, Test, NoneHolds, computed, start_causes, signature_causes, start_form, tail_form, device_form, counted_form, device_at, LegacyTail, IsStart, IsTail, IsDevice}
+use Rattle.mig_legacy.proofs.Common.{◌≡◌, ℕ, ◌-◌, ◌<◌, List, [], ◌∷◌, ◌++◌, length, take, drop, Option, Some, None, Result, Ok, Err, inl, inr, refl, sym, ap, subst, ◌∙◌, arith, append_assoc, take-append-drop, drop-drop, length-append, length-drop, length-take-le, drop_at, take_at, le32, Passes, same_passes, contexts_are_spelled, cut_at, scan, ContextFault, LegacyCause, Truncated, BadContext, context_fault, cut_context, tail_of, signature, judged_as, SpelledAs, one_part, Test, NoneHolds, computed, start_causes, signature_causes, start_form, tail_form, device_form, counted_form, device_at, LegacyTail, IsStart, IsTail, IsDevice, most_body}
 use Rattle.std.specs.Str.{bytes_eq}
 use Rattle.std.proofs.lemmas.Slice.Eq.{bytes_eq-Decides}
 use Rattle.mig_legacy.proofs.Parts.{not_other, not_untrue, said_spelled, spelled_counted, counted_spelled}
@@ -44,7 +44,7 @@ tail_rows context = computed (context_fault (scan context))
 tail_says : (bytes : List ℕ) (t : LegacyTail) → SpelledAs tail_form bytes t → IsTail bytes t
 unfolding tail_form
 tail_says _ t (one_part _ _ _ _ frames text _ size _ behind) =
-    let c = spelled_counted (2 ^ 27) tail_rows (tail_of frames) text t behind in
+    let c = spelled_counted most_body tail_rows (tail_of frames) text t behind in
     let (end, ends) = ended_context (scan c.bytes) (sym (computed_is (context_fault (scan c.bytes))) ∙ none_is (tail_rows c.bytes) c.fine) in
     let (entries, is, at) = (contexts_are_spelled c.bytes end).0 ends in
     let this : IsTail (frames ++ text) (tail_of frames c.bytes) = record {
@@ -92,7 +92,7 @@ module _ (bytes : List ℕ) (t : LegacyTail) (is : IsTail bytes t) where
       let size : length frames ≡ 24 = omega (arith, length-append t.requests (t.buffered ++ t.store), length-append t.buffered t.store, is.requests_len, is.buffered_len, is.store_len) in
       let none = is_none (tail_rows is.context) (computed_is (context_fault (scan is.context)) ∙ ap context_fault ends) in
       let spelled : SpelledAs tail_form (frames ++ is.text) (tail_of frames is.context) =
-      one_part 24 Truncated (λ _. []) (λ f. counted_form (2 ^ 27) tail_rows (tail_of f)) frames is.text (tail_of frames is.context) size tt (counted_spelled (2 ^ 27) tail_rows (tail_of frames) is.text is.context is.counted none) in
+      one_part 24 Truncated (λ _. []) (λ f. counted_form most_body tail_rows (tail_of f)) frames is.text (tail_of frames is.context) size tt (counted_spelled most_body tail_rows (tail_of frames) is.text is.context is.counted none) in
       spelled_passes tail_form bytes t rest (subst (λ (x : LegacyTail). SpelledAs tail_form bytes x) tail_is (subst (λ l. SpelledAs tail_form l (tail_of frames is.context)) (sym (is.whole ∙ sym (joined t.requests t.buffered t.store is.text))) spelled))
 
 -- ---- the device model's record
@@ -104,7 +104,7 @@ pub record Device (i : List ℕ) (d : Option (List ℕ)) (rest : List ℕ) : Typ
 
 record_says : (bytes : List ℕ) (d : Option (List ℕ)) (rest : List ℕ) → SpelledAs device_form bytes d → IsDevice bytes d rest
 record_says _ d rest (one_part _ _ _ _ first text _ size none behind) =
-    let c = spelled_counted (2 ^ 27 - 8) (λ _. []) Some text d behind in
+    let c = spelled_counted (most_body - 8) (λ _. []) Some text d behind in
     let same : first ≡ signature = (bytes_eq-Decides first signature).0 (not_untrue (bytes_eq first signature) none.0) in
     subst (λ x. IsDevice (first ++ text) x rest) c.value (text, ap (λ l. l ++ text) same, c.is)
 
@@ -128,7 +128,7 @@ device_goes bytes (Some content) rest (text, whole, counted) =
     let some : 0 < length (bytes ++ rest) = omega (arith, length-append bytes rest, ap length whole, length-append signature text, signature_len) in
     let none : NoneHolds (signature_causes signature) = (λ other. other ((bytes_eq-Decides signature signature).1 refl), tt) in
     let spelled : SpelledAs device_form (signature ++ text) (Some content) =
-    one_part (length signature) Truncated signature_causes (λ _. counted_form (2 ^ 27 - 8) (λ _. []) Some) signature text (Some content) refl none (counted_spelled (2 ^ 27 - 8) (λ _. []) Some text content counted tt) in
+    one_part (length signature) Truncated signature_causes (λ _. counted_form (most_body - 8) (λ _. []) Some) signature text (Some content) refl none (counted_spelled (most_body - 8) (λ _. []) Some text content counted tt) in
     some_device (bytes ++ rest) some ∙ spelled_passes device_form bytes (Some content) rest (subst (λ l. SpelledAs device_form l (Some content)) (sym whole) spelled)
   where
     signature_len : length signature ≡ 21

@@ -1,6 +1,6 @@
 -- The tail: how it is read, and that a guest with it is whole.
 use Rattle.mig_records.proofs.Kept.{cut_is}
-use Rattle.mig_legacy.proofs.Common.{◌≡◌, ℕ, ◌<◌, ◌≤◌, ◌^◌, List, length, take, drop, Option, Result, Ok, Err, refl, sym, ap, subst, ◌∙◌, arith, length-take-le, length-drop, IsOk, IfOk, IsSome, replicate, false≢true, All-append, All-take, All-drop, All-replicate, AreBytes, Judged, ◌>>=◌, part, tried, Gives, said_at, Passes, Stop, then_reads, scan, cut_at, ContextFault, Hvm, LegacyCause, Truncated, IsCut, width_of, GuestOf, context_key, PartKey, part_total, blank_of, IsBegun, IsStreamedBare, judged_as, Test, computed, length_form, counted_form, context_fault, cut_context, tail_of, tail_form, LegacyTail, param_key, put_tail}
+use Rattle.mig_legacy.proofs.Common.{◌≡◌, ℕ, ◌<◌, ◌≤◌, List, length, take, drop, Option, Result, Ok, Err, refl, sym, ap, subst, ◌∙◌, arith, length-take-le, length-drop, IsOk, IfOk, IsSome, replicate, false≢true, All-append, All-take, All-drop, All-replicate, AreBytes, Judged, ◌>>=◌, part, tried, Gives, said_at, Passes, Stop, then_reads, scan, cut_at, ContextFault, Hvm, LegacyCause, Truncated, IsCut, width_of, GuestOf, context_key, PartKey, part_total, blank_of, IsBegun, IsStreamedBare, judged_as, Test, computed, length_form, counted_form, context_fault, cut_context, tail_of, tail_form, LegacyTail, param_key, put_tail, most_body}
 use Rattle.std.specs.FinMap as maps
 use Rattle.mig_guest.specs.Frames.{IsFew}
 use Rattle.mig_restore_form.proofs.Laws.{complete_faultless}
@@ -20,18 +20,18 @@ tail_rows context = computed (context_fault (scan context))
 
 -- what follows the frame numbers
 abbrev pub behind_frames : List ℕ × List ℕ → Judged LegacyCause LegacyTail
-behind_frames frames = judged_as (counted_form (2 ^ 27) tail_rows (tail_of frames.0)) frames.1
+behind_frames frames = judged_as (counted_form most_body tail_rows (tail_of frames.0)) frames.1
 
 pub tail_parts : (n : ℕ) → n ≡ 24 → (i : List ℕ) → judged_as tail_form i ≡ (part Truncated n i >>= behind_frames)
 unfolding tail_form judged_as
 tail_parts n is i = ap (λ k. part Truncated k i >>= behind_frames) (sym is)
 
-context_is : (frames : List ℕ) (n : ℕ) (i : List ℕ) → behind_length (2 ^ 27) tail_rows (tail_of frames) (n, i) ≡ context_at frames n i
+context_is : (frames : List ℕ) (n : ℕ) (i : List ℕ) → behind_length most_body tail_rows (tail_of frames) (n, i) ≡ context_at frames n i
 unfolding judged_as
 context_is frames n i = λ at. part Truncated n i >>= λ b. tried (computed_is (context_fault (scan b.0)) at) b.1 >>= λ _. Passes (tail_of frames b.0) b.1
 
-pub counted_parts : (frames i : List ℕ) → behind_frames (frames, i) ≡ (judged_as (length_form (2 ^ 27)) i >>= λ len. context_at frames len.0 len.1)
-counted_parts frames i = counted_is (2 ^ 27) tail_rows (tail_of frames) i ∙ (λ at. judged_as (length_form (2 ^ 27)) i >>= λ len. context_is frames len.0 len.1 at)
+pub counted_parts : (frames i : List ℕ) → behind_frames (frames, i) ≡ (judged_as (length_form most_body) i >>= λ len. context_at frames len.0 len.1)
+counted_parts frames i = counted_is most_body tail_rows (tail_of frames) i ∙ (λ at. judged_as (length_form most_body) i >>= λ len. context_is frames len.0 len.1 at)
 
 module _ {V : Type 0} (Q : V → LegacyTail → Type 0) (n : ℕ) (size : n ≡ 24) (frames : List ℕ) (a b : Option (List ℕ)) (told : Gives {X = Unit {0}} (λ _ bytes. bytes ≡ frames) a b (part Truncated n) (Ok tt)) where
   -- behind the frame numbers
@@ -40,9 +40,9 @@ module _ {V : Type 0} (Q : V → LegacyTail → Type 0) (n : ℕ) (size : n ≡ 
       then_reads (λ _ bytes. bytes ≡ frames) Q a b d (part Truncated n) (judged_as tail_form) behind_frames tt r (tail_parts n size) told (λ bytes is. subst (λ l. Gives Q b d (λ i. behind_frames (l, i)) r) (sym is) read)
 
   -- behind the length too
-  pub counted : (c d : Option (List ℕ)) (len : ℕ) (r : Result V (Stop LegacyCause)) → Gives {X = ℕ} (λ len n. n ≡ len) b c (judged_as (length_form (2 ^ 27))) (Ok len) → Gives Q c d (context_at frames len) r → Gives Q a d (judged_as tail_form) r
+  pub counted : (c d : Option (List ℕ)) (len : ℕ) (r : Result V (Stop LegacyCause)) → Gives {X = ℕ} (λ len n. n ≡ len) b c (judged_as (length_form most_body)) (Ok len) → Gives Q c d (context_at frames len) r → Gives Q a d (judged_as tail_form) r
   counted c d len r counts read =
-      framed d r (then_reads (λ len n. n ≡ len) Q b c d (judged_as (length_form (2 ^ 27))) (λ i. behind_frames (frames, i)) (λ len. context_at frames len.0 len.1) len r (counted_parts frames) counts (λ m is. subst (λ k. Gives Q c d (context_at frames k) r) (sym is) read))
+      framed d r (then_reads (λ len n. n ≡ len) Q b c d (judged_as (length_form most_body)) (λ i. behind_frames (frames, i)) (λ len. context_at frames len.0 len.1) len r (counted_parts frames) counts (λ m is. subst (λ k. Gives Q c d (context_at frames k) r) (sym is) read))
 
 -- ---- what is set
 
@@ -66,7 +66,7 @@ module _ (frames context : List ℕ) where
 cut_bytes : (body : List ℕ) (o : ℕ) → AreBytes body → AreBytes (cut_at body o)
 cut_bytes body o are = All-append (λ b. b < 256) (take o body) (replicate 8 0) (All-take (λ b. b < 256) o body are) (All-replicate (λ b. b < 256) 8 0 (omega arith))
 
-module _ (g : GuestOf) (frames context : List ℕ) (end : ℕ) (hvm : g.kind ≡ Hvm) (len : length frames ≡ 24) (are : AreBytes frames) (are_too : AreBytes context) (found : scan context ≡ Ok end) (short : length context ≤ 2 ^ 27) where
+module _ (g : GuestOf) (frames context : List ℕ) (end : ℕ) (hvm : g.kind ≡ Hvm) (len : length frames ≡ 24) (are : AreBytes frames) (are_too : AreBytes context) (found : scan context ≡ Ok end) (short : length context ≤ most_body) where
   abbrev b1 : List ℕ
   b1 = take 8 frames
 
@@ -91,7 +91,7 @@ module _ (g : GuestOf) (frames context : List ℕ) (end : ℕ) (hvm : g.kind ≡
   abbrev g4 : GuestOf
   g4 = record g { parts = maps.insert g3.parts context_key b4 }
 
-  cut : (length b4 ≤ 2 ^ 27) × IsCut b4
+  cut : (length b4 ≤ most_body) × IsCut b4
   cut = cut_is context end found short
 
   len1 : length b1 ≡ 8

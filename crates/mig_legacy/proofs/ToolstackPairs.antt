@@ -1,5 +1,5 @@
 -- What the data of a toolstack add to the device model's store.
-use Rattle.mig_legacy.proofs.Common.{◌≡◌, ℕ, ◌≤◌, ◌<◌, ◌^◌, List, length, nat_lt, true, false, Some, None, refl, sym, ap, subst, ◌∙◌, lt-ltb, le-ltb, TooManyPairs, pairs_fault, pairs_in, put_pairs, text_of_map, EmulatorsOf, store_at, add_pairs, most_pairs, toolstack, toolstack_fault, pairs_of_toolstack, first_named, toolstack_causes, spelled_with, store_key, Pairs, put_in_emulators, text_of_physmaps}
+use Rattle.mig_legacy.proofs.Common.{◌≡◌, ℕ, ◌≤◌, ◌<◌, List, length, nat_lt, true, false, Some, None, refl, sym, ap, subst, ◌∙◌, lt-ltb, le-ltb, TooManyPairs, pairs_fault, pairs_in, put_pairs, text_of_map, EmulatorsOf, store_at, add_pairs, most_pairs, toolstack, toolstack_fault, pairs_of_toolstack, first_named, toolstack_causes, spelled_with, store_key, Pairs, put_in_emulators, text_of_physmaps}
 use Rattle.mig_legacy.proofs.Parts.{toolstack_named}
 use Rattle.mig_policy.proofs.KeyLaws.{spelled_read}
 use Rattle.mig_legacy.proofs.PhysmapPairs.{physmaps_spell}
@@ -17,11 +17,11 @@ module _ (e : EmulatorsOf) (body text : List ℕ) (none : toolstack_fault body �
   same_size : size ≡ spelled_with e store_key (pairs_of_toolstack body)
   same_size = ap (λ ps. spelled_with e store_key ps) spelled.1
 
-  pub toolstack_fits : size ≤ 2 ^ 24 → first_named (toolstack_causes e body) ≡ None
-  toolstack_fits fits = let room : nat_lt most_pairs (spelled_with e store_key (pairs_of_toolstack body)) ≡ false = le-ltb _ _ (subst (λ n. n ≤ 2 ^ 24) same_size fits) in toolstack_named e body ∙ rw (none, room) refl
+  pub toolstack_fits : size ≤ most_pairs → first_named (toolstack_causes e body) ≡ None
+  toolstack_fits fits = let room : nat_lt most_pairs (spelled_with e store_key (pairs_of_toolstack body)) ≡ false = le-ltb _ _ (subst (λ n. n ≤ most_pairs) same_size fits) in toolstack_named e body ∙ rw (none, room) refl
 
-  pub toolstack_over : 2 ^ 24 < size → first_named (toolstack_causes e body) ≡ Some TooManyPairs
-  toolstack_over many = let full : nat_lt most_pairs (spelled_with e store_key (pairs_of_toolstack body)) ≡ true = lt-ltb most_pairs _ (subst (λ n. 2 ^ 24 < n) same_size many) in toolstack_named e body ∙ rw (none, full) refl
+  pub toolstack_over : most_pairs < size → first_named (toolstack_causes e body) ≡ Some TooManyPairs
+  toolstack_over many = let full : nat_lt most_pairs (spelled_with e store_key (pairs_of_toolstack body)) ≡ true = lt-ltb most_pairs _ (subst (λ n. most_pairs < n) same_size many) in toolstack_named e body ∙ rw (none, full) refl
 
   pub toolstack_put : (new : EmulatorsOf) → new ≡ add_pairs e store_key (pairs_in text) → new ≡ put_in_emulators e (Pairs (pairs_of_toolstack body))
   toolstack_put new now = now ∙ ap (λ ps. add_pairs e store_key ps) spelled.1

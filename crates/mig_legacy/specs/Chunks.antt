@@ -5,6 +5,7 @@ use Rattle.mig_bytes_form.specs.Tests.{Test, first_named}
 use Rattle.mig_bytes_form.specs.Tests.Test.{Less, Equal, Either}
 use Rattle.mig_headers.specs.declared.legacy_fault.LegacyCause.{LegacyCause}
 use Rattle.mig_headers.specs.declared.legacy_fault.LegacyCause.TheVariants.{VerifyOrPv, Tmem, Compressed, UnknownChunk, BatchTooLarge}
+use Rattle.mig_headers.specs.RecordTypes.{vcpu_limit}
 use Rattle.mig_legacy.specs.declared.chunk.ChunkKind.{ChunkKind}
 use Rattle.mig_legacy.specs.declared.chunk.ChunkKind.TheVariants.{End, Batch, VcpuMap, Tsc, LastCheckpoint, Toolstack, Param}
 
@@ -91,5 +92,5 @@ NumbersHaveKinds = (kind : ChunkKind) (number : ℕ) → IsNumberOf kind number 
 -- what the type of a chunk limits
 abbrev pub IsWithinLimits : ChunkKind → Type 0
 IsWithinLimits (Batch n) = n ≤ 1024
-IsWithinLimits (Param index) = index < 4096
+IsWithinLimits (Param index) = index < vcpu_limit
 IsWithinLimits _ = ⊤

@@ -13,7 +13,7 @@ use Rattle.mig_bytes_form.specs.Tests.Test.{Less, AtMost, Equal, Is, Not, Both, 
 use Rattle.mig_headers.specs.Contexts.{scan, cut_at}
 use Rattle.mig_headers.specs.Headers.{marker, libxl_ident}
 use Rattle.mig_headers.specs.Pairs.{Pair}
-use Rattle.mig_headers.specs.RecordTypes.{most_body}
+use Rattle.mig_headers.specs.RecordTypes.{most_body, vcpu_limit}
 use Rattle.mig_headers.specs.declared.fault.ContextFault.{ContextFault}
 use Rattle.mig_headers.specs.declared.kind.Kind.TheVariants.{Hvm}
 use Rattle.mig_headers.specs.declared.legacy_fault.LegacyCause.{LegacyCause}
@@ -24,7 +24,7 @@ use Rattle.mig_records.specs.Words.{words}
 use Rattle.mig_restore_form.specs.Judging.{type_in_word}
 use Rattle.mig_restore_form.specs.Mean.{sent}
 use Rattle.mig_restore_form.specs.Record.{FrameEntry}
-use Rattle.mig_libxl_form.specs.Emulators.{EmulatorsOf, emulators_of, most_pairs, spelled_with}
+use Rattle.mig_libxl_form.specs.Emulators.{EmulatorsOf, emulators_of, spelled_with}
 use Rattle.mig_legacy.specs.declared.chunk.ChunkKind.{ChunkKind}
 use Rattle.mig_legacy.specs.declared.chunk.ChunkKind.TheVariants.{End, Batch, VcpuMap, Tsc, LastCheckpoint, Toolstack, Param}
 use Rattle.mig_legacy.specs.Batches.{fault_of_batch, page_data_words}
@@ -33,6 +33,7 @@ use Rattle.mig_legacy.specs.Judged.{toolstack, toolstack_fault}
 use Rattle.mig_legacy.specs.Texts.{pairs_of_physmap}
 use Rattle.mig_legacy.specs.Legacy.{LegacyContent, LegacyChunk, LegacyTail, is_end, has_value, store_key, image_records, store_records}
 use Rattle.mig_legacy.specs.Legacy.LegacyContent.{Nothing, Frames, Value, Clock, Pairs}
+use Rattle.mig_guest.specs.Limits.{most_pairs}
 
 -- ---- what conditions ask
 
@@ -76,7 +77,7 @@ place_causes chunks kind =
 
 -- the greatest vCPU id
 abbrev pub max_causes : List ℕ → List (Test × LegacyCause)
-max_causes bytes = (AtMost 4096 (le32 bytes 0), BadVcpuMax (le32 bytes 0)) ∷ []
+max_causes bytes = (AtMost vcpu_limit (le32 bytes 0), BadVcpuMax (le32 bytes 0)) ∷ []
 
 -- the length of what may have at most so many bytes
 abbrev pub length_causes : ℕ → List ℕ → List (Test × LegacyCause)

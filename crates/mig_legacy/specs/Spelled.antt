@@ -4,9 +4,10 @@ use Rattle.std.specs.Prelude.{◌≡◌, ◌≢◌, ◌≤◌, ◌<◌, ℕ, ◌
 use Rattle.std.specs.List.{All, flat_map}
 use Rattle.mig_bytes.specs.Fields.{le32, be64}
 use Rattle.mig_bytes.specs.Sequences.{Spells}
-use Rattle.mig_headers.specs.RecordTypes.{most_body}
+use Rattle.mig_headers.specs.RecordTypes.{most_body, vcpu_limit}
 use Rattle.mig_guest.specs.Frames.{IsFew}
 use Rattle.mig_guest.specs.Guests.{GuestOf}
+use Rattle.mig_guest.specs.Limits.{most_pairs}
 use Rattle.mig_headers.specs.Contexts.{ContextEntry, IsContext, cut_at}
 use Rattle.mig_headers.specs.Headers.{marker, libxl_ident}
 use Rattle.mig_headers.specs.declared.kind.Kind.TheVariants.{Hvm}
@@ -14,7 +15,7 @@ use Rattle.mig_records.specs.Words.{words}
 use Rattle.mig_restore_form.specs.Mean.{sent}
 use Rattle.mig_restore_form.specs.Record.{FrameEntry}
 use Rattle.mig_restore_form.specs.Spelled.{AreEntries}
-use Rattle.mig_libxl_form.specs.Emulators.{emulators_of, most_pairs, spelled_with}
+use Rattle.mig_libxl_form.specs.Emulators.{emulators_of, spelled_with}
 use Rattle.mig_legacy.specs.declared.chunk.ChunkKind.{ChunkKind}
 use Rattle.mig_legacy.specs.declared.chunk.ChunkKind.TheVariants.{End, Batch, VcpuMap, Tsc, LastCheckpoint, Toolstack, Param}
 use Rattle.mig_legacy.specs.Batches.{is_reserved, is_high, page_data_words}
@@ -52,7 +53,7 @@ pub record IsCounted (most : ℕ) (text bytes : List ℕ) : Type 0 where
 pub data HasLegacyContent : ChunkKind → List ℕ → LegacyContent → Type 0 where
   ends : HasLegacyContent End [] Nothing
   batch : (n : ℕ) (body : List ℕ) (es : List FrameEntry) → IsLegacyBatch n body es → HasLegacyContent (Batch n) body (Frames es)
-  vcpus : (max bits : List ℕ) → length max ≡ 4 → le32 max 0 < 4096 → length bits ≡ 8 * (le32 max 0 / 64 + 1) → HasLegacyContent VcpuMap (max ++ bits) Nothing
+  vcpus : (max bits : List ℕ) → length max ≡ 4 → le32 max 0 < vcpu_limit → length bits ≡ 8 * (le32 max 0 / 64 + 1) → HasLegacyContent VcpuMap (max ++ bits) Nothing
   clock : (mode nanoseconds frequency incarnation : List ℕ) → length mode ≡ 4 → length nanoseconds ≡ 8 → length frequency ≡ 4 → length incarnation ≡ 4
       → HasLegacyContent Tsc (mode ++ (nanoseconds ++ (frequency ++ incarnation))) (Clock (mode ++ (frequency ++ (nanoseconds ++ incarnation))))
   last_checkpoint : HasLegacyContent LastCheckpoint [] Nothing

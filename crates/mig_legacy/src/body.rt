@@ -5,6 +5,7 @@ ghost use Rattle.mig_bytes.specs.Judged.{Gives, stop_at};
 ghost use Rattle.mig_bytes.specs.declared.stop.Stop.TheVariants.{Memory as NoMemory};
 ghost use Rattle.mig_bytes_form.specs.Form.{judged_as};
 ghost use Rattle.mig_headers.specs.declared.kind.Kind.TheVariants.{Hvm};
+ghost use Rattle.mig_headers.specs.RecordTypes.{vcpu_limit};
 ghost use Rattle.mig_restore_form.specs.Mean.{Grows};
 ghost use Rattle.mig_libxl_form.specs.Formed.{AreEmulators};
 ghost use Rattle.mig_legacy.specs.Batches.{fault_of_batch};
@@ -18,15 +19,12 @@ use crate::text::put;
 use crate::toolstack::{physmap_pairs, toolstack_fault};
 use mig_bytes::{Memory, ReadFailed, Source, Stop, skip, take_long, take_part, u32_le};
 use mig_guest::{EMULATOR_PAIRS, Guest, PartKey};
-use mig_headers::{Cause, LegacyCause, MOST_BODY};
+use mig_headers::{Cause, LegacyCause, MOST_BODY, VCPU_LIMIT};
 use mig_libxl_form::Emulators;
 use mig_policy::PairsAnswer;
 use mig_restore::take_entries;
 use mig_restore_form::words_of;
 use std::alloc::Global;
-
-/// Ids of vCPUs are below this.
-const VCPUS: u32 = 4096;
 
 /// The key of the part that an X86_TSC_INFO sets.
 const TSC: PartKey = PartKey {
@@ -147,7 +145,7 @@ pub(crate) fn take_vcpus<S: Source>(src: &mut S) -> Result<(), Stop<LegacyCause>
     let mut bytes = [0; 4];
     take_part(src, &mut bytes, LegacyCause::Truncated)?;
     let max = u32_le(&bytes, 0);
-    if max >= VCPUS {
+    if max >= VCPU_LIMIT {
         return Err(Stop::Refused(LegacyCause::BadVcpuMax(u64::from(max))));
     }
     match skip(src, u64::from(8 * (max / 64 + 1))) {
@@ -202,7 +200,7 @@ pub(crate) fn take_value<S: Source>(
     index: u32,
     guest: &mut Guest,
 ) -> Result<(), Stop<LegacyCause>>
-    requires small { index < 4096 }
+    requires small { index < vcpu_limit }
     requires hvm { guest.old.kind ≡ Hvm }
     ensures read { Gives (λ _ c. guest.new ≡ put_in_guest guest.old c) (S.left src.old) (S.left src.new) (judged_as (value_form index)) result }
     ensures grown { OnOk result (Grows guest.old guest.new) }

@@ -23,7 +23,7 @@ pub enum ChunkKind {
 }
 
 /// The most words of a batch.
-const MAX_BATCH: u32 = 1024;
+const MOST_BATCH: u32 = 1024;
 
 /// What the chunk −n is.
 fn negative_kind(n: u64) -> Result<ChunkKind, LegacyCause>
@@ -65,7 +65,7 @@ pub fn chunk_kind(number: u32) -> Result<ChunkKind, LegacyCause>
         return Ok(ChunkKind::End);
     }
     if number < 1 << 31 {
-        return if number <= MAX_BATCH {
+        return if number <= MOST_BATCH {
             Ok(ChunkKind::Batch(number))
         } else {
             Err(LegacyCause::BatchTooLarge(u64::from(number)))

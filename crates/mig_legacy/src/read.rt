@@ -28,11 +28,11 @@ use mig_bytes::{Answer, Memory, Source, Stop, answer_for, take_part, u32_le};
 use mig_guest::Guest;
 use mig_headers::{ImageHeader, Kind, LegacyCause, LegacyPlace, LibxlHeader};
 use mig_libxl_form::Emulators;
-use mig_pagetypes::MAX_FRAMES;
+use mig_pagetypes::MOST_FRAMES;
 use std::alloc::Global;
 
 /// The most chunks of a stream.
-const MAX_CHUNKS: u32 = 1 << 28;
+const MOST_CHUNKS: u32 = 1 << 28;
 
 /// Why a legacy stream isn't read.
 pub type LegacyAnswer = Answer<LegacyPlace, LegacyCause>;
@@ -111,10 +111,10 @@ impl ChunksSeen {
         if ends && self.requests != self.buffered {
             return Some(LegacyCause::UnpairedIoreq);
         }
-        if self.chunks >= MAX_CHUNKS {
+        if self.chunks >= MOST_CHUNKS {
             return Some(LegacyCause::TooManyChunks);
         }
-        if ends && self.guest.frames() > MAX_FRAMES {
+        if ends && self.guest.frames() > MOST_FRAMES {
             return Some(LegacyCause::TooManyFrames);
         }
         None

@@ -1,5 +1,5 @@
 -- The image in a canonical stream: it says the guest without the parts of its emulators.
-use Rattle.mig_libxl.proofs.Common.{and_parts, ◌≡◌, ℕ, Bool, true, false, cond, not, List, [], ◌∷◌, ◌++◌, map, Option, Some, None, refl, sym, ap, subst, ◌∙◌, ◌↔◌, ◌≤◌, length, list_any, eq_by_cmp, find, Pv, IsFormed, is_emulator_code, GuestOf, part_cmp, Part, PartMap, parts_of, EmulatorPairs, PartKey, all_found, tied, part_total, part_exact, has_emulators, bare_guest, IsStreamedBare, list_any_none, same_parts}
+use Rattle.mig_libxl.proofs.Common.{and_parts, ◌≡◌, ℕ, Bool, true, false, cond, not, List, [], ◌∷◌, ◌++◌, map, Option, Some, None, refl, sym, ap, subst, ◌∙◌, ◌↔◌, ◌≤◌, length, list_any, eq_by_cmp, find, Pv, IsFormed, is_emulator_code, GuestOf, part_cmp, Part, PartMap, parts_of, EmulatorPairs, PartKey, all_found, tied, part_total, part_exact, has_emulators, bare_guest, IsStreamedBare, list_any_none, same_parts, most_policy_entries}
 use Rattle.std.specs.List.{list_all, flat_map, range_with_len}
 use Rattle.mig_canon.specs.Canon.{records_in_order, static_codes, last_codes, pv_last_codes, vcpu_codes, bodies_of, frame_bodies, frames_in, batches, headers, info_records, key_of, last_records, p2m_record, p2m_records, part_record, records_of, records_of_vcpu, static_bodies, vcpu_record, vcpus_below, all_vcpus, canon}
 use Rattle.mig_headers.specs.declared.kind.Kind.{Kind}
@@ -144,7 +144,7 @@ module _ (g : GuestOf) where
     top = formed.top;
     frames = formed.frames;
     parts = λ key bytes got. formed.parts key bytes (was_there key bytes got);
-    policies = λ code is. subst (λ (ps : List Part). length ps ≤ 65536) (sym (same_of_code code (plain_policy code is))) (formed.policies code is);
+    policies = λ code is. subst (λ (ps : List Part). length ps ≤ most_policy_entries) (sym (same_of_code code (plain_policy code is))) (formed.policies code is);
   }
 
   pub bare_whole : (kind : Kind) → g.kind ≡ kind → IsWhole g → blank g ≡ g → IsWhole bare × (blank bare ≡ bare)

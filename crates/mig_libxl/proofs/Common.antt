@@ -36,10 +36,12 @@ pub use Rattle.mig_guest.specs.Order.{part_cmp}
 pub use Rattle.mig_guest.specs.Parts.{NextPart, Part, PartMap, parts_of}
 pub use Rattle.mig_guest.specs.declared.part_code.PartCode.TheVariants.{EmulatorContext, EmulatorPairs}
 pub use Rattle.mig_guest.specs.declared.part_key.PartKey.{PartKey}
+pub use Rattle.mig_guest.specs.Limits.{most_pairs}
 pub use Rattle.mig_headers.specs.declared.fault.Cause.{Cause}
 pub use Rattle.mig_headers.specs.declared.fault.Cause.TheVariants.{Truncated}
 pub use Rattle.mig_headers.specs.declared.fault.Place.TheVariants.{LibxlHeader}
 pub use Rattle.mig_headers.specs.declared.kind.Kind.TheVariants.{Pv}
+pub use Rattle.mig_headers.specs.RecordTypes.{most_policy_entries, most_body}
 pub use Rattle.mig_libxl.specs.Seen.{Holds, IsLibxlBegun, IsLibxlSeen, TakesLibxl}
 pub use Rattle.mig_libxl.specs.declared.read.WrapperSeen.{WrapperSeen}
 pub use Rattle.mig_libxl_form.proofs.Among.{among_more, emulators_more, ended_more}
@@ -63,3 +65,4 @@ pub use Rattle.mig_records.specs.Records.{spelled}
 pub use Rattle.mig_restore.specs.declared.read.Reading.{Reading}
 pub use Rattle.mig_restore_form.proofs.Meaning.{mean_kind}
 pub use Rattle.mig_restore_form.specs.Stream.{ImageOf, image_behind}
+pub use Rattle.mig_restore_form.specs.Judging.{most_records}

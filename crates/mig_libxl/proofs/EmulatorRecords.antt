@@ -1,5 +1,5 @@
 -- The records of a guest's emulators: each is spelled as the format says, and together they say the emulators.
-use Rattle.mig_libxl.proofs.Common.{◌≡◌, ℕ, ◌+◌, ◌<◌, ◌≤◌, ◌^◌, List, ◌++◌, length, Some, inl, inr, refl, sym, subst, arith, append_assoc, length-append, ◌-◌, ◌==◌, nat_le, if◌then◌else◌, and_parts, eqb-true, leb-true, or_cases, little_bytes, IsFormed, width_of, GuestOf, Part, EmulatorPairs, PartKey, IsOf, of_part, some_bytes_are_some_pairs, LibxlRecord, LibxlContent, Pairs, Context, pairs_in, spelled, emulator_body, is_record}
+use Rattle.mig_libxl.proofs.Common.{◌≡◌, ℕ, ◌+◌, ◌<◌, ◌≤◌, List, ◌++◌, length, Some, inl, inr, refl, sym, subst, arith, append_assoc, length-append, ◌-◌, ◌==◌, nat_le, if◌then◌else◌, and_parts, eqb-true, leb-true, or_cases, little_bytes, IsFormed, width_of, GuestOf, Part, EmulatorPairs, PartKey, IsOf, of_part, some_bytes_are_some_pairs, LibxlRecord, LibxlContent, Pairs, Context, pairs_in, spelled, emulator_body, is_record, most_pairs, most_body}
 use Rattle.mig_policy.proofs.KeyLaws.{pairs_are_read}
 use Rattle.mig_libxl_form.specs.Spelled.{HasLibxlContent, IsFront, IsLibxlRecord}
 use Rattle.byteorder.specs.Numbers.{length-bytes_low_first}
@@ -42,11 +42,11 @@ front_is key known small = record {
 body_is : (p : Part) → key_front p.0 ++ p.1 ≡ emulator_body p
 body_is p = append_assoc (little_bytes 4 p.0.key1) (little_bytes 4 p.0.key2) p.1
 
-body_short : (p : Part) → length p.1 + 8 ≤ 2 ^ 27 → length (emulator_body p) ≤ 2 ^ 27
+body_short : (p : Part) → length p.1 + 8 ≤ most_body → length (emulator_body p) ≤ most_body
 body_short p short =
     omega (arith, short, length-append (little_bytes 4 p.0.key1) (little_bytes 4 p.0.key2 ++ p.1), length-append (little_bytes 4 p.0.key2) p.1, length-bytes_low_first 0 4 p.0.key1, length-bytes_low_first 0 4 p.0.key2)
 
-module _ (id index : ℕ) (bytes : List ℕ) (known : id < 3) (small : index < 256) (short : length bytes + 8 ≤ 2 ^ 27) where
+module _ (id index : ℕ) (bytes : List ℕ) (known : id < 3) (small : index < 256) (short : length bytes + 8 ≤ most_body) where
   pairs_record : SpellPairs bytes (pairs_in bytes) → IsLibxlRecord (record_of_part (pairs_of_emulator id index, bytes)) (emulator_record (pairs_of_emulator id index, bytes))
   unfolding emulator_record
   pairs_record spells =
@@ -67,14 +67,14 @@ module _ (id index : ℕ) (bytes : List ℕ) (known : id < 3) (small : index < 2
 pub record AreSomePairs (bytes : List ℕ) : Type 0 where
   pub canonical : AreCanonicalPairs bytes
   pub some : 0 < length bytes
-  pub few : length bytes ≤ 2 ^ 24
+  pub few : length bytes ≤ most_pairs
 
 module _ (g : GuestOf) (formed : IsFormed g) where
   pub some_pairs : (q : PartKey) (bytes : List ℕ) → q.code ≡ 258 → maps.get g.parts q ≡ Some bytes → AreSomePairs bytes
   some_pairs q bytes code got =
       let one : IsOf EmulatorPairs (width_of g) (q, bytes) = of_part EmulatorPairs g.kind (width_of g) (q, bytes) (formed.parts q bytes got) code in
-      let (least, most) = and_parts (nat_le 1 (length bytes)) (nat_le (length bytes) (2 ^ 24)) one.len in
-      record { canonical = one.content; some = omega (arith, leb-true 1 (length bytes) least); few = leb-true (length bytes) (2 ^ 24) most }
+      let (least, most) = and_parts (nat_le 1 (length bytes)) (nat_le (length bytes) most_pairs) one.len in
+      record { canonical = one.content; some = omega (arith, leb-true 1 (length bytes) least); few = leb-true (length bytes) most_pairs most }
 
   -- each record of an emulator's part is spelled as the format says
   pub emulator_is_spelled : (p : Part) → IsEmulatorPart g.parts p → IsLibxlRecord (record_of_part p) (emulator_record p)

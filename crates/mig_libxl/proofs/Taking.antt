@@ -1,14 +1,15 @@
 -- What the reader keeps of a record's content.
-use Rattle.mig_libxl.proofs.Common.{◌≡◌, ℕ, ◌-◌, ◌≤◌, ◌<◌, ◌^◌, true, false, List, length, take, drop, nat_eq, nat_le, nat_lt, Option, Some, None, Ok, refl, sym, ap, subst, ◌∙◌, arith, ◌||◌, le-leb, lt-leb, common_steps, ◌>>=◌, Passes, Cause, pairs_fault, Reading, LibxlContent, image_in, Image, Pairs, Context, EmulatorsOf, add_pairs, put_libxl_content, emulator_key, Holds, WrapperSeen, length-drop, le32, Gives, pairs_in, TakesLibxl}
+use Rattle.mig_libxl.proofs.Common.{◌≡◌, ℕ, ◌-◌, ◌≤◌, ◌<◌, true, false, List, length, take, drop, nat_eq, nat_le, nat_lt, Option, Some, None, Ok, refl, sym, ap, subst, ◌∙◌, arith, ◌||◌, le-leb, lt-leb, common_steps, ◌>>=◌, Passes, Cause, pairs_fault, Reading, LibxlContent, image_in, Image, Pairs, Context, EmulatorsOf, add_pairs, put_libxl_content, emulator_key, Holds, WrapperSeen, length-drop, le32, Gives, pairs_in, TakesLibxl}
 use Rattle.std.proofs.lemmas.Bool.{le-ltb, lt-ltb}
 use Rattle.std.proofs.lemmas.List.{take_all}
 use Rattle.std.proofs.lemmas.Option.{none-some, same_Some}
 use Rattle.mig_headers.specs.declared.fault.Cause.TheVariants.{BadEmulator, TooManyPairs, EmulatorIndex}
 use Rattle.mig_restore_form.specs.Stream.{image_at}
 use Rattle.mig_restore.specs.Reads.{IsReading as IsImageReading}
-use Rattle.mig_libxl_form.specs.Emulators.{most_pairs, spelled_with}
+use Rattle.mig_libxl_form.specs.Emulators.{spelled_with}
 use Rattle.mig_libxl_form.specs.Judging.{fault_of_pairs, fault_of_context, inner_at}
 use Rattle.mig_libxl_form.proofs.Bodies.{fine_pairs}
+use Rattle.mig_guest.specs.Limits.{most_pairs}
 
 -- ---- the causes of an emulator's body
 
@@ -69,27 +70,27 @@ module _ (e : EmulatorsOf) (body slice : List ℕ) (id index : ℕ) (r : IsRead 
       ∙ ap (λ n. spelled_with e (record { code = 258; key1 = n; key2 = index }) (pairs_in (drop 8 body))) r.id_is
       ∙ ap (λ n. spelled_with e (record { code = 258; key1 = le32 body 0; key2 = n }) (pairs_in (drop 8 body))) r.index_is
 
-  pub pairs_too_many : pairs_fault slice ≡ None → id < 3 → 2 ^ 24 < spelled_with e (record { code = 258; key1 = id; key2 = index }) (pairs_in slice) → fault_of_pairs e body ≡ Some TooManyPairs
+  pub pairs_too_many : pairs_fault slice ≡ None → id < 3 → most_pairs < spelled_with e (record { code = 258; key1 = id; key2 = index }) (pairs_in slice) → fault_of_pairs e body ≡ Some TooManyPairs
   unfolding fault_of_pairs
   pairs_too_many none low many =
       let known : nat_le 3 (le32 body 0) ≡ false = lt-leb 3 (le32 body 0) (subst (λ k. k < 3) r.id_is low) in
-      let full : nat_lt most_pairs (spelled_with e (emulator_key 258 body) (pairs_in (drop 8 body))) ≡ true = lt-ltb most_pairs (spelled_with e (emulator_key 258 body) (pairs_in (drop 8 body))) (subst (λ n. 2 ^ 24 < n) spelled_len many) in
+      let full : nat_lt most_pairs (spelled_with e (emulator_key 258 body) (pairs_in (drop 8 body))) ≡ true = lt-ltb most_pairs (spelled_with e (emulator_key 258 body) (pairs_in (drop 8 body))) (subst (λ n. most_pairs < n) spelled_len many) in
       let fine = fine_slice none in rw (fine, known, full) refl
 
-  pub pairs_bad_index : (named : ℕ) → pairs_fault slice ≡ None → id < 3 → spelled_with e (record { code = 258; key1 = id; key2 = index }) (pairs_in slice) ≤ 2 ^ 24 → named ≡ index → 256 ≤ index → fault_of_pairs e body ≡ Some (EmulatorIndex named)
+  pub pairs_bad_index : (named : ℕ) → pairs_fault slice ≡ None → id < 3 → spelled_with e (record { code = 258; key1 = id; key2 = index }) (pairs_in slice) ≤ most_pairs → named ≡ index → 256 ≤ index → fault_of_pairs e body ≡ Some (EmulatorIndex named)
   unfolding fault_of_pairs
   pairs_bad_index named none low fits same high =
       let known : nat_le 3 (le32 body 0) ≡ false = lt-leb 3 (le32 body 0) (subst (λ k. k < 3) r.id_is low) in
-      let room : nat_lt most_pairs (spelled_with e (emulator_key 258 body) (pairs_in (drop 8 body))) ≡ false = le-ltb _ _ (subst (λ n. n ≤ 2 ^ 24) spelled_len fits) in
+      let room : nat_lt most_pairs (spelled_with e (emulator_key 258 body) (pairs_in (drop 8 body))) ≡ false = le-ltb _ _ (subst (λ n. n ≤ most_pairs) spelled_len fits) in
       let over : nat_le 256 (le32 body 4) ≡ true = le-leb 256 (le32 body 4) (subst (λ k. 256 ≤ k) r.index_is high) in
       let to : named ≡ le32 body 4 = same ∙ r.index_is in
       let fine = fine_slice none in rw (fine, known, room, over, to) refl
 
-  pub pairs_fine : pairs_fault slice ≡ None → id < 3 → spelled_with e (record { code = 258; key1 = id; key2 = index }) (pairs_in slice) ≤ 2 ^ 24 → index < 256 → fault_of_pairs e body ≡ None
+  pub pairs_fine : pairs_fault slice ≡ None → id < 3 → spelled_with e (record { code = 258; key1 = id; key2 = index }) (pairs_in slice) ≤ most_pairs → index < 256 → fault_of_pairs e body ≡ None
   pairs_fine none low fits small = fine_pairs e body (record {
     pairs = fine_slice none;
     known = subst (λ k. k < 3) r.id_is low;
-    fits = subst (λ n. n ≤ 2 ^ 24) spelled_len fits;
+    fits = subst (λ n. n ≤ most_pairs) spelled_len fits;
     small = subst (λ k. k < 256) r.index_is small;
   })
 

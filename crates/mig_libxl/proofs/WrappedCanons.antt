@@ -1,5 +1,5 @@
 -- The canonical stream of a guest that has emulators: its records, each in its place.
-use Rattle.mig_libxl.proofs.Common.{◌≡◌, ℕ, ◌+◌, ◌<◌, ◌≤◌, ◌^◌, ◌-◌, Bool, true, false, List, [], ◌∷◌, ◌++◌, length, map, nat_eq, Some, None, refl, sym, ap, subst, ◌∙◌, inl, inr, arith, append_assoc, append-nil, length-append, unwrap_or, if◌then◌else◌, All, find, eqb-true, or_cases, All-head, All-tail, eq_by_cmp, all_of, part_total, IsFormed, is_emulator_code, GuestOf, part_cmp, Part, PartKey, put_pairs, text_of_map, ImageOf, text_of_emulators, LibxlRecord, is_libxl_ended, image_among, Pairs, Context, EmulatorsOf, add_pairs, put_libxl_content, store_at, one_more, FollowsLibxl, insert_leaves, pairs_in, texts_are_canonical, emulator_record, emulators_of, emulators_more, among_more, ended_more}
+use Rattle.mig_libxl.proofs.Common.{◌≡◌, ℕ, ◌+◌, ◌<◌, ◌≤◌, ◌-◌, Bool, true, false, List, [], ◌∷◌, ◌++◌, length, map, nat_eq, Some, None, refl, sym, ap, subst, ◌∙◌, inl, inr, arith, append_assoc, append-nil, length-append, unwrap_or, if◌then◌else◌, All, find, eqb-true, or_cases, All-head, All-tail, eq_by_cmp, all_of, part_total, IsFormed, is_emulator_code, GuestOf, part_cmp, Part, PartKey, put_pairs, text_of_map, ImageOf, text_of_emulators, LibxlRecord, is_libxl_ended, image_among, Pairs, Context, EmulatorsOf, add_pairs, put_libxl_content, store_at, one_more, FollowsLibxl, insert_leaves, pairs_in, texts_are_canonical, emulator_record, emulators_of, emulators_more, among_more, ended_more, most_pairs, most_records}
 use Rattle.mig_headers.specs.Pairs.{Pair}
 use Rattle.mig_bytes.specs.Sequences.{Spells}
 use Rattle.mig_libxl_form.specs.Spelled.{EmulatorsFit}
@@ -37,7 +37,7 @@ module _ (g : GuestOf) (formed : IsFormed g) (im : ImageOf) where
     pub going : is_libxl_ended rs ≡ false
     pub image : image_among rs ≡ Some im
     pub absent : All (λ p. maps.get (emulators_of rs).stores p.0 ≡ None) ps
-    pub few : length rs + length ps < 2 ^ 28
+    pub few : length rs + length ps < most_records
 
   fits_at : (rs : List LibxlRecord) (p : Part) → IsEmulatorPart g.parts p → maps.get (emulators_of rs).stores p.0 ≡ None → EmulatorsFit rs (content_of p)
   fits_at rs p is none = by (nat_eq p.0.code 258) refl
@@ -48,7 +48,7 @@ module _ (g : GuestOf) (formed : IsFormed g) (im : ImageOf) where
           let some = some_pairs g formed p.0 p.1 (eqb-true p.0.code 258 pairs) is.there in
           let empty : store_at (emulators_of rs).stores p.0 ≡ maps.empty = ap (λ o. unwrap_or o maps.empty) none in
           let text : text_of_map (put_pairs (store_at (emulators_of rs).stores p.0) (pairs_in p.1)) ≡ p.1 = ap (λ m. text_of_map (put_pairs m (pairs_in p.1))) empty ∙ texts_are_canonical.again p.1 some.canonical in
-          subst (λ l. length l ≤ 2 ^ 24) (sym text) some.few
+          subst (λ l. length l ≤ most_pairs) (sym text) some.few
 
   type_is : (p : Part) → is_emulator_code p.0.code ≡ true → (p.0.code - 256 ≡ 2) ⊎ (p.0.code - 256 ≡ 3)
   type_is p code = elim (or_cases (nat_eq p.0.code 258) (nat_eq p.0.code 259) code) [

@@ -1,6 +1,6 @@
 -- An accepted guest is whole, with the parts of its emulators: its image means a whole guest, and each record that is spelled
 -- leaves the emulators well formed.
-use Rattle.mig_libxl_form.proofs.Common.{◌≡◌, ℕ, ◌^◌, ◌≤◌, ◌<◌, true, false, List, [], ◌∷◌, ◌++◌, length, nat_eq, Option, Some, None, refl, sym, ap, subst, ◌∙◌, arith, ◌||◌, eqb-true, length-append, AreBytes, Spells, no_part, one_more, pairs_are_read, Pair, Pv, PartKey, GuestOf, IsImage, ImageOf, LibxlRecord, LibxlContent, is_libxl_ended, image_in, image_among, Context, EmulatorsOf, no_emulators, put_libxl_content, add_pairs, AreEmulators, IsStreamedBare, HasLibxlContent, EmulatorsFit, FollowsLibxl, Bare, Wrapped, drop_at, none-some, same_Some, spelled_with, IsStreamed, has_emulator, IsFront, IsLibxlRecord, IsStream, AcceptedStream, optional, ends, pairs, context, StreamOf, image_of_stream, guest_of}
+use Rattle.mig_libxl_form.proofs.Common.{◌≡◌, ℕ, ◌≤◌, ◌<◌, true, false, List, [], ◌∷◌, ◌++◌, length, nat_eq, Option, Some, None, refl, sym, ap, subst, ◌∙◌, arith, ◌||◌, eqb-true, length-append, AreBytes, Spells, no_part, one_more, pairs_are_read, Pair, Pv, PartKey, GuestOf, IsImage, ImageOf, LibxlRecord, LibxlContent, is_libxl_ended, image_in, image_among, Context, EmulatorsOf, no_emulators, put_libxl_content, add_pairs, AreEmulators, IsStreamedBare, HasLibxlContent, EmulatorsFit, FollowsLibxl, Bare, Wrapped, drop_at, none-some, same_Some, spelled_with, IsStreamed, has_emulator, IsFront, IsLibxlRecord, IsStream, AcceptedStream, optional, ends, pairs, context, StreamOf, image_of_stream, guest_of, most_pairs, most_body}
 use Rattle.std.proofs.lemmas.List.Elements.{All-drop, All-take}
 use Rattle.mig_pvtables.specs.Whole.{IsWhole}
 use Rattle.std.proofs.lemmas.Bool.{false≢true, or_parts}
@@ -41,16 +41,16 @@ key_is : (code : ℕ) (key : PartKey) → key.code ≡ code → key ≡ record {
 key_is code key is = ap (λ n. record { code = n; key1 = key.key1; key2 = key.key2 }) is
 
 module _ (e : EmulatorsOf) (are : AreEmulators e) (key : PartKey) (front : List ℕ) where
-  pairs_added : (text : List ℕ) (ps : List Pair) → IsFront 258 front key → SpellPairs text ps → spelled_with e key ps ≤ 2 ^ 24 → AreBytes text → AreEmulators (add_pairs e key ps)
+  pairs_added : (text : List ℕ) (ps : List Pair) → IsFront 258 front key → SpellPairs text ps → spelled_with e key ps ≤ most_pairs → AreBytes text → AreEmulators (add_pairs e key ps)
   pairs_added text ps is spelled fits all =
       let read = (pairs_are_read text ps).1 spelled in
       let named = key_is 258 key is.code_is in
       let other : PartKey = record { code = 258; key1 = key.key1; key2 = key.key2 } in
       pairs_kept e (add_pairs e key ps) text key.key1 key.key2 are is.known is.small
       (ap (λ k. add_pairs e k ps) named ∙ ap (add_pairs e other) (sym read.1)) read.0
-      (subst (λ n. n ≤ 2 ^ 24) (ap (λ k. spelled_with e k ps) named ∙ ap (spelled_with e other) (sym read.1)) fits) all
+      (subst (λ n. n ≤ most_pairs) (ap (λ k. spelled_with e k ps) named ∙ ap (spelled_with e other) (sym read.1)) fits) all
 
-  context_set : (bytes : List ℕ) → IsFront 259 front key → length (front ++ bytes) ≤ 2 ^ 27 → AreBytes bytes → AreEmulators (put_libxl_content e (Context key bytes))
+  context_set : (bytes : List ℕ) → IsFront 259 front key → length (front ++ bytes) ≤ most_body → AreBytes bytes → AreEmulators (put_libxl_content e (Context key bytes))
   context_set bytes is small all =
       context_kept e (put_libxl_content e (Context key bytes)) bytes key.key1 key.key2 are is.known is.small
       (ap (λ k. put_libxl_content e (Context k bytes)) (key_is 259 key is.code_is)) (omega (arith, small, length-append front bytes, is.len)) all
@@ -96,7 +96,7 @@ module _ (records : List LibxlRecord) (k : Keeps records) where
   nothing_kept : (r : LibxlRecord) → put_libxl_content (emulators_of records) r.content ≡ emulators_of records → image_in r.content ≡ None → Keeps (records ++ r ∷ [])
   nothing_kept r same no_image = others_kept r same (λ image is. k.image image (still_there r no_image image is))
 
-  content_kept : (type : ℕ) (body : List ℕ) (c : LibxlContent) → HasLibxlContent type body c → length body ≤ 2 ^ 27 → EmulatorsFit records c → AreBytes body → Keeps (records ++ record { type = type; content = c } ∷ [])
+  content_kept : (type : ℕ) (body : List ℕ) (c : LibxlContent) → HasLibxlContent type body c → length body ≤ most_body → EmulatorsFit records c → AreBytes body → Keeps (records ++ record { type = type; content = c } ∷ [])
   content_kept _ _ c (optional type body high) small fits all = nothing_kept (record { type = type; content = c }) refl refl
   content_kept type _ c ends small fits all = nothing_kept (record { type = type; content = c }) refl refl
   content_kept type _ c (pairs front text key ps is spelled) small fits all =

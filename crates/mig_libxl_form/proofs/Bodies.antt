@@ -1,5 +1,5 @@
 -- The bodies of records: those without fault are those that are spelled.
-use Rattle.mig_libxl_form.proofs.Common.{◌≡◌, ℕ, ◌+◌, ◌≤◌, ◌<◌, ◌^◌, Bool, true, false, cond, List, [], ◌∷◌, ◌++◌, length, take, drop, nat_eq, nat_le, Option, None, refl, sym, ap, subst, ◌∙◌, arith, take-append-drop, length-append, ◌&&◌, ◌||◌, eqb-true, le-leb, leb-true, lt-leb, common_steps, drop_at, said_goes, said_passes, Passes, Cause, Truncated, PartKey, pairs_fault, put_pairs, text_of_map, pairs_are_read, LibxlRecord, LibxlContent, Pairs, Context, EmulatorsOf, store_at, body_of_type, HasLibxlContent, EmulatorsFit, nil_from_length, length-drop, length-take-le, leb-false, both_none, neither_some, no_fault, rows_fine, pairs_in, Nothing, emulators_of, spelled_with, IsFront, optional, ends, pairs, context}
+use Rattle.mig_libxl_form.proofs.Common.{◌≡◌, ℕ, ◌+◌, ◌≤◌, ◌<◌, Bool, true, false, cond, List, [], ◌∷◌, ◌++◌, length, take, drop, nat_eq, nat_le, Option, None, refl, sym, ap, subst, ◌∙◌, arith, take-append-drop, length-append, ◌&&◌, ◌||◌, eqb-true, le-leb, leb-true, lt-leb, common_steps, drop_at, said_goes, said_passes, Passes, Cause, Truncated, PartKey, pairs_fault, put_pairs, text_of_map, pairs_are_read, LibxlRecord, LibxlContent, Pairs, Context, EmulatorsOf, store_at, body_of_type, HasLibxlContent, EmulatorsFit, nil_from_length, length-drop, length-take-le, leb-false, both_none, neither_some, no_fault, rows_fine, pairs_in, Nothing, emulators_of, spelled_with, IsFront, optional, ends, pairs, context, most_body}
 use Rattle.std.proofs.Common.{nat_lt, not, ltb-false}
 use Rattle.std.proofs.lemmas.Bool.{le-ltb, not-false}
 use Rattle.byteorder.specs.Endian.{little_number}
@@ -10,7 +10,7 @@ use Rattle.mig_bytes.specs.Fields.{le32}
 use Rattle.mig_bytes.specs.Judged.{said_at}
 use Rattle.mig_headers.specs.RecordTypes.{is_optional}
 use Rattle.mig_headers.specs.declared.fault.Cause.TheVariants.{BadEmulator, TooManyPairs, EmulatorIndex}
-use Rattle.mig_libxl_form.specs.Emulators.{most_pairs}
+use Rattle.mig_guest.specs.Limits.{most_pairs}
 
 -- a field in the front of a body
 pub front_field : (front text : List ℕ) (at : ℕ) → length front ≡ 8 → at + 4 ≤ 8 → le32 (front ++ text) at ≡ le32 front at
@@ -21,7 +21,7 @@ front_field front text at size small =
 -- ---- what heads allow
 
 pub record FineFields (type len : ℕ) : Type 0 where
-  pub small : len ≤ 2 ^ 27
+  pub small : len ≤ most_body
   pub supported : ((nat_eq type 4) || (nat_eq type 5)) ≡ false
   pub known : (nat_lt 5 type && not (is_optional type)) ≡ false
   pub allowed : allows_length type len ≡ true
@@ -30,7 +30,7 @@ pub fields_fine : (type len : ℕ) → fault_of_libxl_fields type len ≡ None �
 unfolding fault_of_libxl_fields
 fields_fine type len fine =
     let rows = rows_fine (field_rows type len) fine in
-    record { small = ltb-false (2 ^ 27) len rows.0; supported = rows.1.0; known = rows.1.1.0; allowed = not-false _ rows.1.1.1.0 }
+    record { small = ltb-false most_body len rows.0; supported = rows.1.0; known = rows.1.1.0; allowed = not-false _ rows.1.1.1.0 }
 
 pub fine_fields : (type len : ℕ) → FineFields type len → fault_of_libxl_fields type len ≡ None
 unfolding fault_of_libxl_fields
@@ -167,7 +167,7 @@ behind_front : (code : ℕ) (front text : List ℕ) (key : PartKey) → IsFront 
 behind_front code front text key f = drop_at front text 8 f.len
 
 -- what is spelled is allowed
-pub length_fits : (type : ℕ) (body : List ℕ) (c : LibxlContent) → HasLibxlContent type body c → length body ≤ 2 ^ 27 → nat_eq type 1 ≡ false → FineFields type (length body)
+pub length_fits : (type : ℕ) (body : List ℕ) (c : LibxlContent) → HasLibxlContent type body c → length body ≤ most_body → nat_eq type 1 ≡ false → FineFields type (length body)
 length_fits type body _ (optional _ _ high) small one =
     record { small = small; supported = grind (arith, common_steps, high); known = grind (arith, common_steps, high); allowed = grind (arith, common_steps, high) }
 length_fits _ _ _ ends small one = record { small = small; supported = refl; known = refl; allowed = refl }

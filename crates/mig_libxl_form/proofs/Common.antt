@@ -25,6 +25,7 @@ pub use Rattle.mig_guest.specs.Guests.{GuestOf}
 pub use Rattle.mig_guest.specs.Order.{part_cmp}
 pub use Rattle.mig_guest.specs.Parts.{Part, PartMap, put_part, put_parts}
 pub use Rattle.mig_guest.specs.declared.part_key.PartKey.{PartKey}
+pub use Rattle.mig_guest.specs.Limits.{most_pairs}
 pub use Rattle.mig_headers.proofs.FirstFaults.{both_none, neither_some, no_fault, rows_fine}
 pub use Rattle.mig_headers.proofs.HeaderLaws.{marker_of}
 pub use Rattle.mig_headers.specs.Headers.{libxl_ident}
@@ -34,6 +35,7 @@ pub use Rattle.mig_headers.specs.declared.fault.Cause.TheVariants.{Truncated}
 pub use Rattle.mig_headers.specs.declared.fault.Place.{Place}
 pub use Rattle.mig_headers.specs.declared.kind.Kind.{Kind}
 pub use Rattle.mig_headers.specs.declared.kind.Kind.TheVariants.{Hvm, Pv}
+pub use Rattle.mig_headers.specs.RecordTypes.{most_policy_entries, most_body}
 pub use Rattle.mig_libxl_form.specs.Among.{has_emulator, image_among, image_in, is_libxl_ended}
 pub use Rattle.mig_libxl_form.specs.Content.{LibxlContent, LibxlRecord}
 pub use Rattle.mig_libxl_form.specs.Content.LibxlContent.{Context, Image, Nothing, Pairs}
@@ -53,3 +55,4 @@ pub use Rattle.mig_restore_form.proofs.Laws.{accepted_is_image}
 pub use Rattle.mig_restore_form.proofs.PartsInOrder.{or_none}
 pub use Rattle.mig_restore_form.specs.Spelled.{IsImage}
 pub use Rattle.mig_restore_form.specs.Stream.{ImageOf, image_at}
+pub use Rattle.mig_restore_form.specs.Judging.{most_records}

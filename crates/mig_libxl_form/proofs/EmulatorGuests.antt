@@ -1,5 +1,5 @@
 -- A guest with the parts of its emulators: what it has at each key, and that it is whole, in its blank form and of bytes.
-use Rattle.mig_libxl_form.proofs.Common.{◌≡◌, ℕ, ◌+◌, ◌≤◌, ◌^◌, true, false, List, [], ◌∷◌, ◌++◌, length, map, refl, sym, ap, subst, ◌∙◌, arith, option_or, option_map, fold-append, le-leb, AreBytes, Kind, Pv, Hvm, GuestOf, part_cmp, Part, PartMap, put_part, put_parts, PartKey, part_total, part_exact, PairMap, text_of_map, EmulatorsOf, no_emulators, store_part, AreEmulators, IsStreamed, IsStreamedBare, nil_from_length, Option, Some, None, is_none, insert_holds, maps_are_of_pairs, emulator_parts, IsEmulatorKey, IsStore}
+use Rattle.mig_libxl_form.proofs.Common.{◌≡◌, ℕ, ◌+◌, ◌≤◌, true, false, List, [], ◌∷◌, ◌++◌, length, map, refl, sym, ap, subst, ◌∙◌, arith, option_or, option_map, fold-append, le-leb, AreBytes, Kind, Pv, Hvm, GuestOf, part_cmp, Part, PartMap, put_part, put_parts, PartKey, part_total, part_exact, PairMap, text_of_map, EmulatorsOf, no_emulators, store_part, AreEmulators, IsStreamed, IsStreamedBare, nil_from_length, Option, Some, None, is_none, insert_holds, maps_are_of_pairs, emulator_parts, IsEmulatorKey, IsStore, most_pairs, most_policy_entries, most_body}
 use Rattle.std.proofs.Common.{◌-◌}
 use Rattle.std.specs.Prelude.{T, if◌then◌else◌}
 use Rattle.std.specs.FinMap.{is_sorted}
@@ -54,13 +54,13 @@ store_said key m k s = record {
     keys = and_from _ _ (lt-ltb key.key1 3 k.known) (lt-ltb key.key2 256 k.small);
     small1 = omega (arith, k.known);
     small2 = omega (arith, k.small);
-    len = and_from _ _ (le-leb 1 (length (text_of_map m)) (omega (arith, s.some))) (le-leb (length (text_of_map m)) (2 ^ 24) s.small);
+    len = and_from _ _ (le-leb 1 (length (text_of_map m)) (omega (arith, s.some))) (le-leb (length (text_of_map m)) most_pairs s.small);
     content = maps_are_of_pairs.text m s.pairs;
   };
   bytes = s.bytes;
 }
 
-context_said : (key : PartKey) (bytes : List ℕ) → IsEmulatorKey 259 key → length bytes + 8 ≤ 2 ^ 27 → AreBytes bytes → IsSaid (key, bytes)
+context_said : (key : PartKey) (bytes : List ℕ) → IsEmulatorKey 259 key → length bytes + 8 ≤ most_body → AreBytes bytes → IsSaid (key, bytes)
 context_said key bytes k small are = record {
   emulator = emulator_of 259 key refl k;
   part = λ width. record {
@@ -70,7 +70,7 @@ context_said key bytes k small are = record {
     keys = and_from _ _ (lt-ltb key.key1 3 k.known) (lt-ltb key.key2 256 k.small);
     small1 = omega (arith, k.known);
     small2 = omega (arith, k.small);
-    len = le-leb (length bytes) (2 ^ 27 - 8) (omega (arith, small));
+    len = le-leb (length bytes) (most_body - 8) (omega (arith, small));
     content = tt;
   };
   bytes = are;
@@ -115,7 +115,7 @@ module _ (g : GuestOf) (e : EmulatorsOf) (plain : IsStreamedBare g) (are : AreEm
     top = plain.whole.formed.top;
     frames = plain.whole.formed.frames;
     parts = puts_each (IsPart g.kind (width_of g)) g.parts ps (All-weaker IsSaid (λ p. IsPart g.kind (width_of g) p.0 p.1) (λ p s. subst (λ k. IsPart k (width_of g) p.0 p.1) (sym hvm) (s.part (width_of g))) ps said) plain.whole.formed.parts;
-    policies = λ code one. subst (λ l. length l ≤ 65536) (sym (same_parts code (put_parts g.parts ps) g.parts (λ key of. other_part key (ap is_emulator_code of ∙ plain_policy code one)))) (plain.whole.formed.policies code one);
+    policies = λ code one. subst (λ l. length l ≤ most_policy_entries) (sym (same_parts code (put_parts g.parts ps) g.parts (λ key of. other_part key (ap is_emulator_code of ∙ plain_policy code one)))) (plain.whole.formed.policies code one);
   }
 
   hvm_done : g.kind ≡ Hvm → IsStreamed (with_emulators g e)

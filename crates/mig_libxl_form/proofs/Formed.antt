@@ -1,5 +1,5 @@
 -- Emulators stay well formed, whatever pairs and contexts come.
-use Rattle.mig_libxl_form.proofs.Common.{◌≡◌, ℕ, ◌+◌, ◌≤◌, ◌<◌, ◌^◌, List, [], ◌∷◌, ◌++◌, length, Option, Some, None, refl, sym, subst, arith, unwrap_or, nat_cmp, AreBytes, Pair, PartKey, part_total, part_exact, pairs_fault, PairMap, text_of_map, put_pairs, pairs_are_read, some_bytes_are_some_pairs, EmulatorsOf, store_at, add_pairs, AreEmulators, ◌∙◌, no_emulators, slice_cmp, none-some, insert_holds, maps_are_of_pairs, IsEmulatorKey, IsStore}
+use Rattle.mig_libxl_form.proofs.Common.{◌≡◌, ℕ, ◌+◌, ◌≤◌, ◌<◌, List, [], ◌∷◌, ◌++◌, length, Option, Some, None, refl, sym, subst, arith, unwrap_or, nat_cmp, AreBytes, Pair, PartKey, part_total, part_exact, pairs_fault, PairMap, text_of_map, put_pairs, pairs_are_read, some_bytes_are_some_pairs, EmulatorsOf, store_at, add_pairs, AreEmulators, ◌∙◌, no_emulators, slice_cmp, none-some, insert_holds, maps_are_of_pairs, IsEmulatorKey, IsStore, most_pairs, most_body}
 use Rattle.std.specs.List.{AllByRecursion, flat_map}
 use Rattle.std.specs.declared.cmp.Ordering.TheVariants.{Equal, Less, Greater}
 use Rattle.std.specs.FinMap.{entries-insert}
@@ -72,13 +72,13 @@ added_bytes m slice none text are =
 -- a store, or an empty one
 record IsOld (m : PairMap) : Type 0 where
   pairs : IsOfPairs m
-  small : length (text_of_map m) ≤ 2 ^ 24
+  small : length (text_of_map m) ≤ most_pairs
   bytes : AreBytes (text_of_map m)
 
 old_of : (key : PartKey) (o : Option PairMap) → ((m : PairMap) → o ≡ Some m → IsEmulatorKey 258 key × IsStore m) → IsOld (unwrap_or o maps.empty)
 old_of key None is = record {
   pairs = maps_are_of_pairs.none;
-  small = subst (λ l. length l ≤ 2 ^ 24) (sym maps_are_of_pairs.empty) (omega arith);
+  small = subst (λ l. length l ≤ most_pairs) (sym maps_are_of_pairs.empty) (omega arith);
   bytes = subst AreBytes (sym maps_are_of_pairs.empty) (All-from_recursion (λ b. b < 256) [] tt);
 }
 old_of key (Some m) is = let s = (is m refl).1 in record { pairs = s.pairs; small = s.small; bytes = s.bytes }
@@ -86,7 +86,7 @@ old_of key (Some m) is = let s = (is m refl).1 in record { pairs = s.pairs; smal
 old_store : (e : EmulatorsOf) (key : PartKey) → AreEmulators e → IsOld (store_at e.stores key)
 old_store e key are = old_of key (maps.get e.stores key) (are.stores key)
 
-pub store_small : (e : EmulatorsOf) (key : PartKey) → AreEmulators e → length (text_of_map (store_at e.stores key)) ≤ 2 ^ 24
+pub store_small : (e : EmulatorsOf) (key : PartKey) → AreEmulators e → length (text_of_map (store_at e.stores key)) ≤ most_pairs
 store_small e key are = (old_store e key are).small
 
 -- where there are pairs there are bytes
@@ -98,16 +98,16 @@ some_slice (b ∷ bs) p ps e = omega arith
 -- ---- emulators of which one has more
 
 module _ (e new : EmulatorsOf) (slice : List ℕ) (id index : ℕ) (before : AreEmulators e) (known : id < 3) (small : index < 256) where
-  pub context_kept : new ≡ record e { contexts = maps.insert e.contexts (record { code = 259; key1 = id; key2 = index }) slice } → length slice + 8 ≤ 2 ^ 27 → AreBytes slice → AreEmulators new
+  pub context_kept : new ≡ record e { contexts = maps.insert e.contexts (record { code = 259; key1 = id; key2 = index }) slice } → length slice + 8 ≤ most_body → AreBytes slice → AreEmulators new
   context_kept is short are =
       subst AreEmulators (sym is) (record {
         stores = before.stores;
-        contexts = insert_holds part_total part_exact (λ key bytes. IsEmulatorKey 259 key × (length bytes + 8 ≤ 2 ^ 27) × AreBytes bytes) e.contexts (record { code = 259; key1 = id; key2 = index }) slice before.contexts
+        contexts = insert_holds part_total part_exact (λ key bytes. IsEmulatorKey 259 key × (length bytes + 8 ≤ most_body) × AreBytes bytes) e.contexts (record { code = 259; key1 = id; key2 = index }) slice before.contexts
             (record { is = refl; known = known; small = small }, short, are);
       })
 
   pub pairs_kept : new ≡ add_pairs e (record { code = 258; key1 = id; key2 = index }) (pairs_in slice) → pairs_fault slice ≡ None
-      → length (text_of_map (put_pairs (store_at e.stores (record { code = 258; key1 = id; key2 = index })) (pairs_in slice))) ≤ 2 ^ 24 → AreBytes slice → AreEmulators new
+      → length (text_of_map (put_pairs (store_at e.stores (record { code = 258; key1 = id; key2 = index })) (pairs_in slice))) ≤ most_pairs → AreBytes slice → AreEmulators new
   pairs_kept is none fits are = subst AreEmulators (sym is) (by_pairs (pairs_in slice) refl)
     where
       key : PartKey

@@ -1,5 +1,5 @@
 -- Records: those that pass are those that are spelled.
-use Rattle.mig_libxl_form.proofs.Common.{◌≡◌, ℕ, ◌≤◌, ◌<◌, ◌^◌, Bool, true, false, cond, List, [], ◌++◌, length, nat_eq, Option, Some, None, is_some, is_none, refl, sym, ap, subst, ◌∙◌, arith, append_assoc, length-append, ◌&&◌, ◌||◌, eqb-true, lt-leb, common_steps, Judged, ◌>>=◌, placed, Passes, said_goes, said_passes, Cause, Truncated, Place, Kind, Pv, Hvm, IsImage, ImageOf, LibxlRecord, LibxlContent, is_libxl_ended, image_among, Image, body_of_type, HasLibxlContent, EmulatorsFit, FollowsLibxl, nil_from_length, leb-false, both_pass, placed_passes, same_passes, then_passes, both_none, neither_some, no_fault, rows_fine, image_at, accepted_is_image, has_emulator, emulators_of, IsLibxlRecord}
+use Rattle.mig_libxl_form.proofs.Common.{◌≡◌, ℕ, ◌≤◌, ◌<◌, Bool, true, false, cond, List, [], ◌++◌, length, nat_eq, Option, Some, None, is_some, is_none, refl, sym, ap, subst, ◌∙◌, arith, append_assoc, length-append, ◌&&◌, ◌||◌, eqb-true, lt-leb, common_steps, Judged, ◌>>=◌, placed, Passes, said_goes, said_passes, Cause, Truncated, Place, Kind, Pv, Hvm, IsImage, ImageOf, LibxlRecord, LibxlContent, is_libxl_ended, image_among, Image, body_of_type, HasLibxlContent, EmulatorsFit, FollowsLibxl, nil_from_length, leb-false, both_pass, placed_passes, same_passes, then_passes, both_none, neither_some, no_fault, rows_fine, image_at, accepted_is_image, has_emulator, emulators_of, IsLibxlRecord, most_body, most_records}
 use Rattle.mig_bytes.specs.Bytes.{padding_len}
 use Rattle.mig_bytes.specs.Judged.{part}
 use Rattle.mig_records.specs.Records.{IsRecord}
@@ -17,7 +17,7 @@ use Rattle.mig_libxl_form.proofs.Bodies.{FineFields, fields_fine, fine_fields, b
 -- ---- the head
 
 record FineOrder (records : List LibxlRecord) (type : ℕ) : Type 0 where
-  few : length records < 2 ^ 28
+  few : length records < most_records
   one_image : type ≡ 1 → image_among records ≡ None
   complete : type ≡ 0 → IsLibxlComplete records
 
@@ -37,7 +37,7 @@ unfolding fault_of_order
 order_fine records type fine =
     let rows = rows_fine (order_rows records type) fine in
     record {
-      few = leb-false (2 ^ 28) (length records) rows.0;
+      few = leb-false most_records (length records) rows.0;
       one_image = λ one. none_is (image_among records) (grind (arith, common_steps, rows.1.1.0, one));
       complete = λ zero. complete_is records (image_among records) refl (grind (arith, common_steps, rows.1.1.0, zero)) (grind (arith, common_steps, rows.1.0, zero));
     }
@@ -115,7 +115,7 @@ module _ (records : List LibxlRecord) where
         whole = ap (λ l. head ++ l) (s.whole ∙ ap (λ l. s.body ++ l) behind ∙ sym (append_assoc s.body padding rest)) ∙ sym (append_assoc head (s.body ++ padding) rest);
         some = omega (arith, size, length-append head (s.body ++ padding));
         follows = record {
-          is = a_body (le32 head 0) s.body text c (record { head = head; padding = padding; whole = refl; head_len = size; type_is = refl; len_is = sym s.body_len; padded = padded ∙ ap padding_len (sym s.body_len) }) (subst (λ n. n ≤ 2 ^ 27) (sym s.body_len) f.small) s.says;
+          is = a_body (le32 head 0) s.body text c (record { head = head; padding = padding; whole = refl; head_len = size; type_is = refl; len_is = sym s.body_len; padded = padded ∙ ap padding_len (sym s.body_len) }) (subst (λ n. n ≤ most_body) (sym s.body_len) f.small) s.says;
           fits = s.fits;
           few = o.few;
           not_ended = going;
@@ -161,7 +161,7 @@ not_pv records Hvm alone image is = grind (arith, common_steps, is)
 fine_order : (records : List LibxlRecord) (type : ℕ) → FineOrder records type → fault_of_order records type ≡ None
 unfolding fault_of_order
 fine_order records type o =
-    no_fault (order_rows records type) (lt-leb (2 ^ 28) (length records) o.few, (stands (nat_eq type 0) refl, (counted (nat_eq type 1) (nat_eq type 0) refl refl, tt)))
+    no_fault (order_rows records type) (lt-leb most_records (length records) o.few, (stands (nat_eq type 0) refl, (counted (nat_eq type 1) (nat_eq type 0) refl refl, tt)))
   where
     stands : (b : Bool) → nat_eq type 0 ≡ b → (b && (is_pv (image_among records) && has_emulator records)) ≡ false
     stands false zero = refl
@@ -211,7 +211,7 @@ module _ (records : List LibxlRecord) where
       ∙ goes_behind is.head (text ++ rest) (Image im) [] rest is.head_len fields order says (ap padding_len (sym none))
       ∙ ap (λ t. Passes (record { type = t; content = Image im }) rest) is.type_is
 
-  body_record_goes : (type : ℕ) (body text rest : List ℕ) (c : LibxlContent) → IsRecord type body text → length body ≤ 2 ^ 27 → HasLibxlContent type body c → EmulatorsFit records c → FineOrder records type → nat_eq type 1 ≡ false
+  body_record_goes : (type : ℕ) (body text rest : List ℕ) (c : LibxlContent) → IsRecord type body text → length body ≤ most_body → HasLibxlContent type body c → EmulatorsFit records c → FineOrder records type → nat_eq type 1 ≡ false
       → libxl_record_at records (text ++ rest) ≡ Passes (record { type = type; content = c }) rest
   body_record_goes type body text rest c is small says fits o one =
       let mid = body ++ (is.padding ++ rest) in

@@ -1,6 +1,6 @@
 -- What the records of emulators mean: of each key of an emulator's store the last value, and of each emulator the last
 -- context (libxl migration stream, "EMULATOR_XENSTORE_DATA" and "EMULATOR_CONTEXT").
-use Rattle.std.specs.Prelude.{◌≡◌, ℕ, List, [], ◌∷◌, ◌++◌, fold, map, Option, Some, None, option_and_then, unwrap_or, if◌then◌else◌, refl, length, ◌^◌}
+use Rattle.std.specs.Prelude.{◌≡◌, ℕ, List, [], ◌∷◌, ◌++◌, fold, map, Option, Some, None, option_and_then, unwrap_or, if◌then◌else◌, refl, length}
 use Rattle.std.specs.Option.{option_or}
 use Rattle.std.specs.Coded.{Coded, code_by, coded×}
 use Rattle.std.specs.FinMap as maps
@@ -78,10 +78,6 @@ abbrev pub value_in_store : EmulatorsOf → PartKey → List ℕ → Option (Lis
 value_in_store e key k = option_and_then (λ m. maps.get m k) (maps.get e.stores key)
 
 -- ---- how many pairs there may be
-
--- the most bytes that the pairs of an emulator spell
-abbrev pub most_pairs : ℕ
-most_pairs = 2 ^ 24
 
 -- how many bytes the pairs of the emulator with this key spell once these are added
 abbrev pub spelled_with : EmulatorsOf → PartKey → List Pair → ℕ

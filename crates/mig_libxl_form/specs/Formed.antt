@@ -1,9 +1,10 @@
 -- Emulators that are well formed, as a reader keeps them whatever comes, before they are set in a guest.
-use Rattle.std.specs.Prelude.{◌≡◌, ◌≤◌, ◌<◌, ◌+◌, ◌^◌, ℕ, List, length, Some}
+use Rattle.std.specs.Prelude.{◌≡◌, ◌≤◌, ◌<◌, ◌+◌, ℕ, List, length, Some}
 use Rattle.std.specs.FinMap as maps
 use Rattle.mig_bytes.specs.Bytes.{AreBytes}
 use Rattle.mig_headers.specs.RecordTypes.{most_body}
 use Rattle.mig_guest.specs.declared.part_key.PartKey.{PartKey}
+use Rattle.mig_guest.specs.Limits.{most_pairs}
 use Rattle.mig_policy.specs.PairMaps.{PairMap, IsOfPairs, text_of_map}
 use Rattle.mig_libxl_form.specs.Emulators.{EmulatorsOf}
 
@@ -17,7 +18,7 @@ pub record IsEmulatorKey (code : ℕ) (key : PartKey) : Type 0 where
 pub record IsStore (m : PairMap) : Type 0 where
   pub pairs : IsOfPairs m
   pub some : 0 < length (text_of_map m)
-  pub small : length (text_of_map m) ≤ 2 ^ 24
+  pub small : length (text_of_map m) ≤ most_pairs
   pub bytes : AreBytes (text_of_map m)
 
 pub record AreEmulators (e : EmulatorsOf) : Type 0 where

@@ -15,6 +15,7 @@ use Rattle.mig_headers.specs.declared.fault.Cause.TheVariants.{Truncated, BodyTo
 use Rattle.mig_headers.specs.declared.fault.Place.{Place}
 use Rattle.mig_headers.specs.declared.fault.Place.TheVariants.{LibxlRecord as AtRecord}
 use Rattle.mig_guest.specs.declared.part_key.PartKey.{PartKey}
+use Rattle.mig_guest.specs.Limits.{most_pairs}
 use Rattle.mig_policy.specs.PairFaults.{pairs_fault}
 use Rattle.mig_policy.specs.PairMaps.{pairs_in}
 use Rattle.mig_restore_form.specs.Judging.{most_records}
@@ -22,7 +23,7 @@ use Rattle.mig_restore_form.specs.Stream.{ImageOf, image_at}
 use Rattle.mig_libxl_form.specs.Content.{LibxlRecord, LibxlContent}
 use Rattle.mig_libxl_form.specs.Among.{has_emulator, image_among}
 use Rattle.mig_libxl_form.specs.Content.LibxlContent.{Nothing, Image, Pairs, Context}
-use Rattle.mig_libxl_form.specs.Emulators.{EmulatorsOf, emulators_of, most_pairs, spelled_with}
+use Rattle.mig_libxl_form.specs.Emulators.{EmulatorsOf, emulators_of, spelled_with}
 
 -- ---- the head
 

@@ -8,6 +8,7 @@ use Rattle.mig_headers.specs.Pairs.{Pair}
 use Rattle.mig_headers.specs.declared.kind.Kind.TheVariants.{Pv}
 use Rattle.mig_guest.specs.Guests.{GuestOf}
 use Rattle.mig_guest.specs.declared.part_key.PartKey.{PartKey}
+use Rattle.mig_guest.specs.Limits.{most_pairs}
 use Rattle.mig_policy.specs.PairFaults.{SpellPairs}
 use Rattle.mig_records.specs.Records.{IsRecord}
 use Rattle.mig_restore_form.specs.Judging.{most_records}
@@ -16,7 +17,7 @@ use Rattle.mig_restore_form.specs.Stream.{ImageOf}
 use Rattle.mig_libxl_form.specs.Content.{LibxlRecord, LibxlContent}
 use Rattle.mig_libxl_form.specs.Among.{is_libxl_ended, has_emulator, image_among}
 use Rattle.mig_libxl_form.specs.Content.LibxlContent.{Nothing, Image, Pairs, Context}
-use Rattle.mig_libxl_form.specs.Emulators.{emulators_of, most_pairs, spelled_with}
+use Rattle.mig_libxl_form.specs.Emulators.{emulators_of, spelled_with}
 use Rattle.mig_libxl_form.specs.Stream.{StreamOf, guest_of, image_of_stream}
 use Rattle.mig_libxl_form.specs.Stream.StreamOf.{Bare, Wrapped}
 

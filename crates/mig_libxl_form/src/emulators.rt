@@ -1,6 +1,7 @@
-ghost use Rattle.std.specs.Prelude.{◌≡◌, ◌≤◌, map, ◌<◌, ◌^◌, length, None, OnOk, OnErr, IsErrOf};
+ghost use Rattle.std.specs.Prelude.{◌≡◌, ◌≤◌, map, ◌<◌, length, None, OnOk, OnErr, IsErrOf};
 ghost use Rattle.std.specs.FinMap as maps;
 ghost use Rattle.mig_guest.specs.Parts.{put_parts};
+ghost use Rattle.mig_guest.specs.Limits.{most_pairs};
 ghost use Rattle.mig_policy.specs.PairFaults.{pairs_fault};
 ghost use Rattle.mig_policy.specs.PairMaps.{pairs_in, put_pairs, text_of_map};
 ghost use Rattle.mig_policy.specs.declared.pair_map.PairsAnswer.TheVariants.{TooMany};
@@ -47,10 +48,10 @@ impl Emulators {
     /// first on, and all else is as it was.
     pub fn add_pairs(&mut self, key: PartKey, bytes: &[u8]) -> Result<(), PairsAnswer>
         requires faultless { pairs_fault bytes.now ≡ None }
-        requires small { length (text_of_map (store_at self.old.stores key)) ≤ 2 ^ 24 }
+        requires small { length (text_of_map (store_at self.old.stores key)) ≤ most_pairs }
         ensures ok { OnOk result (self.new ≡ add_pairs self.old key (pairs_in bytes.now)) }
-        ensures fits { OnOk result (length (text_of_map (put_pairs (store_at self.old.stores key) (pairs_in bytes.now))) ≤ 2 ^ 24) }
-        ensures too_many { IsErrOf result TooMany → 2 ^ 24 < length (text_of_map (put_pairs (store_at self.old.stores key) (pairs_in bytes.now))) }
+        ensures fits { OnOk result (length (text_of_map (put_pairs (store_at self.old.stores key) (pairs_in bytes.now))) ≤ most_pairs) }
+        ensures too_many { IsErrOf result TooMany → most_pairs < length (text_of_map (put_pairs (store_at self.old.stores key) (pairs_in bytes.now))) }
         ensures err { OnErr result (ArePairsBegun self.old self.new key (pairs_in bytes.now)) }
     {
         if bytes.is_empty() {

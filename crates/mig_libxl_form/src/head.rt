@@ -6,10 +6,11 @@ ghost use Rattle.mig_libxl_form.specs.Behind.{AreBehind, MayFollow};
 
 use crate::numbers::{
     CHECKPOINT_END, CHECKPOINT_STATE, EMULATOR_CONTEXT, EMULATOR_XENSTORE_DATA, LIBXC_CONTEXT,
-    LIBXL_END, MAX_RECORDS,
+    LIBXL_END,
 };
 use mig_headers::{Cause, Kind, is_optional};
 use mig_records::{RecordHead, long_fault};
+use mig_restore_form::MOST_RECORDS;
 
 /// What the head of a libxl record is judged by, of the records before it.
 #[derive(Clone, Copy, Debug, PartialEq, Eq)]
@@ -64,7 +65,7 @@ pub fn libxl_head_fault(head: RecordHead, behind: RecordsBehind) -> Option<Cause
     if let Some(cause) = lone_fault(head) {
         return Some(cause);
     }
-    if behind.records >= MAX_RECORDS {
+    if behind.records >= MOST_RECORDS {
         return Some(Cause::TooManyRecords);
     }
     if head.kind == LIBXL_END && behind.image == Some(Kind::Pv) && behind.emulated {

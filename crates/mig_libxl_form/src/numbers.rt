@@ -14,6 +14,3 @@ pub const EMULATOR_CONTEXT: u32 = 3;
 pub(crate) const CHECKPOINT_END: u32 = 4;
 
 pub(crate) const CHECKPOINT_STATE: u32 = 5;
-
-/// The most records of a stream.
-pub(crate) const MAX_RECORDS: u32 = mig_restore_form::MAX_RECORDS;

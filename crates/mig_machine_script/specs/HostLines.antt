@@ -3,13 +3,13 @@ use Rattle.std.specs.Prelude.{ℕ, ◌+◌, ◌^◌, ◌==◌, ◌&&◌, Bool, t
 use Rattle.std.specs.List.{fold, list_any, range_with_len}
 use Rattle.std.specs.FinMap as maps
 use Rattle.mig_headers.specs.declared.kind.Kind.{Kind}
-use Rattle.mig_pagetypes.specs.Limits.{most_frames}
+use Rattle.mig_pagetypes.specs.Limits.{most_frames, machine_limit}
 use Rattle.mig_pagetypes.specs.PageTypes.{level_of, type_of}
 use Rattle.mig_pagetypes.specs.declared.page_type.PageType.{PageType}
 use Rattle.mig_pagetypes.specs.declared.page_type.PageType.TheVariants.{Notab}
 use Rattle.mig_guest.specs.declared.part_key.PartKey.{PartKey}
 use Rattle.mig_guest.specs.Frames.{is_type_of}
-use Rattle.mig_guest.specs.Hosts.{HostOf, HostFrame, HostFrames, machine_limit}
+use Rattle.mig_guest.specs.Hosts.{HostOf, HostFrame, HostFrames}
 use Rattle.mig_host.specs.HostView.{has_machine, put_frame, put_part_in}
 use Rattle.mig_host.specs.Changes.{raw_page_at, page_written, typed, exchanged, without_frame}
 use Rattle.mig_guest.specs.PartCodes.{is_fixed}

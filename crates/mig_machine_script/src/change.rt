@@ -1,8 +1,8 @@
 ghost use Rattle.std.specs.Prelude.{◌≡◌, ◌+◌, ◌≤◌, ◌&&◌, ℕ, true, false, not, is_some, nat_le, nat_lt, if◌then◌else◌, Some, None, IfSome, IfNone};
 ghost use Rattle.std.specs.FinMap as maps;
 ghost use Rattle.mig_pagetypes.specs.PageTypes.{type_of};
+ghost use Rattle.mig_pagetypes.specs.Limits.{machine_limit};
 ghost use Rattle.mig_guest.specs.Frames.{is_type_of as is_type_of_kind};
-ghost use Rattle.mig_guest.specs.Hosts.{machine_limit};
 ghost use Rattle.mig_host.specs.HostView.{has_machine};
 ghost use Rattle.mig_machine_script.specs.ScriptLines.{line_said};
 ghost use Rattle.mig_machine_script.specs.ScriptLines.LineOf.{Write as Writes, Retype as Retypes, Add as Adds, Remove as Removes, Exchange as Exchanges, Put as Puts};
@@ -12,8 +12,8 @@ use crate::named::is_named;
 use crate::script::Line;
 use mig_guest::{PartKey, is_fixed};
 use mig_headers::Kind;
-use mig_host::{Host, MACHINE_LIMIT};
-use mig_pagetypes::{MAX_FRAMES, PageType};
+use mig_host::Host;
+use mig_pagetypes::{MACHINE_LIMIT, MOST_FRAMES, PageType};
 use mig_pvtables::Frames;
 
 /// The last number of a type.
@@ -125,7 +125,7 @@ fn can_add(host: &Host, pfn: u64, mfn: u64) -> bool
 {
     pfn < host.width()
         && host.frame(pfn).is_none()
-        && host.frames() < MAX_FRAMES
+        && host.frames() < MOST_FRAMES
         && can_come(host, mfn)
 }
 

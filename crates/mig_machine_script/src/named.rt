@@ -9,8 +9,8 @@ ghost use Rattle.mig_machine_script.specs.HostLines.{is_machine, table_names as 
 use mig_bytes::u64_le;
 use mig_guest::Entry;
 use mig_headers::Kind;
-use mig_host::{Host, MACHINE_LIMIT};
-use mig_pagetypes::PageType;
+use mig_host::Host;
+use mig_pagetypes::{MACHINE_LIMIT, PageType};
 use mig_pvtables::entry;
 
 /// How many slots a table has.

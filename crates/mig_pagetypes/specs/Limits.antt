@@ -12,3 +12,7 @@ top_limit = 2 ^ 32
 -- the most frames that a guest or a host may have
 abbrev pub most_frames : ℕ
 most_frames = 2 ^ 24
+
+-- machine frames (MFN) are below this
+abbrev pub machine_limit : ℕ
+machine_limit = 2 ^ 40

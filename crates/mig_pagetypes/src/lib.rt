@@ -24,4 +24,7 @@ pub use page_type::PageType;
 pub const PFN_LIMIT: u64 = 1 << 52;
 
 /// The most frames that a guest or a host may have.
-pub const MAX_FRAMES: u64 = 1 << 24;
+pub const MOST_FRAMES: u64 = 1 << 24;
+
+/// Machine frames (MFN) are below this.
+pub const MACHINE_LIMIT: u64 = 1 << 40;

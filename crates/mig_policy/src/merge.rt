@@ -3,6 +3,7 @@ ghost use Rattle.std.specs.FinMap as maps;
 ghost use Rattle.mig_policy.specs.PairFaults.{pairs_fault};
 ghost use Rattle.mig_policy.specs.PairMaps.{text_of_map, pairs_key, part_bytes, merged, merged_at, with_pairs};
 ghost use Rattle.mig_policy.specs.declared.pair_map.PairsAnswer.TheVariants.{TooMany};
+ghost use Rattle.mig_guest.specs.Limits.{most_pairs};
 
 use crate::pair_map::{PairMap, PairsAnswer};
 use mig_bytes::Memory;
@@ -22,8 +23,8 @@ fn merged_map(alloc: Global, part: &[u8], bytes: &[u8]) -> Result<PairMap, Memor
 /// The text of the pairs of a part and of those added to it.
 fn merged_text(alloc: Global, part: &[u8], bytes: &[u8]) -> Result<Vec<u8>, PairsAnswer>
     ensures ok { IfOk result (λ text. text.items ≡ text_of_map (merged part.now bytes.now)) }
-    ensures fits { IfOk result (λ text. length (text_of_map (merged part.now bytes.now)) ≤ 2 ^ 24) }
-    ensures too_many { IsErrOf result TooMany → 2 ^ 24 < length (text_of_map (merged part.now bytes.now)) }
+    ensures fits { IfOk result (λ text. length (text_of_map (merged part.now bytes.now)) ≤ most_pairs) }
+    ensures too_many { IsErrOf result TooMany → most_pairs < length (text_of_map (merged part.now bytes.now)) }
 {
     let Ok(map) = merged_map(alloc, part, bytes) else {
         return Err(PairsAnswer::Memory);
@@ -58,8 +59,8 @@ pub fn merge_pairs(
 ) -> Result<(), PairsAnswer>
     requires { pairs_fault bytes.now ≡ None }
     ensures ok { OnOk result (guest.new ≡ record guest.old { parts = with_pairs guest.old.parts (pairs_key id index) bytes.now }) }
-    ensures fits { OnOk result (length (text_of_map (merged_at guest.old.parts (pairs_key id index) bytes.now)) ≤ 2 ^ 24) }
-    ensures too_many { IsErrOf result TooMany → 2 ^ 24 < length (text_of_map (merged_at guest.old.parts (pairs_key id index) bytes.now)) }
+    ensures fits { OnOk result (length (text_of_map (merged_at guest.old.parts (pairs_key id index) bytes.now)) ≤ most_pairs) }
+    ensures too_many { IsErrOf result TooMany → most_pairs < length (text_of_map (merged_at guest.old.parts (pairs_key id index) bytes.now)) }
     ensures err { OnErr result (guest.new ≡ guest.old) }
 {
     let key = PartKey {

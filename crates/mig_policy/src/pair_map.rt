@@ -2,9 +2,11 @@ ghost use Rattle.std.specs.Prelude.{◌≡◌, ◌≤◌, ◌<◌, ◌^◌, ◌+
 ghost use Rattle.std.specs.FinMap as maps;
 ghost use Rattle.mig_policy.specs.PairMaps.{AreBegun, put_pairs, pairs_in, text_of_map, text_of_entry};
 ghost use Rattle.mig_policy.specs.declared.pair_map.PairsAnswer.TheVariants.{TooMany};
+ghost use Rattle.mig_guest.specs.Limits.{most_pairs};
 
 use crate::texts::split_pair;
 use mig_bytes::Memory;
+use mig_guest::MOST_PAIRS;
 use std::alloc::Global;
 use std::collections::BTreeMap;
 use std::marker::Model;
@@ -13,15 +15,13 @@ use thiserror::Error;
 /// Why pairs aren't added.
 #[derive(Clone, Copy, Debug, PartialEq, Eq, Error)]
 pub enum PairsAnswer {
-    /// The pairs, the earlier ones included, spell more than 2^24 bytes.
+    /// The pairs, the earlier ones included, spell more than `MOST_PAIRS` bytes.
     #[error("the pairs spell too many bytes")]
     TooMany,
     /// There was no memory.
     #[error("no memory was found")]
     Memory,
 }
-
-const MAX_TEXT: usize = 1 << 24;
 
 /// Values by their keys, as an emulator's records set them one after another; of each key the last decides.
 #[derive(Drop)]
@@ -119,19 +119,19 @@ impl PairMap {
 
     /// Whether the text is no longer than an emulator's pairs may be.
     pub(crate) fn fits(&self) -> bool
-        ensures fits { result ≡ true → length (text_of_map self.now) ≤ 2 ^ 24 }
-        ensures too_many { result ≡ false → 2 ^ 24 < length (text_of_map self.now) }
+        ensures fits { result ≡ true → length (text_of_map self.now) ≤ most_pairs }
+        ensures too_many { result ≡ false → most_pairs < length (text_of_map self.now) }
     {
-        self.len <= MAX_TEXT
+        self.len <= MOST_PAIRS as usize
     }
 
     /// Adds the pairs of these bytes. After an error some of them are there, from the first on: all where they are too
     /// many.
     pub fn add(&mut self, bytes: &[u8]) -> Result<(), PairsAnswer>
-        requires small { length (text_of_map self.old) ≤ 2 ^ 24 }
+        requires small { length (text_of_map self.old) ≤ most_pairs }
         ensures ok { OnOk result (self.new ≡ put_pairs self.old (pairs_in bytes.now)) }
-        ensures fits { OnOk result (length (text_of_map self.new) ≤ 2 ^ 24) }
-        ensures too_many { IsErrOf result TooMany → 2 ^ 24 < length (text_of_map (put_pairs self.old (pairs_in bytes.now))) }
+        ensures fits { OnOk result (length (text_of_map self.new) ≤ most_pairs) }
+        ensures too_many { IsErrOf result TooMany → most_pairs < length (text_of_map (put_pairs self.old (pairs_in bytes.now))) }
         ensures all { IsErrOf result TooMany → self.new ≡ put_pairs self.old (pairs_in bytes.now) }
         ensures err { OnErr result (AreBegun self.old self.new (pairs_in bytes.now)) }
     {

@@ -1,5 +1,5 @@
 -- The blank form of a whole guest is whole.
-use Rattle.mig_pvtables.proofs.Common.{◌≡◌, ℕ, ◌%◌, ◌^◌, ◌<◌, ◌≤◌, Bool, true, false, cond, List, length, Option, Some, None, IsSome, refl, sym, ap, subst, ◌∙◌, arith, ◌==◌, nat_le, length-replicate, option_map, nat_cmp_total, nat_cmp-IsAntisymmetric, eqb-true, eq-eqb, Pv, Hvm, level_of, PartKey, Frame, IsFormed, IsGuestFrame, IsPart, width_of, gdt_ents, FrameOf, FrameMap, GuestOf, p2m_key, vcpu_key, shared_key, EachEntry, IsWithin, blanked_table, length_longs, part_total, part_exact, blanked_page, blanked_frame, blanked_part, blank_of, blank, place_of, type_at, fits_field, field_value, frame_of_field, is_used, blanked_context, blanked_shared, IsWhole, pfn_limit, Kind, PartCode, VcpuBasic, SharedInfo, IsContent, IsFrame, row_of, code_number, of_part, AreP2mFrames, FieldsFit, IsCompletePv}
+use Rattle.mig_pvtables.proofs.Common.{◌≡◌, ℕ, ◌%◌, ◌^◌, ◌<◌, ◌≤◌, Bool, true, false, cond, List, length, Option, Some, None, IsSome, refl, sym, ap, subst, ◌∙◌, arith, ◌==◌, nat_le, length-replicate, option_map, nat_cmp_total, nat_cmp-IsAntisymmetric, eqb-true, eq-eqb, Pv, Hvm, level_of, PartKey, Frame, IsFormed, IsGuestFrame, IsPart, width_of, gdt_ents, FrameOf, FrameMap, GuestOf, p2m_key, vcpu_key, shared_key, EachEntry, IsWithin, blanked_table, length_longs, part_total, part_exact, blanked_page, blanked_frame, blanked_part, blank_of, blank, place_of, type_at, fits_field, field_value, frame_of_field, is_used, blanked_context, blanked_shared, IsWhole, pfn_limit, Kind, PartCode, VcpuBasic, SharedInfo, IsContent, IsFrame, row_of, code_number, of_part, AreP2mFrames, FieldsFit, IsCompletePv, most_gdt_entries, most_policy_entries}
 use Rattle.mig_guest.specs.Formed.{HasNoEmulators}
 use Rattle.mig_guest.proofs.PartRows.{raw}
 use Rattle.mig_pvtables.specs.Blank.{zero_page}
@@ -39,7 +39,7 @@ module _ (kind : Kind) (width : ℕ) (key : PartKey) (part : List ℕ) (is : IsP
   resized code changed number len content = to_guest width code changed number len (to_host width is.code part is.number is.len is (raw is.code part is.content)) content
 
   -- no more descriptors than before
-  few_ents : (n : ℕ) → gdt_ents part ≤ 7168 → n ≡ gdt_ents part % 2 ^ 64 → n ≤ 7168
+  few_ents : (n : ℕ) → gdt_ents part ≤ most_gdt_entries → n ≡ gdt_ents part % 2 ^ 64 → n ≤ most_gdt_entries
   few_ents n few e = omega (arith, few, e)
 
   -- by whether it is a context, and whether it is the shared page
@@ -66,7 +66,7 @@ module _ (g : GuestOf) where
     parts = λ key part is.
         let (x, found, same) = from_each part_total part_exact blanked_part g.parts key part is in
         subst (IsPart g.kind (width_of g) key) same (blanked_is_part g.kind (width_of g) key x (formed.parts key x found));
-    policies = λ code policy. subst (λ n. n ≤ 65536) (sym (count_each part_total part_exact blanked_part (λ (k : PartKey). k.code == code) g.parts)) (formed.policies code policy);
+    policies = λ code policy. subst (λ n. n ≤ most_policy_entries) (sym (count_each part_total part_exact blanked_part (λ (k : PartKey). k.code == code) g.parts)) (formed.policies code policy);
   }
 
   -- ---- and complete
@@ -94,7 +94,7 @@ module _ (g : GuestOf) (formed : IsFormed g) where
   module _ (key : PartKey) (context : List ℕ) (found : maps.get g.parts key ≡ Some context) (code : key.code ≡ 4) (field : ℕ) (most : field ≤ 18) where
     -- the GDT has as many descriptors
     same_ents : gdt_ents (blanked_context context) ≡ gdt_ents context
-    same_ents = let few : gdt_ents context ≤ 7168 = (of_part VcpuBasic g.kind (width_of g) (key, context) (formed.parts key context found) code).content in blanked_ents context ∙ omega (arith, few)
+    same_ents = let few : gdt_ents context ≤ most_gdt_entries = (of_part VcpuBasic g.kind (width_of g) (key, context) (formed.parts key context found) code).content in blanked_ents context ∙ omega (arith, few)
 
     -- the vCPU uses the field where it did
     pub still_used : is_used key.key1 (gdt_ents (blanked_context context)) field (field_value (blanked_context context) field) ≡ is_used key.key1 (gdt_ents context) field (field_value context field)

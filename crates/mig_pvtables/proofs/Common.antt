@@ -37,10 +37,12 @@ pub use Rattle.mig_guest.specs.declared.part_code.PartCode.TheVariants.{SharedIn
 pub use Rattle.mig_guest.specs.declared.part_key.PartKey.{PartKey}
 pub use Rattle.mig_guest.specs.declared.table.Entry.{Entry}
 pub use Rattle.mig_guest.specs.declared.table.Entry.TheVariants.{Blank, Frame, NotPresent, Superpage}
+pub use Rattle.mig_guest.specs.Limits.{most_gdt_entries}
 pub use Rattle.mig_headers.proofs.FirstFaults.{both_none}
 pub use Rattle.mig_headers.specs.declared.fault.Cause.TheVariants.{Missing, TooManyFrames}
 pub use Rattle.mig_headers.specs.declared.kind.Kind.{Kind}
 pub use Rattle.mig_headers.specs.declared.kind.Kind.TheVariants.{Hvm, Pv}
+pub use Rattle.mig_headers.specs.RecordTypes.{most_policy_entries}
 pub use Rattle.mig_pagetypes.specs.Limits.{most_frames, pfn_limit}
 pub use Rattle.mig_pagetypes.specs.PageTypes.{level_of}
 pub use Rattle.mig_pagetypes.specs.declared.page_type.PageType.{PageType}

@@ -1,5 +1,5 @@
 -- Walks along the entries of a map, up to the first that gives an answer.
-use Rattle.mig_pvtables.proofs.Common.{◌≡◌, ◌≢◌, ℕ, ◌+◌, ◌<◌, ◌≤◌, Bool, true, false, cond, not, List, [], ◌∷◌, length, Option, Some, None, is_some, is_none, refl, sym, ap, subst, inl, inr, cases_eq, ◌∙◌, arith, ◌&&◌, ◌==◌, find, option_map, option_or, nat_lt, Entry, FrameOf, FrameMap, PartKey, PartMap, Part, parts_after, part_total, part_exact, PageType, level_of, first_passes, first_some, find_slot, find_entry, type_at, fits_field, gdt_ents, field_value, frame_of_field, cond_some, entries_from, field_numbers, Usage}
+use Rattle.mig_pvtables.proofs.Common.{◌≡◌, ◌≢◌, ℕ, ◌+◌, ◌<◌, ◌≤◌, Bool, true, false, cond, not, List, [], ◌∷◌, length, Option, Some, None, is_some, is_none, refl, sym, ap, subst, inl, inr, cases_eq, ◌∙◌, arith, ◌&&◌, ◌==◌, find, option_map, option_or, nat_lt, Entry, FrameOf, FrameMap, PartKey, PartMap, Part, parts_after, part_total, part_exact, PageType, level_of, first_passes, first_some, find_slot, find_entry, type_at, fits_field, gdt_ents, field_value, frame_of_field, cond_some, entries_from, field_numbers, Usage, most_gdt_entries}
 use Rattle.std.proofs.Common.{Bor}
 use Rattle.std.specs.Array.{IsWholeChunk}
 use Rattle.std.specs.Option.{MatchOption}
@@ -168,7 +168,7 @@ in_fields bad e = option_map (λ field. (e.0.key1, field)) (find (bad e.0.key1 e
 
 -- the size of a GDT that has too many descriptors
 abbrev pub large_in : Part → Option (ℕ × ℕ)
-large_in e = cond (nat_lt 7168 (gdt_ents e.1)) (Some (e.0.key1, gdt_ents e.1)) None
+large_in e = cond (nat_lt most_gdt_entries (gdt_ents e.1)) (Some (e.0.key1, gdt_ents e.1)) None
 
 pub context_there : (parts : PartMap) (after : Option PartKey) (e : Part) → parts_after 4 after (maps.entries parts) ≡ e ∷ parts_after 4 (Some e.0) (maps.entries parts) → (e.0.code ≡ 4) × (maps.get parts e.0 ≡ Some e.1)
 context_there parts after e next =

@@ -17,7 +17,7 @@ use crate::vcpu::{FIELDS, VCPU_BASIC, vcpu_frame};
 use mig_bytes::Memory;
 use mig_guest::{Entry, Guest, PartCode, PartKey, Parts};
 use mig_headers::{Cause, Kind};
-use mig_pagetypes::{MAX_FRAMES, PageType};
+use mig_pagetypes::{MOST_FRAMES, PageType};
 use std::alloc::Global;
 use thiserror::Error;
 
@@ -48,7 +48,7 @@ fn absent_part(parts: &Parts, code: PartCode) -> Option<Cause>
 fn too_many(guest: &Guest) -> Option<Cause>
     ensures { result ≡ more_than_allowed guest.now.frames }
 {
-    if guest.frames() > MAX_FRAMES {
+    if guest.frames() > MOST_FRAMES {
         Some(Cause::TooManyFrames)
     } else {
         None

@@ -1,6 +1,6 @@
 -- The canonical bodies of a well formed guest's parts of a code say these parts, in a length that their record's type has: a
 -- lemma for each shape.
-use Rattle.mig_records.proofs.Common.{◌≡◌, ℕ, ◌+◌, ◌*◌, ◌-◌, ◌%◌, ◌<◌, ◌≤◌, ◌^◌, Bool, true, false, not, List, [], ◌∷◌, ◌++◌, length, map, replicate, nat_le, nat_lt, None, refl, sym, ap, subst, ◌∙◌, arith, rules, length-append, append_assoc, append-nil, ◌==◌, ◌&&◌, ⊤, All, and_parts, and_from, and_right, or_right, le-ltb, eqb-true, eq-eqb, le-leb, leb-true, ltb-true, length-replicate, little_number, little_bytes, little_number-reads_back, length-bytes_low_first, first_fault, Cause, no_fault, PartCode, P2mFrames, VcpuBasic, VcpuMsrs, PartKey, GuestOf, row_of, code_number, small_number, IsFormed, IsContent, IsCut, gdt_ents, is_policy, width_of, Part, Layout, Shape, Table, Single, Named, Chain, Other, fault_of_key, spelled_key, entry_width, front_width, AreTableEntries, IsTableFront, IsTable, entries_text, front_text, table_text, shape_of, IsShaped, IsRow, fault_of_content, sole_key, named_parts, IsSingle, IsNamed, IsChain, IsRecordBody, SayAll, part_body, bodies_by_shape, contents_by_shape, parts_at, CanonicalBodiesSay}
+use Rattle.mig_records.proofs.Common.{◌≡◌, ℕ, ◌+◌, ◌*◌, ◌-◌, ◌%◌, ◌<◌, ◌≤◌, ◌^◌, Bool, true, false, not, List, [], ◌∷◌, ◌++◌, length, map, replicate, nat_le, nat_lt, None, refl, sym, ap, subst, ◌∙◌, arith, rules, length-append, append_assoc, append-nil, ◌==◌, ◌&&◌, ⊤, All, and_parts, and_from, and_right, or_right, le-ltb, eqb-true, eq-eqb, le-leb, leb-true, ltb-true, length-replicate, little_number, little_bytes, little_number-reads_back, length-bytes_low_first, first_fault, Cause, no_fault, PartCode, P2mFrames, VcpuBasic, VcpuMsrs, PartKey, GuestOf, row_of, code_number, small_number, IsFormed, IsContent, IsCut, gdt_ents, is_policy, width_of, Part, Layout, Shape, Table, Single, Named, Chain, Other, fault_of_key, spelled_key, entry_width, front_width, AreTableEntries, IsTableFront, IsTable, entries_text, front_text, table_text, shape_of, IsShaped, IsRow, fault_of_content, sole_key, named_parts, IsSingle, IsNamed, IsChain, IsRecordBody, SayAll, part_body, bodies_by_shape, contents_by_shape, parts_at, CanonicalBodiesSay, most_gdt_entries, most_policy_entries, vcpu_limit, most_body}
 use Rattle.std.proofs.lemmas.List.Elements.{All-head, All-tail}
 use Rattle.mig_bytes.specs.Fields.{le32}
 use Rattle.mig_guest.proofs.CodeParts.{parts_are, few_small}
@@ -30,17 +30,17 @@ HasSize code size = (width n : ℕ) → (row_of code).allows width n ≡ true �
 
 -- a record of the code's type may have so many bytes
 abbrev HasRoom : PartCode → ℕ → Type 0
-HasRoom code len = (record_allows code len ≡ true) × (len ≤ 2 ^ 27)
+HasRoom code len = (record_allows code len ≡ true) × (len ≤ most_body)
 
 -- a guest has no more parts of the code than its record can have
 record HasFew (code : PartCode) : Type 0 where
-  few : (g : GuestOf) → IsFormed g → length (parts_at code g) ≤ 65536
+  few : (g : GuestOf) → IsFormed g → length (parts_at code g) ≤ most_policy_entries
 
 abbrev HasFineContent : PartCode → Type 0
 HasFineContent code = (bytes : List ℕ) → IsContent code bytes → fault_of_content code bytes ≡ None
 
 abbrev IsCanonical : PartCode → Shape → Type 0
-IsCanonical code (Table l) = KeysFit code l.key1_width l.key2_width × HasSize code l.value_width × HasFew code × ((n : ℕ) → n ≤ 65536 → HasRoom code (front_width l + entry_width l * n))
+IsCanonical code (Table l) = KeysFit code l.key1_width l.key2_width × HasSize code l.value_width × HasFew code × ((n : ℕ) → n ≤ most_policy_entries → HasRoom code (front_width l + entry_width l * n))
 IsCanonical code (Single size ignored) = HasNoKeys code × HasSize code size × HasRoom code (size + ignored)
 IsCanonical code (Named second ignored skips) =
     KeysFit code 4 second × HasFineContent code × ((width n : ℕ) → (row_of code).allows width n ≡ true → (skips ≡ true → 1 ≤ n) × HasRoom code (4 + second + ignored + n))
@@ -48,11 +48,11 @@ IsCanonical code Chain = HasNoKeys code × ((bytes : List ℕ) → IsContent cod
 IsCanonical code Other = ⊤
 
 -- a vCPU's id, or a parameter's index
-small_fits : (key1 key2 n : ℕ) → small_number key1 key2 ≡ true → 4096 ≤ n → key1 < n
-small_fits key1 key2 n h wide = let low = ltb-true key1 4096 (and_parts (nat_lt key1 4096) (key2 == 0) h).0 in omega (arith, low, wide)
+small_fits : (key1 key2 n : ℕ) → small_number key1 key2 ≡ true → vcpu_limit ≤ n → key1 < n
+small_fits key1 key2 n h wide = let low = ltb-true key1 vcpu_limit (and_parts (nat_lt key1 vcpu_limit) (key2 == 0) h).0 in omega (arith, low, wide)
 
 second_fits : (key1 key2 : ℕ) → small_number key1 key2 ≡ true → key2 < 1
-second_fits key1 key2 h = let none = eqb-true key2 0 (and_parts (nat_lt key1 4096) (key2 == 0) h).1 in omega (arith, none)
+second_fits key1 key2 h = let none = eqb-true key2 0 (and_parts (nat_lt key1 vcpu_limit) (key2 == 0) h).1 in omega (arith, none)
 
 not_refused : (key1 key2 : ℕ) (c : Cause) → small_number key1 key2 ≡ true → first_fault ((not (small_number key1 key2), c) ∷ []) ≡ None
 not_refused key1 key2 c h = no_fault ((not (small_number key1 key2), c) ∷ []) (ap not h, tt)
@@ -67,21 +67,21 @@ few_of_small : (code : PartCode) → ((key1 key2 : ℕ) → (row_of code).keys k
 few_of_small code small = record { few = λ g formed. omega (arith, few_small g code small formed) }
 
 basic_fine : HasFineContent VcpuBasic
-basic_fine bytes few = no_fault (((length bytes == 5168) && nat_lt 7168 (gdt_ents bytes), _) ∷ []) (and_right (length bytes == 5168) _ (le-ltb 7168 (gdt_ents bytes) few), tt)
+basic_fine bytes few = no_fault (((length bytes == 5168) && nat_lt most_gdt_entries (gdt_ents bytes), _) ∷ []) (and_right (length bytes == 5168) _ (le-ltb most_gdt_entries (gdt_ents bytes) few), tt)
 
 basic_room : (n : ℕ) → (n == 5168) ≡ true → (true ≡ true → 1 ≤ n) × HasRoom VcpuBasic (8 + n)
 basic_room n h = let size = eqb-true n 5168 h in (λ _. omega (arith, size), (or_right (8 + n == 8) _ (eq-eqb (8 + n) (8 + 5168) (omega (arith, size))), omega (arith, size)))
 
 -- 1 byte or more, in all no more than a body has
-some_room : (n : ℕ) → (nat_le 1 n && nat_le n (2 ^ 27 - 8)) ≡ true → (true ≡ true → 1 ≤ n) × (nat_le 8 (8 + n) ≡ true) × (8 + n ≤ 2 ^ 27)
+some_room : (n : ℕ) → (nat_le 1 n && nat_le n (most_body - 8)) ≡ true → (true ≡ true → 1 ≤ n) × (nat_le 8 (8 + n) ≡ true) × (8 + n ≤ most_body)
 some_room n h =
-    let (some, most) = and_parts (nat_le 1 n) (nat_le n (2 ^ 27 - 8)) h in let low = leb-true 1 n some in let high = leb-true n (2 ^ 27 - 8) most in
+    let (some, most) = and_parts (nat_le 1 n) (nat_le n (most_body - 8)) h in let low = leb-true 1 n some in let high = leb-true n (most_body - 8) most in
     (λ _. low, le-leb 8 (8 + n) (omega arith), omega (arith, high))
 
 msrs_room : (width n : ℕ) → (row_of VcpuMsrs).allows width n ≡ true → (true ≡ true → 1 ≤ n) × HasRoom VcpuMsrs (8 + n)
 msrs_room width n h =
-    let (whole, sizes) = and_parts (n % 16 == 0) (nat_le 16 n && nat_le n (2 ^ 27 - 16)) h in let rest = eqb-true (n % 16) 0 whole in
-    let (some, most) = and_parts (nat_le 16 n) (nat_le n (2 ^ 27 - 16)) sizes in let least = leb-true 16 n some in let short = leb-true n (2 ^ 27 - 16) most in
+    let (whole, sizes) = and_parts (n % 16 == 0) (nat_le 16 n && nat_le n (most_body - 16)) h in let rest = eqb-true (n % 16) 0 whole in
+    let (some, most) = and_parts (nat_le 16 n) (nat_le n (most_body - 16)) sizes in let least = leb-true 16 n some in let short = leb-true n (most_body - 16) most in
     (λ _. omega (arith, least), (and_from _ _ (le-leb 8 (8 + n) (omega arith)) (eq-eqb ((8 + n - 8) % 16) 0 (omega (arith, rest))), omega (arith, short)))
 
 all_canonical : (code : PartCode) → IsCanonical code (shape_of code)

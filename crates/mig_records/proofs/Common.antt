@@ -18,7 +18,9 @@ pub use Rattle.mig_guest.specs.Parts.{Part, PartMap, put_part, put_parts}
 pub use Rattle.mig_guest.specs.declared.part_code.PartCode.{PartCode}
 pub use Rattle.mig_guest.specs.declared.part_code.PartCode.TheVariants.{CpuidLeaf, Msr, P2mFrames, VcpuBasic, VcpuMsrs}
 pub use Rattle.mig_guest.specs.declared.part_key.PartKey.{PartKey}
+pub use Rattle.mig_guest.specs.Limits.{most_gdt_entries}
 pub use Rattle.mig_headers.proofs.FirstFaults.{both_none, neither_some, no_fault, rows_fine}
 pub use Rattle.mig_headers.specs.Rows.{first_fault}
 pub use Rattle.mig_headers.specs.declared.fault.Cause.{Cause}
 pub use Rattle.mig_headers.specs.declared.fault.Cause.TheVariants.{BadLength, BadPvInfo, P2mStart, Pv32}
+pub use Rattle.mig_headers.specs.RecordTypes.{most_policy_entries, vcpu_limit, most_body}

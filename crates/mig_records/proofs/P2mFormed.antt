@@ -1,5 +1,5 @@
 -- A well formed PV guest stays so where P2M frames are listed.
-use Rattle.mig_records.proofs.Common.{◌≡◌, ◌≢◌, ℕ, ◌+◌, ◌-◌, ◌*◌, ◌/◌, ◌<◌, ◌≤◌, Bool, true, false, cond, List, length, drop, nat_le, Option, Some, None, refl, sym, ap, ◌∙◌, subst, arith, length-append, length-drop, eqb-true, eq-eqb, leb-true, leb-false, PartCode, P2mFrames, PartKey, GuestOf, row_of, code_number, IsPart, IsTop, IsInside, IsGuestFrame, IsFormed, is_policy, width_of}
+use Rattle.mig_records.proofs.Common.{◌≡◌, ◌≢◌, ℕ, ◌+◌, ◌-◌, ◌*◌, ◌/◌, ◌<◌, ◌≤◌, Bool, true, false, cond, List, length, drop, nat_le, Option, Some, None, refl, sym, ap, ◌∙◌, subst, arith, length-append, length-drop, eqb-true, eq-eqb, leb-true, leb-false, PartCode, P2mFrames, PartKey, GuestOf, row_of, code_number, IsPart, IsTop, IsInside, IsGuestFrame, IsFormed, is_policy, width_of, most_policy_entries}
 use Rattle.std.specs.FinMap as maps
 use Rattle.std.specs.FinMap.{get-insert}
 use Rattle.std.specs.Ordering.{eq_by_cmp}
@@ -138,6 +138,6 @@ module _ (g : GuestOf) (pv : g.kind ≡ Pv) (formed : IsFormed g) (none_yet : ma
     top = subst (λ kind. IsTop kind top) (sym pv) (below g.top last top_limit (subst (λ kind. IsTop kind g.top) pv formed.top) last_small);
     frames = λ pfn frame got. frame_wider g.kind g.top top pfn frame (above g.top last).0 (formed.frames pfn frame got);
     parts = λ key bytes got. each_part key bytes (eq_by_cmp part_cmp key p2m_key) refl (sym (get-insert part_total g.parts p2m_key new key) ∙ got);
-    policies = λ code one. subst (λ ps. length ps ≤ 65536) (sym (same_parts code (maps.insert g.parts p2m_key new) g.parts (λ q of_code. put_other g.parts (p2m_key, new) q (λ three.
+    policies = λ code one. subst (λ ps. length ps ≤ most_policy_entries) (sym (same_parts code (maps.insert g.parts p2m_key new) g.parts (λ q of_code. put_other g.parts (p2m_key, new) q (λ three.
         let no : true ≡ false = sym one ∙ ap is_policy (sym of_code ∙ three) in cc)))) (formed.policies code one);
   }

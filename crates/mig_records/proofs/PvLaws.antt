@@ -1,6 +1,6 @@
 -- The bodies of X86_PV_INFO and X86_PV_P2M_FRAMES without fault are those that are spelled so; what is wrong with the body
 -- of a vCPU's record.
-use Rattle.mig_records.proofs.Common.{◌≡◌, ℕ, ◌+◌, ◌*◌, ◌≤◌, ◌↔◌, Bool, true, false, not, List, [], ◌∷◌, ◌++◌, length, take, drop, nat_le, None, refl, sym, ap, ◌∙◌, arith, take-append-drop, length-append, length-drop, length-take-le, ◌==◌, ◌&&◌, drop-append-le, little_number, little_from-append, eqb-true, eq-eqb, le-leb, le-ltb, and_parts, not-false, rows_fine, no_fault, Cause, Option, first_fault, fault_of_body, HasBodyLength, small_number, gdt_ents, PartCode, VcpuBasic, VcpuMsrs, leb-true, nat_lt, BadLength, Pv32, BadPvInfo, P2mStart}
+use Rattle.mig_records.proofs.Common.{◌≡◌, ℕ, ◌+◌, ◌*◌, ◌≤◌, ◌↔◌, Bool, true, false, not, List, [], ◌∷◌, ◌++◌, length, take, drop, nat_le, None, refl, sym, ap, ◌∙◌, arith, take-append-drop, length-append, length-drop, length-take-le, ◌==◌, ◌&&◌, drop-append-le, little_number, little_from-append, eqb-true, eq-eqb, le-leb, le-ltb, and_parts, not-false, rows_fine, no_fault, Cause, Option, first_fault, fault_of_body, HasBodyLength, small_number, gdt_ents, PartCode, VcpuBasic, VcpuMsrs, leb-true, nat_lt, BadLength, Pv32, BadPvInfo, P2mStart, most_gdt_entries, vcpu_limit}
 use Rattle.std.proofs.lemmas.List.{drop_at}
 use Rattle.std.specs.Prelude.{◌||◌, ◌-◌, ◌%◌}
 use Rattle.std.specs.Option.{option_or}
@@ -88,7 +88,7 @@ list_is last frames body is =
 -- ---- the records of vCPUs
 
 -- a number isn't below another where that one isn't above it
-not_below : (n : ℕ) → not (nat_lt n 4096 && true) ≡ nat_le 4096 n
+not_below : (n : ℕ) → not (nat_lt n vcpu_limit && true) ≡ nat_le vcpu_limit n
 not_below n = grind (arith, common_steps)
 
 -- two rows of a table, each by a test that is another's
@@ -104,7 +104,7 @@ module _ (body : List ℕ) where
   abbrev id : ℕ
   id = le32 body 0
 
-  id_row : not (small_number (little_number 4 body) 0) ≡ nat_le 4096 id
+  id_row : not (small_number (little_number 4 body) 0) ≡ nat_le vcpu_limit id
   unfolding le32
   id_row = not_below (little_number 4 body)
 
@@ -116,11 +116,11 @@ module _ (body : List ℕ) where
   behind_front : (n : ℕ) (rest : Option Cause) → 8 ≤ length body → option_or (first_fault ((nat_lt (length body) 8, BadLength n) ∷ [])) rest ≡ rest
   behind_front n rest long = ap (λ b. option_or (first_fault ((b, BadLength n) ∷ [])) rest) (le-ltb (length body) 8 long)
 
-  id_alone : first_fault ((not (small_number (little_number 4 body) 0), VcpuId (little_number 4 body)) ∷ []) ≡ first_fault ((nat_le 4096 id, VcpuId id) ∷ [])
-  id_alone = ap (λ b. first_fault ((b, VcpuId (little_number 4 body)) ∷ [])) id_row ∙ ap (λ c. first_fault ((nat_le 4096 id, c) ∷ [])) id_named
+  id_alone : first_fault ((not (small_number (little_number 4 body) 0), VcpuId (little_number 4 body)) ∷ []) ≡ first_fault ((nat_le vcpu_limit id, VcpuId id) ∷ [])
+  id_alone = ap (λ b. first_fault ((b, VcpuId (little_number 4 body)) ∷ [])) id_row ∙ ap (λ c. first_fault ((nat_le vcpu_limit id, c) ∷ [])) id_named
 
   -- behind the id nothing is refused of a part other than a context
-  other_codes : option_or (first_fault ((not (small_number (little_number 4 body) 0), VcpuId (little_number 4 body)) ∷ [])) None ≡ first_fault ((nat_le 4096 id, VcpuId id) ∷ [])
+  other_codes : option_or (first_fault ((not (small_number (little_number 4 body) 0), VcpuId (little_number 4 body)) ∷ [])) None ≡ first_fault ((nat_le vcpu_limit id, VcpuId id) ∷ [])
   other_codes = elim (not (small_number (little_number 4 body) 0)) as (λ b. option_or (first_fault ((b, VcpuId (little_number 4 body)) ∷ [])) None ≡ first_fault ((b, VcpuId (little_number 4 body)) ∷ [])) [ true ↦ refl | false ↦ refl ] ∙ id_alone
 
   -- whether a context is whole
@@ -131,9 +131,9 @@ pub vcpu_rows : (code : PartCode) (body : List ℕ) → is_vcpu code ≡ true �
 vcpu_rows VcpuBasic body is has =
     let whole = whole_context body (has types.X86PvVcpuBasic refl) in
     behind_front body _ _ whole.0
-    ∙ rows_alike (not (small_number (little_number 4 body) 0), (length (drop 8 body) == 5168) && nat_lt 7168 (gdt_ents (drop 8 body))) (nat_le 4096 (id body), nat_lt 8 (length body) && nat_lt 7168 (gdt_ents (drop 8 body))) _ _ (id_row body)
-    (ap (λ b. b && nat_lt 7168 (gdt_ents (drop 8 body))) whole.1)
-    ∙ ap (λ c. first_fault ((nat_le 4096 (id body), c) ∷ (nat_lt 8 (length body) && nat_lt 7168 (gdt_ents (drop 8 body)), GdtEnts (gdt_ents (drop 8 body))) ∷ [])) (id_named body)
+    ∙ rows_alike (not (small_number (little_number 4 body) 0), (length (drop 8 body) == 5168) && nat_lt most_gdt_entries (gdt_ents (drop 8 body))) (nat_le vcpu_limit (id body), nat_lt 8 (length body) && nat_lt most_gdt_entries (gdt_ents (drop 8 body))) _ _ (id_row body)
+    (ap (λ b. b && nat_lt most_gdt_entries (gdt_ents (drop 8 body))) whole.1)
+    ∙ ap (λ c. first_fault ((nat_le vcpu_limit (id body), c) ∷ (nat_lt 8 (length body) && nat_lt most_gdt_entries (gdt_ents (drop 8 body)), GdtEnts (gdt_ents (drop 8 body))) ∷ [])) (id_named body)
 vcpu_rows VcpuExtended body is has = behind_front body _ _ (leb-true _ _ (has types.X86PvVcpuExtended refl)) ∙ other_codes body
 vcpu_rows VcpuXsave body is has = behind_front body _ _ (leb-true _ _ (has types.X86PvVcpuXsave refl)) ∙ other_codes body
 vcpu_rows VcpuMsrs body is has = behind_front body _ _ (leb-true _ _ (and_parts (nat_le 8 (length body)) ((length body - 8) % 16 == 0) (has types.X86PvVcpuMsrs refl)).0) ∙ other_codes body
@@ -154,6 +154,6 @@ msrs_rows body fine = vcpu_rows VcpuMsrs body refl (has_allowed VcpuMsrs (length
 
 pub other_rows : (type : ℕ) (body : List ℕ) → is_vcpu_type type ≡ false → (type == 4) ≡ false → fault_of_vcpu_record type body ≡ None
 other_rows type body other basic =
-    let rest : List (Bool × Cause) = ((type == 4) && (nat_lt 8 (length body) && nat_lt 7168 (gdt_ents (drop 8 body))), GdtEnts (gdt_ents (drop 8 body))) ∷ [] in
-    ap (λ b. first_fault ((b && nat_le 4096 (le32 body 0), VcpuId (le32 body 0)) ∷ rest)) other
-    ∙ ap (λ b. first_fault ((b && (nat_lt 8 (length body) && nat_lt 7168 (gdt_ents (drop 8 body))), GdtEnts (gdt_ents (drop 8 body))) ∷ [])) basic
+    let rest : List (Bool × Cause) = ((type == 4) && (nat_lt 8 (length body) && nat_lt most_gdt_entries (gdt_ents (drop 8 body))), GdtEnts (gdt_ents (drop 8 body))) ∷ [] in
+    ap (λ b. first_fault ((b && nat_le vcpu_limit (le32 body 0), VcpuId (le32 body 0)) ∷ rest)) other
+    ∙ ap (λ b. first_fault ((b && (nat_lt 8 (length body) && nat_lt most_gdt_entries (gdt_ents (drop 8 body))), GdtEnts (gdt_ents (drop 8 body))) ∷ [])) basic

@@ -1,5 +1,5 @@
 -- What is to be shown of each row.
-use Rattle.mig_records.proofs.Common.{◌≡◌, ℕ, zero, suc, ◌+◌, ◌*◌, ◌%◌, ◌<◌, ◌^◌, Bool, true, false, not, List, [], ◌∷◌, length, drop, None, Option, Some, refl, subst, arith, rules, ◌==◌, and_parts, not-false, ltb-true, first_fault, Cause, rows_fine, neither_some, PartCode, P2mFrames, CpuidLeaf, Msr, code_number, small_number, Layout, layout, entry_width, front_width, fault_of_key, fault_of_entries, entry_count, fault_of_table, shape_of, IsRow, HasBodyLength, fault_of_body}
+use Rattle.mig_records.proofs.Common.{◌≡◌, ℕ, zero, suc, ◌+◌, ◌*◌, ◌%◌, ◌<◌, ◌^◌, Bool, true, false, not, List, [], ◌∷◌, length, drop, None, Option, Some, refl, subst, arith, rules, ◌==◌, and_parts, not-false, ltb-true, first_fault, Cause, rows_fine, neither_some, PartCode, P2mFrames, CpuidLeaf, Msr, code_number, small_number, Layout, layout, entry_width, front_width, fault_of_key, fault_of_entries, entry_count, fault_of_table, shape_of, IsRow, HasBodyLength, fault_of_body, vcpu_limit}
 use Rattle.std.specs.Prelude.{nat_lt}
 use Rattle.mig_headers.specs.RecordTypes.{record_row_of, type_of_number}
 use Rattle.mig_headers.specs.declared.record_type.RecordType.{RecordType}
@@ -9,7 +9,7 @@ pub small_keys : (key1 key2 : ℕ) (c : Cause) → first_fault ((not (small_numb
 small_keys key1 key2 c fine = not-false (small_number key1 key2) (rows_fine ((not (small_number key1 key2), c) ∷ []) fine).0
 
 low_name : (key1 key2 : ℕ) (c : Cause) → first_fault ((not (small_number key1 key2), c) ∷ []) ≡ None → key1 < 2 ^ 32
-low_name key1 key2 c fine = let low = ltb-true key1 4096 (and_parts (nat_lt key1 4096) (key2 == 0) (small_keys key1 key2 c fine)).0 in omega (arith, low)
+low_name key1 key2 c fine = let low = ltb-true key1 vcpu_limit (and_parts (nat_lt key1 vcpu_limit) (key2 == 0) (small_keys key1 key2 c fine)).0 in omega (arith, low)
 
 pub all_rows : (code : PartCode) → IsRow code (shape_of code)
 all_rows P2mFrames = tt

@@ -5,11 +5,13 @@ use Rattle.mig_bytes.specs.Fields.{le32}
 use Rattle.mig_headers.specs.Rows.{first_fault}
 use Rattle.mig_headers.specs.declared.fault.Cause.{Cause}
 use Rattle.mig_headers.specs.declared.fault.Cause.TheVariants.{BadLength, Pv32, BadPvInfo, P2mStart, VcpuId, GdtEnts}
+use Rattle.mig_headers.specs.RecordTypes.{vcpu_limit}
 use Rattle.mig_guest.specs.declared.part_code.PartCode.{PartCode}
 use Rattle.mig_guest.specs.declared.part_code.PartCode.TheVariants.{VcpuBasic, VcpuExtended, VcpuXsave, VcpuMsrs}
 use Rattle.mig_guest.specs.Guests.{GuestOf}
 use Rattle.mig_guest.specs.Formed.{gdt_ents}
 use Rattle.mig_guest.specs.PartKeys.{p2m_key}
+use Rattle.mig_guest.specs.Limits.{most_gdt_entries}
 
 -- ---- X86_PV_INFO: the guest's width in bytes, the levels of its page tables, and 6 bytes that are ignored
 
@@ -72,10 +74,10 @@ is_vcpu _ = false
 abbrev pub fault_of_vcpu : PartCode → List ℕ → Option Cause
 fault_of_vcpu VcpuBasic body =
     first_fault (
-    (nat_le 4096 (le32 body 0), VcpuId (le32 body 0))
-    ∷ (nat_lt 8 (length body) && nat_lt 7168 (gdt_ents (drop 8 body)), GdtEnts (gdt_ents (drop 8 body)))
+    (nat_le vcpu_limit (le32 body 0), VcpuId (le32 body 0))
+    ∷ (nat_lt 8 (length body) && nat_lt most_gdt_entries (gdt_ents (drop 8 body)), GdtEnts (gdt_ents (drop 8 body)))
     ∷ [])
-fault_of_vcpu code body = first_fault ((nat_le 4096 (le32 body 0), VcpuId (le32 body 0)) ∷ [])
+fault_of_vcpu code body = first_fault ((nat_le vcpu_limit (le32 body 0), VcpuId (le32 body 0)) ∷ [])
 
 -- whether records of this type are a vCPU's: X86_PV_VCPU_BASIC, _EXTENDED, _XSAVE and _MSRS
 abbrev pub is_vcpu_type : ℕ → Bool
@@ -85,6 +87,6 @@ is_vcpu_type type = (type == 4) || ((type == 5) || ((type == 6) || (type == 12))
 abbrev pub fault_of_vcpu_record : ℕ → List ℕ → Option Cause
 fault_of_vcpu_record type body =
     first_fault (
-    (is_vcpu_type type && nat_le 4096 (le32 body 0), VcpuId (le32 body 0))
-    ∷ ((type == 4) && (nat_lt 8 (length body) && nat_lt 7168 (gdt_ents (drop 8 body))), GdtEnts (gdt_ents (drop 8 body)))
+    (is_vcpu_type type && nat_le vcpu_limit (le32 body 0), VcpuId (le32 body 0))
+    ∷ ((type == 4) && (nat_lt 8 (length body) && nat_lt most_gdt_entries (gdt_ents (drop 8 body))), GdtEnts (gdt_ents (drop 8 body)))
     ∷ [])

@@ -21,6 +21,7 @@ use Rattle.mig_guest.specs.Parts.{Part, PartMap, put_parts, replace_code, parts_
 use Rattle.mig_guest.specs.PartCodes.{row_of, code_number}
 use Rattle.mig_guest.specs.Guests.{GuestOf}
 use Rattle.mig_guest.specs.Formed.{IsFormed, AreParts, gdt_ents, is_policy}
+use Rattle.mig_guest.specs.Limits.{most_gdt_entries}
 use Rattle.mig_records.specs.declared.shape.Shape.{Shape}
 use Rattle.mig_records.specs.declared.shape.Shape.TheVariants.{Table, Single, Named, Chain, Other}
 use Rattle.mig_records.specs.Layouts.{layout, fault_of_key, spelled_key, key_in, IsTable, table_text, fault_of_table, parts_of_table, IsLayout, IsSmallKey}
@@ -56,7 +57,7 @@ set_parts code m ps = if is_policy (code_number code) then replace_code (code_nu
 
 -- what is refused of a part's bytes: a whole context of a vCPU with too many GDT entries
 abbrev pub fault_of_content : PartCode → List ℕ → Option Cause
-fault_of_content VcpuBasic bytes = first_fault (((length bytes == 5168) && nat_lt 7168 (gdt_ents bytes), GdtEnts (gdt_ents bytes)) ∷ [])
+fault_of_content VcpuBasic bytes = first_fault (((length bytes == 5168) && nat_lt most_gdt_entries (gdt_ents bytes), GdtEnts (gdt_ents bytes)) ∷ [])
 fault_of_content _ bytes = None
 
 -- ---- the spelling

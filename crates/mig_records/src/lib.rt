@@ -42,8 +42,7 @@ pub use laws::{
 };
 pub use layout::Layout;
 pub use pv::{p2m_fault, pv_info_fault, read_p2m, vcpu_fault};
-pub use read::{GDT_ENTS, MAX_GDT_ENTS, body_fault, read_body, read_single};
+pub use read::{GDT_ENTS, body_fault, read_body, read_single};
 pub use shape::{Shape, shape_of};
-pub use table::SMALL_NUMBERS;
 pub use words::{data_len, words_fault};
 pub use write::{write_count, write_head, write_numbers, write_padding, write_record};

@@ -6,19 +6,12 @@ ghost use Rattle.mig_records.specs.Faults.{fault_of_length};
 use crate::read::body_fault;
 use mig_bytes::{Memory, u32_le};
 use mig_guest::{Guest, PartCode, PartKey};
-use mig_headers::Cause;
+use mig_headers::{
+    Cause, X86_PV_VCPU_BASIC, X86_PV_VCPU_EXTENDED, X86_PV_VCPU_MSRS, X86_PV_VCPU_XSAVE,
+};
 
 /// A P2M frame holds the machine frames of so many frame numbers.
 const IN_P2M_FRAME: u64 = 512;
-
-/// The types of the records of vCPUs: X86_PV_VCPU_BASIC, _EXTENDED, _XSAVE and _MSRS.
-const VCPU_BASIC: u32 = 4;
-
-const VCPU_EXTENDED: u32 = 5;
-
-const VCPU_XSAVE: u32 = 6;
-
-const VCPU_MSRS: u32 = 12;
 
 /// The list of P2M frames.
 const P2M_KEY: PartKey = PartKey {
@@ -91,10 +84,10 @@ pub fn vcpu_fault(kind: u32, body: &[u8]) -> Option<Cause>
     ensures { result ≡ fault_of_vcpu_record kind body.now }
 {
     match kind {
-        VCPU_BASIC => body_fault(PartCode::VcpuBasic, body),
-        VCPU_EXTENDED => body_fault(PartCode::VcpuExtended, body),
-        VCPU_XSAVE => body_fault(PartCode::VcpuXsave, body),
-        VCPU_MSRS => body_fault(PartCode::VcpuMsrs, body),
+        X86_PV_VCPU_BASIC => body_fault(PartCode::VcpuBasic, body),
+        X86_PV_VCPU_EXTENDED => body_fault(PartCode::VcpuExtended, body),
+        X86_PV_VCPU_XSAVE => body_fault(PartCode::VcpuXsave, body),
+        X86_PV_VCPU_MSRS => body_fault(PartCode::VcpuMsrs, body),
         _ => None,
     }
 }

@@ -12,7 +12,7 @@ use crate::number::{behind, number};
 use crate::shape::{Shape, shape_of};
 use crate::table::{key_fault, read_table, table_fault};
 use mig_bytes::{Memory, u64_le};
-use mig_guest::{Guest, PartCode, PartKey};
+use mig_guest::{Guest, MOST_GDT_ENTRIES, PartCode, PartKey};
 use mig_headers::Cause;
 
 // ---- single values
@@ -39,9 +39,6 @@ const VCPU_CONTEXT: usize = 5168;
 /// Where in a vCPU's basic context the number of its GDT entries stands.
 pub const GDT_ENTS: usize = 4960;
 
-/// The most GDT entries of a vCPU.
-pub const MAX_GDT_ENTS: u64 = 7168;
-
 /// What is refused of a part's bytes.
 fn content_fault(code: PartCode, bytes: &[u8]) -> Option<Cause>
     ensures { result ≡ fault_of_content code bytes.now }
@@ -50,7 +47,7 @@ fn content_fault(code: PartCode, bytes: &[u8]) -> Option<Cause>
         return None;
     }
     let entries = u64_le(bytes, GDT_ENTS);
-    if entries > MAX_GDT_ENTS {
+    if entries > MOST_GDT_ENTRIES {
         return Some(Cause::GdtEnts(entries));
     }
     None

@@ -12,16 +12,13 @@ use crate::layout::Layout;
 use crate::number::{behind, number};
 use mig_bytes::{Memory, u32_le};
 use mig_guest::{Guest, PartCode, PartKey};
-use mig_headers::Cause;
-
-/// The least number that no vCPU and no parameter has.
-pub const SMALL_NUMBERS: u64 = 4096;
+use mig_headers::{Cause, VCPU_LIMIT};
 
 /// What is refused of a key.
 pub(crate) fn key_fault(code: PartCode, key1: u64, key2: u64) -> Option<Cause>
     ensures { result ≡ fault_of_key code key1 key2 }
 {
-    let is_small = key1 < SMALL_NUMBERS && key2 == 0;
+    let is_small = key1 < u64::from(VCPU_LIMIT) && key2 == 0;
     match code {
         PartCode::HvmParam if !is_small => Some(Cause::ParamIndex(key1)),
         PartCode::VcpuBasic | PartCode::VcpuExtended | PartCode::VcpuXsave | PartCode::VcpuMsrs

@@ -39,7 +39,7 @@ pub use Rattle.mig_headers.specs.Contexts.{ChainTo, Scanned, entry_end, is_last,
 pub use Rattle.mig_headers.specs.FirstCauses.{IsEarlier, IsTriedFirst}
 pub use Rattle.mig_headers.specs.Headers.{domain_rows, fault_of_domain, fault_of_image, fault_of_libxl, fault_of_marker, image_rows, is_from_legacy, kind_of_number, libxl_ident, marker_rows}
 pub use Rattle.mig_headers.specs.CauseNumbers.{number_of_cause, number_of_legacy_cause}
-pub use Rattle.mig_headers.specs.RecordTypes.{is_optional, pv, record_row_of, type_number, type_of_number}
+pub use Rattle.mig_headers.specs.RecordTypes.{is_optional, pv, record_row_of, type_number, type_of_number, vcpu_limit, most_body}
 pub use Rattle.mig_headers.specs.Rows.{first_fault}
 pub use Rattle.mig_headers.specs.declared.fault.Cause.{Cause}
 pub use Rattle.mig_headers.specs.declared.fault.Cause.TheVariants.{BadContext, BadEmulator, BadKey, BadLength, BadPageType, BadPairs, BadPvInfo, BodyTooLong, EmulatorIndex, GdtEnts, Missing, OutOfOrder, P2mFrame, P2mStart, ParamIndex, PfnOutside, Pv32, TargetAbsent, TooManyFrames, TooManyPairs, TooManyRecords, Truncated, UnknownMandatory, Unsupported, VcpuFrame, VcpuId, WrongKind}
@@ -118,7 +118,7 @@ pub use Rattle.mig_libxl_form.proofs.Records.{behind_content, behind_head as lib
 pub use Rattle.mig_libxl_form.specs.Content.{LibxlContent, LibxlRecord}
 pub use Rattle.mig_libxl_form.specs.Among.{is_libxl_ended}
 pub use Rattle.mig_libxl_form.specs.Content.LibxlContent.{Image, Nothing as LibxlNothing}
-pub use Rattle.mig_libxl_form.specs.Emulators.{EmulatorsOf, emulators_of, most_pairs, spelled_with}
+pub use Rattle.mig_libxl_form.specs.Emulators.{EmulatorsOf, emulators_of, spelled_with}
 unfoldable pub use Rattle.mig_libxl_form.specs.Judging.{fault_of_context, fault_of_libxl_fields, fault_of_order, fault_of_pairs, libxl_record_at}
 pub use Rattle.mig_libxl_form.specs.Judging.{allows_length, body_of_type, emulator_key, fault_of_libxl_head, inner_at, libxl_content_at, libxl_head_at, skipped_at}
 pub use Rattle.mig_libxl_form.specs.Spelled.{AcceptedStream, FollowsLibxl}
@@ -154,6 +154,7 @@ unfoldable pub use Rattle.mig_image.specs.Image.{host_head, image}
 pub use Rattle.mig_image.specs.Image.{IsHostImageUpTo, frame_text, part_text}
 pub use Rattle.mig_image.specs.declared.version.ImageVersion.{ImageVersion}
 pub use Rattle.mig_guest.specs.Hosts.{most_width}
+pub use Rattle.mig_guest.specs.Limits.{most_gdt_entries, most_pairs}
 pub use Rattle.mig_image.specs.ImageParts.{head_version, opened}
 unfoldable pub use Rattle.mig_image.specs.ImageForm.{image_file_form}
 pub use Rattle.mig_image.specs.ImageForm.{behind_frames, behind_head, count_form, frames_form, host_at, host_frame_form, host_head_causes, host_head_form, host_part_form, host_parts_form}

@@ -1,5 +1,5 @@
 -- Fronts of bytes are spelled as an image spells the frames and parts of a valid host.
-use Rattle.mig_refusals.proofs.Common.{◌≡◌, ℕ, ◌^◌, ◌<◌, ◌≤◌, List, [], ◌++◌, length, refl, sym, ap, subst, ◌∙◌, arith, append-nil, append_assoc, append_cancel_right, All-append, All-from_recursion, flat_map, little_bytes, bytes_back, bytes_front, AreBytes, le32, le64, kind_of_number, HostOf, IsValid, most_width, part_cmp, PartMap, PartKey, valid_empty, no_entries, put_all, frame_entries, frames_said, frames_valid, image_back, part_entries, parts_said, parts_valid, with_parts, ImageVersion, frame_text, host_head, image, part_text, head_version, opened, said_passes, host_parts_form, host_head_causes, host_head_form, count_form, behind_frames, behind_head, image_file_form, None}
+use Rattle.mig_refusals.proofs.Common.{◌≡◌, ℕ, ◌<◌, ◌≤◌, List, [], ◌++◌, length, refl, sym, ap, subst, ◌∙◌, arith, append-nil, append_assoc, append_cancel_right, All-append, All-from_recursion, flat_map, little_bytes, bytes_back, bytes_front, AreBytes, le32, le64, kind_of_number, HostOf, IsValid, most_width, part_cmp, PartMap, PartKey, valid_empty, no_entries, put_all, frame_entries, frames_said, frames_valid, image_back, part_entries, parts_said, parts_valid, with_parts, ImageVersion, frame_text, host_head, image, part_text, head_version, opened, said_passes, host_parts_form, host_head_causes, host_head_form, count_form, behind_frames, behind_head, image_file_form, None, most_frames}
 use Rattle.std.specs.FinMap as maps
 use Rattle.mig_bytes.proofs.ByteLists.{Bytes}
 use Rattle.mig_bytes_form.specs.Form.{FormOf, BeginsAs, SpelledAs, steps_form}
@@ -54,7 +54,7 @@ module _ (widest : ℕ) (few_widths : widest ≤ most_width) where
       let said = head_fine widest head (none_is (host_head_causes widest head) none) in
       let s = frames_said (head_version head) (opened head) n mid h [] (bytes_back front start mid whole bytes) (begins_passes (head_frames n head) mid h [] framed) in
       let entries : maps.entries h.frames ≡ s.es = ap (λ (g : HostOf). maps.entries g.frames) s.is ∙ frame_entries (opened head) s.es s.chain in
-      let few : length s.es ≤ 2 ^ 24 = omega (arith, s.size, within, said.few) in
+      let few : length s.es ≤ most_frames = omega (arith, s.size, within, said.few) in
       let narrow : le64 head 16 ≤ most_width = omega (arith, few_widths, said.narrow) in
       let empty = valid_empty (kind_of_number (le32 head 8)) (le64 head 16) narrow said.some_width said.pv_narrow in
       let text = flat_map (frame_text (head_version head)) in

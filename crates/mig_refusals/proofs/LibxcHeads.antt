@@ -1,5 +1,5 @@
 -- The causes that stand in the head of an image's record.
-use Rattle.mig_refusals.proofs.Common.{◌≡◌, ◌⊎◌, inl, inr, ℕ, ◌^◌, List, [], ◌∷◌, ◌++◌, length, Bool, true, false, nat_le, nat_lt, nat_eq, not, Option, Some, None, refl, sym, ap, subst, ◌∙◌, arith, leb-true, leb-false, ltb-true, eqb-true, le-leb, lt-leb, lt-ltb, false≢true, not-true, and_parts, and_from, not_from_false, or_left, or_right, or_cases, option_or, common_steps, first_fault, Cause, UnknownMandatory, OutOfOrder, BadLength, TooManyRecords, Unsupported, WrongKind, Kind, Pv, Hvm, type_allows, fault_of_long, Opening, Before, most_records, fault_of_number, HeadHas, Breaks, ◌&&◌, ◌||◌, same_Some, record_row_of, pv, type_number, type_of_number, is_optional, numbers_are_inverse, RecordType, PageData, Verify, X86PvInfo, X86PvP2mFrames, StaticDataEnd, earlier_in, is_of, static_records, content_records, broken_rules, fault_of_type, late_static, fault_of_fields, ascends, join, number_of_cause, BodyTooLong, End}
+use Rattle.mig_refusals.proofs.Common.{◌≡◌, ◌⊎◌, inl, inr, ℕ, ◌^◌, List, [], ◌∷◌, ◌++◌, length, Bool, true, false, nat_le, nat_lt, nat_eq, not, Option, Some, None, refl, sym, ap, subst, ◌∙◌, arith, leb-true, leb-false, ltb-true, eqb-true, le-leb, lt-leb, lt-ltb, false≢true, not-true, and_parts, and_from, not_from_false, or_left, or_right, or_cases, option_or, common_steps, first_fault, Cause, UnknownMandatory, OutOfOrder, BadLength, TooManyRecords, Unsupported, WrongKind, Kind, Pv, Hvm, type_allows, fault_of_long, Opening, Before, most_records, fault_of_number, HeadHas, Breaks, ◌&&◌, ◌||◌, same_Some, record_row_of, pv, type_number, type_of_number, is_optional, numbers_are_inverse, RecordType, PageData, Verify, X86PvInfo, X86PvP2mFrames, StaticDataEnd, earlier_in, is_of, static_records, content_records, broken_rules, fault_of_type, late_static, fault_of_fields, ascends, join, number_of_cause, BodyTooLong, End, most_body}
 use Rattle.mig_headers.proofs.FirstCauses as firsts
 use Rattle.mig_refusals.specs.Libxc.HeadHas.{too_many, bad_length, out_of_order, wrong_kind, unknown, unsupported, too_long}
 use Rattle.mig_refusals.specs.Libxc.Breaks.{second_end, static_after_end, static_after_content, early_content, second_pv_info, early_p2m_frames, early_pages, late_pages, second_verify, late_verify}
@@ -57,7 +57,7 @@ module _ (was : Before) (len type : ℕ) where
   back_rows found = (not (type_allows found len), BadLength len) ∷ (nat_le most_records (length types), TooManyRecords) ∷ []
 
   abbrev rows : Option RecordType → List (Bool × Cause)
-  rows found = (nat_lt (2 ^ 27) len, BodyTooLong len) ∷ (own_rows found ++ back_rows found)
+  rows found = (nat_lt most_body len, BodyTooLong len) ∷ (own_rows found ++ back_rows found)
 
   own_fault : (found : Option RecordType) → type_of_number type ≡ found → fault_of_type o.version o.kind types type ≡ first_fault (own_rows found)
   own_fault None none = grind (arith, common_steps, none)
@@ -70,7 +70,7 @@ module _ (was : Before) (len type : ℕ) where
   unfolding fault_of_fields
   fields_are found is =
       ap (λ t. option_or (fault_of_long len) (option_or (fault_of_type o.version o.kind types type) (option_or (first_fault ((not (type_allows t len), BadLength len) ∷ [])) (fault_of_number types)))) is
-      ∙ join_front (nat_lt (2 ^ 27) len)
+      ∙ join_front (nat_lt most_body len)
       (ap (λ f. option_or f (first_fault (back_rows found))) (own_fault found is) ∙ join (own_rows found) (back_rows found))
     where
       join_front : (b : Bool) → option_or (fault_of_type o.version o.kind types type) (first_fault (back_rows found)) ≡ first_fault (own_rows found ++ back_rows found)
@@ -120,8 +120,8 @@ module _ (was : Before) (len type : ℕ) where
       again : ((earlier_in types).verify || (earlier_in types).vcpu) ≡ true → Breaks o.version o.kind types Verify 8
       again h = elim (or_cases (earlier_in types).verify (earlier_in types).vcpu h) [ inl e ↦ broken.second_verify e | inr e ↦ broken.late_verify e ]
 
-  long : nat_lt (2 ^ 27) len ≡ true → Has 0 (BodyTooLong len)
-  long h = has.too_long (ltb-true (2 ^ 27) len h)
+  long : nat_lt most_body len ≡ true → Has 0 (BodyTooLong len)
+  long h = has.too_long (ltb-true most_body len h)
 
   many : nat_le most_records (length types) ≡ true → Has 0 TooManyRecords
   many h = has.too_many (leb-true most_records (length types) h)

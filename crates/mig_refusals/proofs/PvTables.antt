@@ -1,5 +1,5 @@
 -- The causes that stand in the page tables of a PV guest, and in the bodies of the records that only it has.
-use Rattle.mig_refusals.proofs.Common.{◌≡◌, ◌⊎◌, inl, inr, ℕ, ◌+◌, ◌*◌, ◌<◌, List, [], ◌∷◌, length, drop, Bool, true, false, nat_le, nat_lt, nat_eq, not, slice_index, refl, sym, ap, subst, ◌∙◌, arith, leb-true, ltb-true, eqb-true, eqb-false, ne_eqb, eq-eqb, le-leb, lt-ltb, and_parts, and_from, common_steps, le32, first_fault, Cause, ◌&&◌, number_of_cause, BadLength, Pv32, BadPvInfo, P2mStart, VcpuId, GdtEnts, gdt_ents, PartCode, VcpuBasic, fault_of_pv_info, p2m_count, fault_of_p2m, fault_of_vcpu, long_at, entry, named_frame, Entry, Superpage, Frame, fault_of_page_table, is_superpage, names_above, TableHas, InfoHas, P2mHas, VcpuHas, table_entry_of}
+use Rattle.mig_refusals.proofs.Common.{◌≡◌, ◌⊎◌, inl, inr, ℕ, ◌+◌, ◌*◌, ◌<◌, List, [], ◌∷◌, length, drop, Bool, true, false, nat_le, nat_lt, nat_eq, not, slice_index, refl, sym, ap, subst, ◌∙◌, arith, leb-true, ltb-true, eqb-true, eqb-false, ne_eqb, eq-eqb, le-leb, lt-ltb, and_parts, and_from, common_steps, le32, first_fault, Cause, ◌&&◌, number_of_cause, BadLength, Pv32, BadPvInfo, P2mStart, VcpuId, GdtEnts, gdt_ents, PartCode, VcpuBasic, fault_of_pv_info, p2m_count, fault_of_p2m, fault_of_vcpu, long_at, entry, named_frame, Entry, Superpage, Frame, fault_of_page_table, is_superpage, names_above, TableHas, InfoHas, P2mHas, VcpuHas, table_entry_of, most_gdt_entries, vcpu_limit}
 use Rattle.mig_headers.specs.declared.fault.Cause.TheVariants as causes
 use Rattle.mig_refusals.specs.LibxcPv.TableHas.{superpage, outside}
 use Rattle.mig_refusals.specs.LibxcPv.InfoHas.{width_4, other_width, other_levels}
@@ -94,13 +94,13 @@ module _ (body : List ℕ) where
 
 module _ (body : List ℕ) where
   abbrev id_row : Bool × Cause
-  id_row = (nat_le 4096 (le32 body 0), VcpuId (le32 body 0))
+  id_row = (nat_le vcpu_limit (le32 body 0), VcpuId (le32 body 0))
 
   abbrev ents : ℕ
   ents = gdt_ents (drop 8 body)
 
   abbrev ents_row : Bool × Cause
-  ents_row = (nat_lt 8 (length body) && nat_lt 7168 ents, GdtEnts ents)
+  ents_row = (nat_lt 8 (length body) && nat_lt most_gdt_entries ents, GdtEnts ents)
 
   basic_least : Least (VcpuHas VcpuBasic body) (first_fault (id_row ∷ ents_row ∷ []))
   basic_least = named (VcpuHas VcpuBasic body) (id_row ∷ ents_row ∷ []) refl ((λ h. vcpu_id (leb-true _ _ h)), ((λ h. let b = and_parts _ _ h in descriptors refl (ltb-true _ _ b.0) (ltb-true _ _ b.1)), tt)) from

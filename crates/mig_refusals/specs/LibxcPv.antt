@@ -6,6 +6,7 @@ use Rattle.std.specs.Ordering.{is_lt}
 use Rattle.mig_bytes.specs.Fields.{le32, le64}
 use Rattle.mig_headers.specs.declared.fault.Cause.{Cause}
 use Rattle.mig_headers.specs.declared.fault.Cause.TheVariants as causes
+use Rattle.mig_headers.specs.RecordTypes.{vcpu_limit}
 use Rattle.mig_pagetypes.specs.Limits.{most_frames}
 use Rattle.mig_pagetypes.specs.PageTypes.{level_of}
 use Rattle.mig_pagetypes.specs.declared.page_type.PageType.{PageType}
@@ -21,6 +22,7 @@ use Rattle.mig_guest.specs.declared.part_code.PartCode.{PartCode}
 use Rattle.mig_guest.specs.declared.part_code.PartCode.TheVariants.{VcpuBasic}
 use Rattle.mig_guest.specs.declared.part_key.PartKey.{PartKey}
 use Rattle.mig_guest.specs.declared.table.Entry.TheVariants.{Superpage, Frame}
+use Rattle.mig_guest.specs.Limits.{most_gdt_entries}
 use Rattle.mig_records.specs.PvBodies.{p2m_count}
 use Rattle.mig_pvtables.specs.Faults.{type_at}
 use Rattle.mig_pvtables.specs.P2mFrames.{listed}
@@ -43,8 +45,8 @@ pub data P2mHas (body : List ℕ) : ℕ → Cause → Type 0 where
 
 -- the body of a vCPU's record that sets parts of this code: its id, and a context where one follows ("X86_PV_VCPU_BASIC" to "X86_PV_VCPU_XSAVE", "X86_PV_VCPU_MSRS")
 pub data VcpuHas (code : PartCode) (body : List ℕ) : ℕ → Cause → Type 0 where
-  vcpu_id : 4096 ≤ le32 body 0 → VcpuHas code body 0 (causes.VcpuId (le32 body 0))
-  descriptors : code ≡ VcpuBasic → 8 < length body → 7168 < gdt_ents (drop 8 body) → VcpuHas code body 0 (causes.GdtEnts (gdt_ents (drop 8 body)))
+  vcpu_id : vcpu_limit ≤ le32 body 0 → VcpuHas code body 0 (causes.VcpuId (le32 body 0))
+  descriptors : code ≡ VcpuBasic → 8 < length body → most_gdt_entries < gdt_ents (drop 8 body) → VcpuHas code body 0 (causes.GdtEnts (gdt_ents (drop 8 body)))
 
 -- how many parts have a lesser key
 abbrev pub rank_of : PartMap → PartKey → ℕ

@@ -25,10 +25,11 @@ use Rattle.mig_headers.specs.declared.kind.Kind.TheVariants.{Pv}
 use Rattle.mig_refusals.specs.Libxc.{RefusedLibxc}
 use Rattle.mig_libxl_form.specs.Content.{LibxlRecord, LibxlContent}
 use Rattle.mig_libxl_form.specs.Content.LibxlContent.{Nothing, Pairs, Context}
-use Rattle.mig_libxl_form.specs.Emulators.{emulators_of, most_pairs, pairs_said, spelled_with}
+use Rattle.mig_libxl_form.specs.Emulators.{emulators_of, pairs_said, spelled_with}
 use Rattle.mig_libxl_form.specs.Among.{is_libxl_ended, has_emulator, image_among}
 use Rattle.mig_libxl_form.specs.Judging.{allows_length, emulator_key, is_pv}
 use Rattle.mig_libxl_form.specs.Spelled.{FollowsLibxl}
+use Rattle.mig_guest.specs.Limits.{most_pairs}
 
 -- ---- conditions and their causes
 

@@ -16,19 +16,13 @@ ghost use Rattle.mig_restore_form.specs.Record.{StreamRecord, types_of};
 use crate::answer::{RelayAnswer, Step};
 use crate::state::{Coming, Relay, answer};
 use mig_bytes::{Sink, Source, take_part};
-use mig_headers::{Cause, Place};
-use mig_libxl_form::{EMULATOR_CONTEXT, EMULATOR_XENSTORE_DATA, RecordsBehind, libxl_head_fault};
+use mig_headers::{Cause, END, PAGE_DATA, Place};
+use mig_libxl_form::{
+    EMULATOR_CONTEXT, EMULATOR_XENSTORE_DATA, LIBXC_CONTEXT, LIBXL_END, RecordsBehind,
+    libxl_head_fault,
+};
 use mig_records::RecordHead;
 use mig_relay_bodies::BodySeen;
-
-/// The type of the record that ends an image, and of the one that ends a libxl stream.
-const END: u32 = 0;
-
-/// The type of the records that carry frames.
-const PAGE_DATA: u32 = 1;
-
-/// The type of the libxl record that an image follows.
-const LIBXC_CONTEXT: u32 = 1;
 
 /// What is wrong with the body behind this head, where it is empty.
 fn empty_fault(head: RecordHead) -> Option<Cause>
@@ -162,7 +156,7 @@ impl Relay {
         self.words = Vec::new(self.alloc);
         if head.kind == LIBXC_CONTEXT {
             self.coming = Coming::Marker;
-        } else if head.kind == END {
+        } else if head.kind == LIBXL_END {
             self.coming = Coming::End;
         } else if head.len > 0 {
             self.body = BodySeen::of_libxl_record(head.kind, head.len);

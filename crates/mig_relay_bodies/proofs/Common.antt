@@ -9,6 +9,7 @@ pub use Rattle.byteorder.specs.Endian.{little_number}
 pub use Rattle.mig_bytes.specs.Fields.{le32}
 pub use Rattle.mig_guest.specs.declared.part_code.PartCode.{PartCode}
 pub use Rattle.mig_guest.specs.declared.part_code.PartCode.TheVariants.{HvmParam, VcpuBasic, VcpuExtended}
+pub use Rattle.mig_guest.specs.Limits.{most_gdt_entries}
 pub use Rattle.mig_headers.proofs.ContextTexts.{in32}
 pub use Rattle.mig_headers.specs.Contexts.{scan}
 pub use Rattle.mig_headers.specs.Rows.{first_fault}

@@ -1,5 +1,5 @@
 -- What the first bytes of a body tell of its fault.
-use Rattle.mig_relay_bodies.proofs.Common.{◌≡◌, ◌≢◌, ℕ, zero, suc, ◌+◌, ◌*◌, ◌<◌, ◌≤◌, true, false, not, nat_eq, nat_lt, List, [], ◌∷◌, ◌++◌, length, take, drop, Option, Some, None, refl, sym, ap, ◌∙◌, arith, length-append, length-drop, eq-eqb, ne_eqb, option_or, common_steps, drop-append-le, ◌/◌, little_number, le32, fault_of_key, fault_of_entry, fault_of_entries, fault_of_table, fault_of_pv_info, fault_of_body, fault_of_content, PartCode, VcpuBasic, VcpuExtended, HvmParam, first_fault, Cause, BadLength, in32, params}
+use Rattle.mig_relay_bodies.proofs.Common.{◌≡◌, ◌≢◌, ℕ, zero, suc, ◌+◌, ◌*◌, ◌<◌, ◌≤◌, true, false, not, nat_eq, nat_lt, List, [], ◌∷◌, ◌++◌, length, take, drop, Option, Some, None, refl, sym, ap, ◌∙◌, arith, length-append, length-drop, eq-eqb, ne_eqb, option_or, common_steps, drop-append-le, ◌/◌, little_number, le32, fault_of_key, fault_of_entry, fault_of_entries, fault_of_table, fault_of_pv_info, fault_of_body, fault_of_content, PartCode, VcpuBasic, VcpuExtended, HvmParam, first_fault, Cause, BadLength, in32, params, most_gdt_entries}
 use Rattle.std.proofs.Common.{get_or, length-take-le, zero-add}
 use Rattle.std.proofs.Math.Seq.{drop-append-add}
 use Rattle.std.proofs.lemmas.List.{get_or_append_left, get_or-take, drop-drop}
@@ -80,15 +80,15 @@ unfolding le64
 gdt_at front piece size =
     ap (little_number 8) (drop-drop 4960 8 (front ++ piece)) ∙ ap (λ n. little_number 8 (drop n (front ++ piece))) (let e : 4968 ≡ length front + 872 = omega (arith, size) in e) ∙ ap (little_number 8) (drop-append-add front piece 872)
 
-gdt_told : (front piece : List ℕ) → length front ≡ 4096 → length piece ≡ 1080 → fault_of_content VcpuBasic (drop 8 (front ++ piece)) ≡ first_fault ((nat_lt 7168 (le64 piece 872), GdtEnts (le64 piece 872)) ∷ [])
+gdt_told : (front piece : List ℕ) → length front ≡ 4096 → length piece ≡ 1080 → fault_of_content VcpuBasic (drop 8 (front ++ piece)) ≡ first_fault ((nat_lt most_gdt_entries (le64 piece 872), GdtEnts (le64 piece 872)) ∷ [])
 gdt_told front piece size rest =
     let whole : nat_eq (length (drop 8 (front ++ piece))) 5168 ≡ true = eq-eqb (length (drop 8 (front ++ piece))) 5168 (omega (arith, length-drop 8 (front ++ piece), length-append front piece, size, rest)) in
     rw (whole, gdt_at front piece size) refl
 
-pub many_entries : (front piece : List ℕ) (n : ℕ) → length front ≡ 4096 → length piece ≡ 1080 → n ≡ le64 piece 872 → 7168 < n → Some (GdtEnts n) ≡ fault_of_content VcpuBasic (drop 8 (front ++ piece))
+pub many_entries : (front piece : List ℕ) (n : ℕ) → length front ≡ 4096 → length piece ≡ 1080 → n ≡ le64 piece 872 → most_gdt_entries < n → Some (GdtEnts n) ≡ fault_of_content VcpuBasic (drop 8 (front ++ piece))
 many_entries front piece n size rest is many = grind (arith, common_steps, is, many) ∙ sym (gdt_told front piece size rest)
 
-pub few_entries : (front piece : List ℕ) (n : ℕ) → length front ≡ 4096 → length piece ≡ 1080 → n ≡ le64 piece 872 → n ≤ 7168 → None ≡ fault_of_content VcpuBasic (drop 8 (front ++ piece))
+pub few_entries : (front piece : List ℕ) (n : ℕ) → length front ≡ 4096 → length piece ≡ 1080 → n ≡ le64 piece 872 → n ≤ most_gdt_entries → None ≡ fault_of_content VcpuBasic (drop 8 (front ++ piece))
 few_entries front piece n size rest is few = grind (arith, common_steps, is, few) ∙ sym (gdt_told front piece size rest)
 
 -- ---- HVM parameters

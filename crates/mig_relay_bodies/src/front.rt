@@ -12,9 +12,9 @@ ghost use Rattle.mig_relay_bodies.specs.declared.known.BodyForm.TheVariants.{Hvm
 use crate::known::{BodyForm, FRONT, Knows, PARAM, PIECE};
 use crate::pairs::no_pairs;
 use mig_bytes::{u32_le, u64_le};
-use mig_guest::PartCode;
-use mig_headers::Cause;
-use mig_records::{GDT_ENTS, MAX_GDT_ENTS, SMALL_NUMBERS, body_fault, pv_info_fault};
+use mig_guest::{MOST_GDT_ENTRIES, PartCode};
+use mig_headers::{Cause, VCPU_LIMIT};
+use mig_records::{GDT_ENTS, body_fault, pv_info_fault};
 
 /// Frame numbers whose machine frames one P2M frame holds.
 const IN_P2M_FRAME: u64 = 512;
@@ -88,7 +88,7 @@ fn param_fault(bytes: &[u8]) -> Option<Cause>
     ensures { result ≡ fault_of_entry HvmParam params bytes.now }
 {
     let index = u64_le(bytes, 0);
-    if index >= SMALL_NUMBERS {
+    if index >= u64::from(VCPU_LIMIT) {
         return Some(Cause::ParamIndex(index));
     }
     None
@@ -118,7 +118,7 @@ pub(crate) fn gdt_fault(piece: &[u8]) -> Option<Cause>
         return None;
     }
     let entries = u64_le(piece, at);
-    if entries > MAX_GDT_ENTS {
+    if entries > MOST_GDT_ENTRIES {
         return Some(Cause::GdtEnts(entries));
     }
     None

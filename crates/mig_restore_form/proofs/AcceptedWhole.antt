@@ -1,5 +1,5 @@
 -- An accepted guest is whole: each content that is spelled keeps it well formed, and its END asks for the rest.
-use Rattle.mig_restore_form.proofs.Common.{◌≡◌, ℕ, zero, suc, ◌^◌, ◌<◌, ◌≤◌, Bool, true, false, List, [], ◌∷◌, ◌++◌, length, Option, Some, is_some, refl, sym, ap, subst, ◌∙◌, arith, eqb-true, none-some, same_Some, All, common_steps, AreBytes, le32, record_row_of, type_number, type_of_number, Kind, Pv, Hvm, RecordType, numbers_are_inverse, pfn_limit, word_has_data, type_has_data, PageType, IsInside, GuestOf, words, IsInOrder, shape_of, bodies_are_spelled, is_shaped, Opening, meant_type, put_entry, put_entries, put_content, IsBegun, Grows, FrameEntry, Content, StreamRecord, types_of, is_verified, is_ended, Sets, Lists, IsPage, IsEntry, AreEntries, HasContent, IsComplete, Follows, Accepted, Spells, All-head, All-tail, X86PvP2mFrames, Notab, bytes_back, blank, optional, ends, pages, sets, info, p2m_frames, static_end, verify, no_part, one_more}
+use Rattle.mig_restore_form.proofs.Common.{◌≡◌, ℕ, zero, suc, ◌<◌, ◌≤◌, Bool, true, false, List, [], ◌∷◌, ◌++◌, length, Option, Some, is_some, refl, sym, ap, subst, ◌∙◌, arith, eqb-true, none-some, same_Some, All, common_steps, AreBytes, le32, record_row_of, type_number, type_of_number, Kind, Pv, Hvm, RecordType, numbers_are_inverse, pfn_limit, word_has_data, type_has_data, PageType, IsInside, GuestOf, words, IsInOrder, shape_of, bodies_are_spelled, is_shaped, Opening, meant_type, put_entry, put_entries, put_content, IsBegun, Grows, FrameEntry, Content, StreamRecord, types_of, is_verified, is_ended, Sets, Lists, IsPage, IsEntry, AreEntries, HasContent, IsComplete, Follows, Accepted, Spells, All-head, All-tail, X86PvP2mFrames, Notab, bytes_back, blank, optional, ends, pages, sets, info, p2m_frames, static_end, verify, no_part, one_more, most_body}
 use Rattle.mig_guest.specs.Formed.{HasNoEmulators}
 use Rattle.mig_restore_form.specs.Spelled.{IsGoodWord}
 use Rattle.mig_order.specs.Order.IsInOrder.{optional as is_optional, ordered as is_ordered}
@@ -79,7 +79,7 @@ of_this_kind : (o : Opening) (types : List ℕ) (this : RecordType) → IsInOrde
 of_this_kind o types this (is_optional above) = absurd (none-some this (sym (no_type (type_number this) above) ∙ numbers_are_inverse.type_of this))
 of_this_kind o types this (is_ordered other is supported of_kind keeps) = subst (λ (t : RecordType). (record_row_of t).of_kind o.kind ≡ true) (sym (one_type this other is)) of_kind
 
-content_grows : (g : GuestOf) (kind : Kind) (top type : ℕ) (body : List ℕ) (c : Content) → kind ≡ g.kind → top ≡ g.top → AreBytes body → length body ≤ 2 ^ 27
+content_grows : (g : GuestOf) (kind : Kind) (top type : ℕ) (body : List ℕ) (c : Content) → kind ≡ g.kind → top ≡ g.top → AreBytes body → length body ≤ most_body
     → ((this : RecordType) → type ≡ type_number this → (record_row_of this).of_kind g.kind ≡ true) → HasContent kind top type body c → Grows g (put_content g c)
 content_grows g kind top type body c k t bytes short of_kind (optional n b many) = grows_not g
 content_grows g kind top type body c k t bytes short of_kind ends = grows_not g

@@ -36,7 +36,7 @@ pub use Rattle.mig_headers.proofs.FirstFaults.{no_fault, rows_fine}
 pub use Rattle.mig_headers.proofs.HeaderLaws.{domain_is_spelled, image_is_spelled}
 pub use Rattle.mig_headers.proofs.RecordNumbers.{numbers_are_inverse}
 pub use Rattle.mig_headers.specs.Headers.{IsDomainHeader, IsImageHeader, fault_of_domain, fault_of_image, fault_of_marker, kind_of_number, unless_faulty}
-pub use Rattle.mig_headers.specs.RecordTypes.{is_optional, record_row_of, type_number, type_of_number}
+pub use Rattle.mig_headers.specs.RecordTypes.{is_optional, record_row_of, type_number, type_of_number, most_body}
 pub use Rattle.mig_headers.specs.declared.fault.Cause.{Cause}
 pub use Rattle.mig_headers.specs.declared.fault.Cause.TheVariants.{TooManyRecords, Truncated}
 pub use Rattle.mig_headers.specs.declared.fault.Place.{Place}
@@ -59,7 +59,7 @@ pub use Rattle.mig_records.specs.Faults.{fault_of_length, fault_of_long, length_
 pub use Rattle.mig_records.specs.PvBodies.{IsP2m, fault_of_p2m, fault_of_pv_info, listed_over, set_p2m}
 pub use Rattle.mig_records.specs.Shapes.{IsBody, fault_of_body, has_shape, parts_of_body, shape_of}
 pub use Rattle.mig_records.specs.Words.{words}
-pub use Rattle.mig_restore_form.specs.Judging.{Before, Opening, before, body_at, code_of_type, coded_at, entries_at, fault_at_end, fault_of_head, fault_of_number, head_at, lists_of, next_at, opening_of, pages_at, record_at, type_in_word, typed_at}
+pub use Rattle.mig_restore_form.specs.Judging.{Before, Opening, before, body_at, code_of_type, coded_at, entries_at, fault_at_end, fault_of_head, fault_of_number, head_at, lists_of, next_at, opening_of, pages_at, record_at, type_in_word, typed_at, most_records}
 pub use Rattle.mig_restore_form.specs.Mean.{Grows, IsBegun, agrees, checked_in, checked_of, differing, empty_guest, entries_in, entries_of, frame_in, last_bytes, meant_type, parts_say_of_part, policy_says_of_part, put_content, put_entries, put_entry, says_of_part, sent}
 pub use Rattle.mig_restore_form.specs.Record.{Content, FrameEntry, StreamRecord, is_ended, is_verified, placed_content, types_of}
 pub use Rattle.mig_restore_form.specs.Record.Content.{Checks, Frames, Lists, Nothing, Sets}

@@ -1,5 +1,5 @@
 -- What is spelled as the format says is accepted.
-use Rattle.mig_restore_form.proofs.Common.{◌≡◌, ℕ, ◌≤◌, ◌<◌, ◌^◌, List, [], ◌∷◌, ◌++◌, length, true, false, nat_le, not, Option, None, refl, sym, ap, subst, ◌∙◌, arith, append_assoc, drop, length-drop, ◌⊎◌, inl, inr, common_steps, le-ltb, length-map, padding_len, le32, be32, Judged, ◌>>=◌, part, placed, Passes, Faulty, part_whole, same_passes, fault_of_marker, fault_of_image, fault_of_domain, kind_of_number, IsImageHeader, IsDomainHeader, type_of_number, Cause, TooManyRecords, Truncated, Place, Kind, GuestOf, long_rows, length_rows, type_allows, fault_of_long, fault_of_length, IsInOrder, fault_of_type, fault_of_guest, StreamRecord, is_ended, is_verified, placed_content, types_of, Opening, Before, opening_of, before, fault_of_head, head_at, fault_at_end, body_at, Follows, IsImage, Accepted, ImageOf, image_of, records_at, then_passes, tried_none, no_fault, said_at, said_goes, Spells, image_is_spelled, domain_is_spelled, faultless_is_in_order, record_at, next_at, sent, placed_next}
+use Rattle.mig_restore_form.proofs.Common.{◌≡◌, ℕ, ◌≤◌, ◌<◌, List, [], ◌∷◌, ◌++◌, length, true, false, nat_le, not, Option, None, refl, sym, ap, subst, ◌∙◌, arith, append_assoc, drop, length-drop, ◌⊎◌, inl, inr, common_steps, le-ltb, length-map, padding_len, le32, be32, Judged, ◌>>=◌, part, placed, Passes, Faulty, part_whole, same_passes, fault_of_marker, fault_of_image, fault_of_domain, kind_of_number, IsImageHeader, IsDomainHeader, type_of_number, Cause, TooManyRecords, Truncated, Place, Kind, GuestOf, long_rows, length_rows, type_allows, fault_of_long, fault_of_length, IsInOrder, fault_of_type, fault_of_guest, StreamRecord, is_ended, is_verified, placed_content, types_of, Opening, Before, opening_of, before, fault_of_head, head_at, fault_at_end, body_at, Follows, IsImage, Accepted, ImageOf, image_of, records_at, then_passes, tried_none, no_fault, said_at, said_goes, Spells, image_is_spelled, domain_is_spelled, faultless_is_in_order, record_at, next_at, sent, placed_next, most_body, most_records}
 use Rattle.std.proofs.Common.{take, take-append-drop, length-take-le}
 use Rattle.std.proofs.lemmas.Bool.{lt-leb}
 use Rattle.mig_restore_form.specs.Stream.{IsRefused, opening_at, image_at}
@@ -18,7 +18,7 @@ use Rattle.mig_headers.specs.declared.fault.Place.TheVariants as places
 
 -- ---- a record
 
-fine_fields : (b : Before) (type len : ℕ) → len ≤ 2 ^ 27 → IsInOrder b.opening.version b.opening.kind b.types type → type_allows (type_of_number type) len ≡ true → length b.types < 2 ^ 28
+fine_fields : (b : Before) (type len : ℕ) → len ≤ most_body → IsInOrder b.opening.version b.opening.kind b.types type → type_allows (type_of_number type) len ≡ true → length b.types < most_records
     → fault_of_fields b type len ≡ None
 unfolding fault_of_fields
 fine_fields b type len small in_order allowed few =
@@ -26,7 +26,7 @@ fine_fields b type len small in_order allowed few =
     (neither_some (fault_of_long len) _ (no_fault (long_rows len) (le-ltb _ _ small, tt))
     (neither_some (fault_of_type o.version o.kind b.types type) _ ((faultless_is_in_order o.version o.kind b.types type).1 in_order)
     (neither_some (fault_of_length type len) _ (no_fault (length_rows type len) (ap not allowed, tt))
-    (no_fault ((nat_le (2 ^ 28) (length b.types), TooManyRecords) ∷ []) (lt-leb (2 ^ 28) (length b.types) few, tt)))))
+    (no_fault ((nat_le most_records (length b.types), TooManyRecords) ∷ []) (lt-leb most_records (length b.types) few, tt)))))
 
 fine_at_end : (type : ℕ) (g : GuestOf) → (type ≡ 0 → fault_of_guest g ≡ None) → fault_at_end type g ≡ None
 fine_at_end type g whole = grind (arith, common_steps, whole)

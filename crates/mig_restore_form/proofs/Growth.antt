@@ -1,5 +1,5 @@
 -- What reading keeps of a guest: each frame, part or list of P2M frames that is set leaves it on its way.
-use Rattle.mig_restore_form.proofs.Common.{◌≡◌, ◌≢◌, ℕ, ◌^◌, ◌≤◌, ◌<◌, List, [], ◌∷◌, length, Bool, true, false, cond, nat_eq, Option, Some, None, is_some, refl, sym, ap, subst, ◌∙◌, AllByRecursion, same_Some, none-some, ltb-false, arith, ne_eqb, unwrap_or, AreBytes, Kind, Pv, Hvm, pfn_limit, type_has_data, PageType, IsInside, EachEntry, IsWithin, GuestOf, Part, PartMap, p2m_key, part_cmp, record_row_of, type_number, type_of_number, RecordType, numbers_are_inverse, PartCode, code_number, shape_of, has_shape, fault_of_body, parts_of_body, set_p2m, IsP2m, IsBody, bodies_are_spelled, code_of_type, meant_type, Sets, says_of_part, last_bytes, parts_say_of_part, policy_says_of_part, empty_guest, IsBegun, Grows, word_pfn, option_map, option_or, eq_by_cmp, nat_cmp, nat_cmp_total, is_policy, FrameMap, FrameOf, framed, PartKey, tied, part_total, part_exact, End, listed_over, bytes_back}
+use Rattle.mig_restore_form.proofs.Common.{◌≡◌, ◌≢◌, ℕ, ◌≤◌, ◌<◌, List, [], ◌∷◌, length, Bool, true, false, cond, nat_eq, Option, Some, None, is_some, refl, sym, ap, subst, ◌∙◌, AllByRecursion, same_Some, none-some, ltb-false, arith, ne_eqb, unwrap_or, AreBytes, Kind, Pv, Hvm, pfn_limit, type_has_data, PageType, IsInside, EachEntry, IsWithin, GuestOf, Part, PartMap, p2m_key, part_cmp, record_row_of, type_number, type_of_number, RecordType, numbers_are_inverse, PartCode, code_number, shape_of, has_shape, fault_of_body, parts_of_body, set_p2m, IsP2m, IsBody, bodies_are_spelled, code_of_type, meant_type, Sets, says_of_part, last_bytes, parts_say_of_part, policy_says_of_part, empty_guest, IsBegun, Grows, word_pfn, option_map, option_or, eq_by_cmp, nat_cmp, nat_cmp_total, is_policy, FrameMap, FrameOf, framed, PartKey, tied, part_total, part_exact, End, listed_over, bytes_back, most_body}
 use Rattle.mig_guest.specs.Formed.{AreParts, is_emulator_code, width_of}
 use Rattle.mig_guest.proofs.Kept.{empty_formed, frames_keep}
 use Rattle.mig_guest.specs.PartCodes.{row_of}
@@ -148,7 +148,7 @@ list_before g code ps none = by (is_policy (code_number code)) refl (sym (said g
     by false is h = nothing (last_bytes p2m_key ps) (fin.get g.parts p2m_key) (ap (λ b. unwrap_or (cond b (policy_says_of_part p2m_key (code_number code) ps) (parts_say_of_part p2m_key ps)) (fin.get g.parts p2m_key)) (sym is) ∙ h)
 
 -- a body that sets parts of a code that is no emulator's
-pub grows_sets : (code : PartCode) (g h : GuestOf) (body : List ℕ) → (row_of code).of_kind g.kind ≡ true → is_emulator_code (code_number code) ≡ false → HasBodyLength code (length body) → length body ≤ 2 ^ 27 → AreBytes body
+pub grows_sets : (code : PartCode) (g h : GuestOf) (body : List ℕ) → (row_of code).of_kind g.kind ≡ true → is_emulator_code (code_number code) ≡ false → HasBodyLength code (length body) → length body ≤ most_body → AreBytes body
     → fault_of_body code body ≡ None → AllByRecursion (λ p. IsSmallKey p.0) (parts_of_body code body) → h ≡ record g { parts = set_parts code g.parts (parts_of_body code body) } → Grows g h
 grows_sets code g h body of_kind no_emulator has short all fine small now = by (has_shape (shape_of code)) refl
   where

@@ -1,5 +1,5 @@
 -- What judging accepts is spelled as the format says.
-use Rattle.mig_restore_form.proofs.Common.{◌≡◌, ℕ, ◌≤◌, ◌<◌, ◌^◌, List, [], ◌∷◌, ◌++◌, length, true, false, nat_le, Option, None, refl, sym, ap, subst, ◌∙◌, append_assoc, ltb-false, leb-false, Ok, arith, length-append, not-false, length-map, padding_len, le32, be32, Judged, ◌>>=◌, part, tried, placed, Passes, both_pass, part_passes, tried_passes, same_passes, fault_of_marker, fault_of_image, fault_of_domain, kind_of_number, unless_faulty, IsImageHeader, IsDomainHeader, type_of_number, Cause, TooManyRecords, Truncated, Place, Kind, Pv, Hvm, GuestOf, long_rows, length_rows, type_allows, fault_of_long, fault_of_length, IsInOrder, fault_of_type, fault_of_guest, StreamRecord, is_ended, is_verified, placed_content, types_of, Opening, Before, opening_of, before, fault_of_number, fault_of_head, fault_at_end, body_at, IsComplete, Follows, IsImage, ImageOf, image_of, records_at, rows_fine, said_passes, Spells, image_is_spelled, domain_is_spelled, faultless_is_in_order, record_at, next_at, sent, placed_next}
+use Rattle.mig_restore_form.proofs.Common.{◌≡◌, ℕ, ◌≤◌, ◌<◌, List, [], ◌∷◌, ◌++◌, length, true, false, nat_le, Option, None, refl, sym, ap, subst, ◌∙◌, append_assoc, ltb-false, leb-false, Ok, arith, length-append, not-false, length-map, padding_len, le32, be32, Judged, ◌>>=◌, part, tried, placed, Passes, both_pass, part_passes, tried_passes, same_passes, fault_of_marker, fault_of_image, fault_of_domain, kind_of_number, unless_faulty, IsImageHeader, IsDomainHeader, type_of_number, Cause, TooManyRecords, Truncated, Place, Kind, Pv, Hvm, GuestOf, long_rows, length_rows, type_allows, fault_of_long, fault_of_length, IsInOrder, fault_of_type, fault_of_guest, StreamRecord, is_ended, is_verified, placed_content, types_of, Opening, Before, opening_of, before, fault_of_number, fault_of_head, fault_at_end, body_at, IsComplete, Follows, IsImage, ImageOf, image_of, records_at, rows_fine, said_passes, Spells, image_is_spelled, domain_is_spelled, faultless_is_in_order, record_at, next_at, sent, placed_next, most_body, most_records}
 use Rattle.mig_bytes.proofs.Joins.{placed_passes}
 use Rattle.mig_headers.specs.declared.fault.Place.TheVariants.{Record, ImageHeader, DomainHeader}
 use Rattle.mig_pvtables.proofs.HvmGuests.{hvm_complete, hvm_faultless}
@@ -18,10 +18,10 @@ use Rattle.mig_bytes.proofs.Sequences as fronts
 
 -- what fields without fault say
 pub record FineFields (b : Before) (type len : ℕ) : Type 0 where
-  pub small : len ≤ 2 ^ 27
+  pub small : len ≤ most_body
   pub ordered : IsInOrder b.opening.version b.opening.kind b.types type
   pub allowed : type_allows (type_of_number type) len ≡ true
-  pub few : length b.types < 2 ^ 28
+  pub few : length b.types < most_records
 
 pub fields_fine : (b : Before) (type len : ℕ) → fault_of_fields b type len ≡ None → FineFields b type len
 unfolding fault_of_fields
@@ -31,10 +31,10 @@ fields_fine b type len fine =
     let c = both_none (fault_of_type o.version o.kind b.types type) _ l.1 in
     let d = both_none (fault_of_length type len) (fault_of_number b.types) c.1 in
     record {
-      small = ltb-false (2 ^ 27) len (rows_fine (long_rows len) l.0).0;
+      small = ltb-false most_body len (rows_fine (long_rows len) l.0).0;
       ordered = (faultless_is_in_order o.version o.kind b.types type).0 c.0;
       allowed = not-false _ (rows_fine (length_rows type len) d.0).0;
-      few = leb-false (2 ^ 28) (length b.types) (rows_fine ((nat_le (2 ^ 28) (length b.types), TooManyRecords) ∷ []) d.1).0;
+      few = leb-false most_records (length b.types) (rows_fine ((nat_le most_records (length b.types), TooManyRecords) ∷ []) d.1).0;
     }
 
 -- ---- the guest at END
@@ -90,9 +90,9 @@ found o records i r rest going h =
         said = c.x;
         says = s.says;
         placed = refl {a = content};
-        small = subst (λ n. n ≤ 2 ^ 27) (sym s.body_len) fine.small;
+        small = subst (λ n. n ≤ most_body) (sym s.body_len) fine.small;
         ordered = fine.ordered;
-        few = subst (λ n. n < 2 ^ 28) (length-map records (λ (x : StreamRecord). x.type)) fine.few;
+        few = subst (λ n. n < most_records) (length-map records (λ (x : StreamRecord). x.type)) fine.few;
         not_ended = going;
         complete = complete_at_end o (records ++ record { type = type; content = content } ∷ []) type
             (subst (λ (x : StreamRecord). fault_at_end x.type (sent o.kind (records ++ x ∷ [])) ≡ None) (sym is_record) whole.0);

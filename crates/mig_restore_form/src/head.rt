@@ -10,7 +10,7 @@ use mig_order::Gate;
 use mig_records::{RecordHead, length_fault, long_fault};
 
 /// The most records of an image, and of a libxl stream.
-pub const MAX_RECORDS: u32 = 1 << 28;
+pub const MOST_RECORDS: u32 = 1 << 28;
 
 /// What a reader of images keeps of the records before.
 #[derive(Drop)]
@@ -44,7 +44,7 @@ impl RecordsSeen {
         ensures fault { (types : List ℕ) → self.now.records ≡ length types → result ≡ fault_of_number types }
         ensures room { OnNone result (self.now.records < most_records) }
     {
-        if self.records >= MAX_RECORDS {
+        if self.records >= MOST_RECORDS {
             return Some(Cause::TooManyRecords);
         }
         None

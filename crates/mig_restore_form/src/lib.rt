@@ -15,7 +15,7 @@ mod head;
 mod law;
 mod word;
 
-pub use head::{MAX_RECORDS, RecordsSeen};
+pub use head::{MOST_RECORDS, RecordsSeen};
 pub use law::{
     accepted_is_image, accepted_is_whole, accepted_or_refused, entries_behind_verify_are_counted,
     entry_agrees, greatest_end_decides, image_is_accepted, last_content_decides,

@@ -1,6 +1,8 @@
 -- The words of a command line, and the commands that they name.
 use Rattle.std.specs.Prelude.{◌≡◌, ◌≢◌, ◌⊎◌, ◌<◌, ◌≤◌, ◌^◌, ◌+◌, ◌-◌, ◌*◌, ◌&&◌, ℕ, List, [], ◌∷◌, length, map, codes, decimal, string_bytes, slice_index, nat_le, Option, Some, None, option_and_then, if◌then◌else◌}
 use Rattle.std.specs.declared.string.String.{String}
+use Rattle.mig_headers.specs.RecordTypes.{vcpu_limit}
+use Rattle.mig_pagetypes.specs.Limits.{machine_limit, most_frames}
 use Rattle.mig_tool_report.specs.declared.command.Command.{Command}
 use Rattle.mig_tool_report.specs.declared.command.Command.TheVariants.{Normalise, Restore, Verify, Convert, Save, Exercise, Walk, WalkImage, Relay, Show}
 
@@ -11,17 +13,22 @@ texts_of words = map string_bytes words
 abbrev pub usual_base : ℕ
 usual_base = 1048576
 
--- a base from 1 to 2 ^ 40 - 2 ^ 24
+-- the greatest base: from there on as many frames as a guest may have lie below the limit of machine frames
+abbrev pub most_base : ℕ
+most_base = machine_limit - most_frames
+
 abbrev pub IsBase : ℕ → Type 0
-IsBase base = (0 < base) × (base ≤ 1099494850560)
+IsBase base = (0 < base) × (base ≤ most_base)
 
--- how many frames the host of `exercise` may have
+-- how few and how many frames the host of `exercise` may have
+abbrev pub least_exercise_frames : ℕ
+least_exercise_frames = 8
+
+abbrev pub most_exercise_frames : ℕ
+most_exercise_frames = 65536
+
 abbrev pub IsFrameNumber : ℕ → Type 0
-IsFrameNumber frames = (8 ≤ frames) × (frames ≤ 65536)
-
--- ids of vCPUs are below this
-abbrev pub vcpu_limit : ℕ
-vcpu_limit = 4096
+IsFrameNumber frames = (least_exercise_frames ≤ frames) × (frames ≤ most_exercise_frames)
 
 -- what a letter stands for in a number to base 16, in lower case: 0 to 9, and a to f for 10 to 15
 abbrev pub hex_value : ℕ → Option ℕ

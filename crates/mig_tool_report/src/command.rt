@@ -1,22 +1,22 @@
 ghost use Rattle.std.specs.Prelude.{◌≡◌, ◌↔◌, ◌<◌, ◌^◌, ◌∷◌, [], ℕ, IfSome, IfNone, IsTrue, decimal, codes, length, ◌≤◌};
-ghost use Rattle.mig_tool_report.specs.Words.{texts_of, IsBase, IsFrameNumber, vcpu_limit, hex_value as value_of_letter, hex_behind, IsAddress, ArePlace, Names};
+ghost use Rattle.mig_tool_report.specs.Words.{texts_of, IsBase, IsFrameNumber, hex_value as value_of_letter, hex_behind, IsAddress, ArePlace, Names};
 ghost use Rattle.mig_tool_report.specs.declared.command.Command.{Command};
+ghost use Rattle.mig_headers.specs.RecordTypes.{vcpu_limit};
 
 use itoa::Buffer;
+use mig_headers::VCPU_LIMIT;
+use mig_pagetypes::{MACHINE_LIMIT, MOST_FRAMES};
 
 /// The machine frame of a restored guest's first frame, where no base is given.
 const USUAL_BASE: u64 = 1 << 20;
 
-/// The greatest base: all frames that a guest may have lie below machine frame 2^40.
-const MAX_BASE: u64 = (1 << 40) - (1 << 24);
+/// The greatest base: from there on as many frames as a guest may have lie below the limit of machine frames.
+const MOST_BASE: u64 = MACHINE_LIMIT - MOST_FRAMES;
 
 /// How few and how many frames the host of `exercise` may have.
-const LEAST_FRAMES: u64 = 8;
+const LEAST_EXERCISE_FRAMES: u64 = 8;
 
-const MOST_FRAMES: u64 = 65536;
-
-/// Ids of vCPUs are below this.
-const VCPUS: u64 = 4096;
+const MOST_EXERCISE_FRAMES: u64 = 65536;
 
 /// An address has at most so many digits.
 const MOST_DIGITS: usize = 16;
@@ -57,14 +57,14 @@ fn is_word(word: &str, this: &str) -> bool
 fn is_base(base: u64) -> bool
     ensures { IsTrue result ↔ IsBase base }
 {
-    0 < base && base <= MAX_BASE
+    0 < base && base <= MOST_BASE
 }
 
 /// Whether the host of `exercise` may have so many frames.
 fn is_frame_number(frames: u64) -> bool
     ensures { IsTrue result ↔ IsFrameNumber frames }
 {
-    LEAST_FRAMES <= frames && frames <= MOST_FRAMES
+    LEAST_EXERCISE_FRAMES <= frames && frames <= MOST_EXERCISE_FRAMES
 }
 
 /// The number that a word spells.
@@ -190,7 +190,11 @@ fn vcpu_in(word: &str) -> Option<u32>
     ensures none { IfNone result ((id : ℕ) → word.now ≡ decimal id → id < vcpu_limit → ⊥) }
 {
     let id = number_in(word)?;
-    if id < VCPUS { Some(id as u32) } else { None }
+    if id < u64::from(VCPU_LIMIT) {
+        Some(id as u32)
+    } else {
+        None
+    }
 }
 
 /// The vCPU's id and the address that two words spell.

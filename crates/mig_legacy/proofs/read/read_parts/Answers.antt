@@ -1,4 +1,4 @@
-use Rattle.mig_legacy.proofs.Common.{refl, rules, subst, ◌≤◌, ◌^◌, ◌>>=◌, placed, Passes, judged_so, mapped, stopped, then_reads, placed_then, placed_ends, placed_fine, Start, Tail, Device, judged_as, start_form, tail_form, device_at, chunks_at, legacy_at}
+use Rattle.mig_legacy.proofs.Common.{refl, rules, subst, ◌≤◌, ◌>>=◌, placed, Passes, judged_so, mapped, stopped, then_reads, placed_then, placed_ends, placed_fine, Start, Tail, Device, judged_as, start_form, tail_form, device_at, chunks_at, legacy_at, most_frames}
 use Rattle.std.specs.FinMap as maps
 use Rattle.mig_legacy.proofs.Streams.{stream_of, behind_start, behind_chunks, behind_tail, stream_is, guest_meant}
 use Rattle.mig_legacy.proofs.read.read_parts.Goals as goal
@@ -15,7 +15,7 @@ returns-in_err-seen-clause-read g c =
     (λ start _. stopped _ _ _ _ chunks_at (λ i. behind_start (start, i)) behind_chunks c.in_err-seen.field-0.0 c.from_residual.result (λ i. refl) (search rules) c.in_err-seen.ensures.read))
 
 pub take_tail-requires-clause-few : goal.take_tail-requires-clause-few
-take_tail-requires-clause-few g c = subst (λ n. n ≤ 2 ^ 24) (maps.len-entries c.in_ok-seen.seen.guest.frames) c.in_ok-seen.ensures.few
+take_tail-requires-clause-few g c = subst (λ n. n ≤ most_frames) (maps.len-entries c.in_ok-seen.seen.guest.frames) c.in_ok-seen.ensures.few
 
 pub returns-in-Err-take_tail-clause-read : goal.returns-in-Err-take_tail-clause-read
 returns-in-Err-take_tail-clause-read g c =

@@ -1,4 +1,4 @@
-use Rattle.mig_legacy.proofs.Common.{◌≡◌, ◌≤◌, ◌-◌, ◌^◌, IsLegacyBegun}
+use Rattle.mig_legacy.proofs.Common.{◌≡◌, ◌≤◌, ◌-◌, IsLegacyBegun, most_chunks}
 use Rattle.mig_legacy.proofs.Arrivals.{Arrived}
 use Rattle.mig_legacy.proofs.read.take_chunks.Given as goal
 
@@ -6,9 +6,9 @@ abbrev pub invariant-chunks : goal.invariant-chunks
 invariant-chunks g l = record {
   arrived : Arrived (g.S.Source.left l.fn.src) (g.S.Source.left l.src) l.seen;
   begun : IsLegacyBegun l.seen;
-  few : l.seen.chunks ≤ 2 ^ 28;
+  few : l.seen.chunks ≤ most_chunks;
   quiet : g.S.Source.faults l.src ≡ g.S.Source.faults l.fn.src;
 }
 
 abbrev pub decreases-chunks : goal.decreases-chunks
-decreases-chunks g l = 2 ^ 28 - l.seen.chunks
+decreases-chunks g l = most_chunks - l.seen.chunks

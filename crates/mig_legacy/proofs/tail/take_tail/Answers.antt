@@ -1,4 +1,4 @@
-use Rattle.mig_legacy.proofs.Common.{said_read, said_refused, ◌≡◌, ◌^◌, length, Ok, Err, rules, refl, sym, ap, subst, ◌∙◌, AreBytes, ◌>>=◌, part, tried, Passes, stopped, scan, Truncated, BadContext, judged_as, length_form, context_fault, tail_of, tail_form, put_tail}
+use Rattle.mig_legacy.proofs.Common.{said_read, said_refused, ◌≡◌, length, Ok, Err, rules, refl, sym, ap, subst, ◌∙◌, AreBytes, ◌>>=◌, part, tried, Passes, stopped, scan, Truncated, BadContext, judged_as, length_form, context_fault, tail_of, tail_form, put_tail, most_body}
 use Rattle.mig_legacy.proofs.Tails.{behind_frames, context_at, tail_parts, counted_parts, framed, counted, tail_plain}
 use Rattle.mig_legacy.proofs.tail.take_tail.Goals as goal
 
@@ -12,7 +12,7 @@ returns-in_err-len-clause-read g c =
     let buf = c.take_part.new.buf in
     let len : length buf ≡ 24 = search rules in
     framed _ _ len buf _ _ c.in_ok-take_part.ensures.read _ c.from_residual-in_err-len.result
-    (stopped _ _ _ _ (judged_as (length_form (2 ^ 27))) (λ i. behind_frames (buf, i)) (λ n. context_at buf n.0 n.1) c.in_err-len.field-0.0 c.from_residual-in_err-len.result (counted_parts buf) (search rules) c.in_err-len.ensures.read)
+    (stopped _ _ _ _ (judged_as (length_form most_body)) (λ i. behind_frames (buf, i)) (λ n. context_at buf n.0 n.1) c.in_err-len.field-0.0 c.from_residual-in_err-len.result (counted_parts buf) (search rules) c.in_err-len.ensures.read)
 
 pub returns-in_err-context-clause-read : goal.returns-in_err-context-clause-read
 returns-in_err-context-clause-read g c =

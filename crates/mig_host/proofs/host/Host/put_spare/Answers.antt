@@ -1,4 +1,4 @@
-use Rattle.mig_host.proofs.Common.{◌<◌, ◌^◌, length, sym, ap, subst, ◌∙◌, option_copied, FrameOf, IsHostFrame, HostAndSpare, with_machine, put_frame}
+use Rattle.mig_host.proofs.Common.{◌<◌, length, sym, ap, subst, ◌∙◌, option_copied, FrameOf, IsHostFrame, HostAndSpare, with_machine, put_frame, most_frames}
 use Rattle.mig_host.proofs.HostsMade.{machine_unused, seen_frame, made_frame}
 use Rattle.std.specs.FinMap as maps
 use Rattle.mig_host.proofs.host.Host.put_spare.Goals as goal
@@ -16,7 +16,7 @@ invariant_of-self c =
     (made_frame h.kind h.width h.frames.frames h.machines.machines h.parts pfn frame c.args.machine c.self.invariant
     (subst (λ (x : HostAndSpare). IsHostFrame x.host.kind x.host.width pfn (with_machine frame c.args.machine)) (sym c.self.view_is) c.requires.is)
     (λ other x has. c.requires.unused other x (sym (ap (λ (h : HostAndSpare). maps.get h.host.frames other) c.self.view_is) ∙ has))
-    (subst (λ (x : HostAndSpare). length (maps.entries x.host.frames) < 2 ^ 24) (sym c.self.view_is) c.requires.few))
+    (subst (λ (x : HostAndSpare). length (maps.entries x.host.frames) < most_frames) (sym c.self.view_is) c.requires.few))
 
 pub returns-clause-host : goal.returns-clause-host
 returns-clause-host c =

@@ -1,4 +1,4 @@
-use Rattle.mig_legacy.proofs.Common.{rules, subst, sym, ◌<◌, ◌^◌, Passes, mapped, stopped, then_reads, judged_as, type_form, content_form, chunk_form}
+use Rattle.mig_legacy.proofs.Common.{rules, subst, sym, ◌<◌, Passes, mapped, stopped, then_reads, judged_as, type_form, content_form, chunk_form, most_chunks}
 use Rattle.mig_legacy.proofs.Chunked.{chunk_of, behind_kind, begins, goes_behind, seen_more}
 use Rattle.mig_legacy.proofs.read.ChunksSeen.take_chunk.Goals as goal
 
@@ -13,7 +13,7 @@ returns-in_err-take_content-clause-read g c = λ chunks seen.
     (goes_behind chunks kind c.in_ok-kind.kind is) (search rules) (c.in_err-take_content.ensures.read chunks seen))
 
 pub count-requires : goal.count-requires
-count-requires g c = record { room = subst (λ n. n < 2 ^ 28) (sym c.in_ok-take_content.ensures.chunks) c.in_ok-kind.ensures.room }
+count-requires g c = record { room = subst (λ n. n < most_chunks) (sym c.in_ok-take_content.ensures.chunks) c.in_ok-kind.ensures.room }
 
 pub returns-clause-read : goal.returns-clause-read
 returns-clause-read g c = λ chunks seen.

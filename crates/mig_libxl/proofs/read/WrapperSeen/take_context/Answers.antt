@@ -1,4 +1,4 @@
-use Rattle.mig_libxl.proofs.Common.{◌≡◌, ◌≤◌, ◌<◌, ◌^◌, length, drop, rules, refl, sym, ap, subst, ◌∙◌, AreBytes, Context, emulator_key, Truncated, le32, said_read, said_refused}
+use Rattle.mig_libxl.proofs.Common.{◌≡◌, ◌≤◌, ◌<◌, length, drop, rules, refl, sym, ap, subst, ◌∙◌, AreBytes, Context, emulator_key, Truncated, le32, said_read, said_refused, most_body}
 use Rattle.mig_libxl_form.specs.Judging.{fault_of_context}
 use Rattle.mig_libxl.proofs.Begun.{context_begun}
 use Rattle.mig_libxl_form.proofs.Bodies.{fine_context}
@@ -34,4 +34,4 @@ returns-in-Ok-clause-begun g c =
     let alike : c.deref.result.now ≡ body = search rules in
     let size : length body ≡ c.args.len = search rules in
     context_begun c.args.self.now c.set_context.new.self _ c.u32_le-id.result c.u32_le-index.result c.requires.begun c.if-id-ge-EMULATORS.false c.if-index-ge-INDICES.false body c.in-Ok.ensures.ok (behind_front body body _ refl refl)
-    (subst (λ n. 8 ≤ n) (sym size) c.requires.front) (subst (λ n. n ≤ 2 ^ 27) (sym size) c.requires.small) (subst AreBytes alike c.are_bytes.ensures)
+    (subst (λ n. 8 ≤ n) (sym size) c.requires.front) (subst (λ n. n ≤ most_body) (sym size) c.requires.small) (subst AreBytes alike c.are_bytes.ensures)

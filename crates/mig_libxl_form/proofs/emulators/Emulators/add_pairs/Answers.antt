@@ -1,4 +1,4 @@
-use Rattle.mig_libxl_form.proofs.Common.{◌≡◌, ◌<◌, ◌≤◌, length, Some, None, List, [], ℕ, sym, ap, subst, ◌∙◌, arith, is_some, nat_eq, false, cond, ◌^◌, Result, Ok, Err, common_steps, eqb-true, pairs_fault, PairMap, put_pairs, text_of_map, some_bytes_are_some_pairs, part_cmp, PartKey, add_pairs, store_at, nil_from_length, is_at, on_err_weaker, pairs_in, stores_seen}
+use Rattle.mig_libxl_form.proofs.Common.{◌≡◌, ◌<◌, ◌≤◌, length, Some, None, List, [], ℕ, sym, ap, subst, ◌∙◌, arith, is_some, nat_eq, false, cond, Result, Ok, Err, common_steps, eqb-true, pairs_fault, PairMap, put_pairs, text_of_map, some_bytes_are_some_pairs, part_cmp, PartKey, add_pairs, store_at, nil_from_length, is_at, on_err_weaker, pairs_in, stores_seen, most_pairs}
 use Rattle.std.specs.Prelude.{OnOk, IsErrAnd, IsErrOf}
 use Rattle.std.specs.declared.alloc.Global.{Global}
 use Rattle.std.specs.declared.collections.btree_map.BTreeMap.{BTreeMap}
@@ -21,8 +21,8 @@ same_error : {E : Type 0} (r : Result (Unit {0}) E) (e f : E) → IsErrAnd r (λ
 same_error (Ok v) e f is of = absurd is
 same_error (Err x) e f is of = ap (λ e. Err e) (sym is) ∙ of
 
-fits_too : {E : Type 0} (r : Result (Unit {0}) E) (m all : PairMap) → OnOk r (m ≡ all) → OnOk r (length (text_of_map m) ≤ 2 ^ 24) → OnOk r (length (text_of_map all) ≤ 2 ^ 24)
-fits_too (Ok v) m all is fits = subst (λ (n : PairMap). length (text_of_map n) ≤ 2 ^ 24) is fits
+fits_too : {E : Type 0} (r : Result (Unit {0}) E) (m all : PairMap) → OnOk r (m ≡ all) → OnOk r (length (text_of_map m) ≤ most_pairs) → OnOk r (length (text_of_map all) ≤ most_pairs)
+fits_too (Ok v) m all is fits = subst (λ (n : PairMap). length (text_of_map n) ≤ most_pairs) is fits
 fits_too (Err e) m all is fits = tt
 
 pub returns-then-is_empty-clause-ok : goal.returns-then-is_empty-clause-ok
@@ -70,7 +70,7 @@ returns-in_err-add-clause-too_many c =
     let es = c.self.inside.stores.entries in
     let at_key = sym c.get_mut.ensures.value ∙ ap option_copied_mut c.in_default.is in
     let here = store_found es c.self.inside.contexts c.args.self.now c.self.view_is c.args.key _ at_key in
-    λ of. rw here (subst (λ (m : PairMap). 2 ^ 24 < length (text_of_map (put_pairs m (pairs_in c.args.bytes.now)))) c.new-store.ensures (c.in_err-add.ensures.too_many (same_error c.from_residual.result c.in_err-add.field-0.0 TooMany c.from_residual.ensures.1 of)))
+    λ of. rw here (subst (λ (m : PairMap). most_pairs < length (text_of_map (put_pairs m (pairs_in c.args.bytes.now)))) c.new-store.ensures (c.in_err-add.ensures.too_many (same_error c.from_residual.result c.in_err-add.field-0.0 TooMany c.from_residual.ensures.1 of)))
 
 pub returns-in-Ok-clause-ok : goal.returns-in-Ok-clause-ok
 returns-in-Ok-clause-ok c =
@@ -88,7 +88,7 @@ returns-in-Ok-clause-fits c =
     let here = store_found es c.self.inside.contexts c.args.self.now c.self.view_is c.args.key _ at_key in
     let is = c.in_ok-add.ensures.ok in
     let fits = c.in_ok-add.ensures.fits in
-    rw here (subst (λ (m : PairMap). length (text_of_map m) ≤ 16777216) (is ∙ ap (λ (m : PairMap). put_pairs m (pairs_in c.args.bytes.now)) c.new-store.ensures) fits)
+    rw here (subst (λ (m : PairMap). length (text_of_map m) ≤ most_pairs) (is ∙ ap (λ (m : PairMap). put_pairs m (pairs_in c.args.bytes.now)) c.new-store.ensures) fits)
 
 pub returns-in-Some-clause-err : goal.returns-in-Some-clause-err
 returns-in-Some-clause-err c =
