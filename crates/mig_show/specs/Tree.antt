@@ -6,6 +6,8 @@ use Rattle.mig_headers.specs.declared.fault.Place.{Place}
 use Rattle.mig_headers.specs.declared.fault.Cause.{Cause}
 use Rattle.mig_headers.specs.declared.kind.Kind.{Kind}
 use Rattle.mig_headers.specs.declared.kind.Kind.TheVariants.{Pv, Hvm}
+use Rattle.mig_headers.specs.declared.record_type.RecordType.TheVariants.{PageData}
+use Rattle.mig_headers.specs.RecordTypes.{type_number}
 use Rattle.mig_show.specs.declared.record.Seen1.{Seen1}
 use Rattle.mig_show.specs.Names.{shown_name}
 use Rattle.mig_show.specs.Refusals.{refused_text}
@@ -20,7 +22,7 @@ layer_name wrapped = if wrapped then codes "libxl" else codes "libxc"
 
 -- a PAGE_DATA: type 1 of a libxc stream
 abbrev pub is_page_data : Seen1 → Bool
-is_page_data shown = not shown.wrapped && (shown.kind == 1)
+is_page_data shown = not shown.wrapped && (shown.kind == type_number PageData)
 
 -- what is shown of each record
 abbrev pub common_members : Seen1 → Members

@@ -3,11 +3,9 @@ ghost use Rattle.serde_json.specs.View.{view, members_view};
 ghost use Rattle.mig_show.specs.Tree.{layer_name, is_page_data, common_members, with_pages, record_tree};
 
 use crate::names::shown_name;
+use mig_headers::PAGE_DATA;
 use serde_json::{Map, Value, put};
 use std::alloc::{AllocError, Global};
-
-/// The type of PAGE_DATA.
-const PAGE_DATA: u32 = 1;
 
 /// What is shown of a record.
 #[derive(Clone, Copy, Debug, PartialEq, Eq)]
