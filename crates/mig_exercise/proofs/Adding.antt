@@ -1,5 +1,5 @@
 -- What a frame more asks of the host of the exercise, and what it gives.
-use Rattle.mig_exercise.proofs.Common.{◌≡◌, ℕ, zero, suc, ◌+◌, ◌-◌, ◌<◌, ◌≤◌, ◌^◌, Bool, true, false, cond, nat_lt, List, length, Some, None, refl, sym, ap, subst, ◌∙◌, inl, inr, arith, min, cases_lt, le-ltb, ne_eqb, ◌==◌, nat_cmp_total, nat_cmp, Pv, Notab, HostOf, HostFrame, insert_len, p2m_page, data_count, exercise_frame, exercise_machine, exercise_machine_of, exercise_page, exercise_type, first_data, table_naming, page_of_zeros, host_begun}
+use Rattle.mig_exercise.proofs.Common.{◌≡◌, ℕ, zero, suc, ◌+◌, ◌-◌, ◌<◌, ◌≤◌, Bool, true, false, cond, nat_lt, List, length, Some, None, refl, sym, ap, subst, ◌∙◌, inl, inr, arith, min, cases_lt, le-ltb, ne_eqb, ◌==◌, nat_cmp_total, nat_cmp, Pv, Notab, HostOf, HostFrame, insert_len, p2m_page, data_count, exercise_frame, exercise_machine, exercise_machine_of, exercise_page, exercise_type, first_data, table_naming, page_of_zeros, host_begun, most_frames}
 use Rattle.std.proofs.lemmas.Option.{none-some}
 use Rattle.mig_pagetypes.specs.declared.page_type.PageType.{PageType}
 use Rattle.mig_pagetypes.specs.declared.page_type.PageType.TheVariants.{L1Tab, L2Tab, L3Tab, L4Pinned}
@@ -55,8 +55,8 @@ module _ (n : ℕ) (contents : ℕ → List ℕ) (m : ℕ) (h : HostOf) (begun :
   pub frame_absent : maps.get h.frames m ≡ None
   frame_absent = ap (λ (x : HostOf). maps.get x.frames m) begun ∙ frame_none n contents m m (omega arith)
 
-  pub still_few : m < 2 ^ 24 → length (maps.entries h.frames) < 2 ^ 24
-  still_few small = let P : HostOf → Type 0 = λ x. length (maps.entries x.frames) < 2 ^ 24 in
+  pub still_few : m < most_frames → length (maps.entries h.frames) < most_frames
+  still_few small = let P : HostOf → Type 0 = λ x. length (maps.entries x.frames) < most_frames in
       subst P (sym begun) (omega (arith, small, few_frames n contents m, maps.len-entries (frames_up_to n contents m)))
 
   module _ (inside : m < n) (machine : ℕ) (at : machine ≡ exercise_machine n m) where

@@ -26,7 +26,9 @@ pub use Rattle.mig_guest.specs.PartKeys.{p2m_key, shared_key, vcpu_key}
 pub use Rattle.mig_guest.specs.Parts.{PartMap}
 pub use Rattle.mig_guest.specs.declared.part_code.PartCode.TheVariants.{VcpuBasic}
 pub use Rattle.mig_guest.specs.declared.part_key.PartKey.{PartKey}
+pub use Rattle.mig_guest.specs.Limits.{most_gdt_entries}
 pub use Rattle.mig_headers.specs.declared.kind.Kind.TheVariants.{Pv}
+pub use Rattle.mig_headers.specs.RecordTypes.{most_policy_entries}
 pub use Rattle.mig_host_view.specs.Sound.{unsoundness}
 pub use Rattle.mig_host_view.specs.View.{view, without_machine}
 pub use Rattle.mig_machine_script.specs.Groups.{ran, ran_between}
@@ -35,6 +37,7 @@ pub use Rattle.mig_machine_script.specs.ScriptLines.{LineOf, line_said}
 pub use Rattle.mig_machine_script.specs.ScriptLines.LineOf.{Add, Dot, Exchange, Put, Remove, Retype, Write}
 pub use Rattle.mig_pagetypes.specs.PageTypes.{level_of}
 pub use Rattle.mig_pagetypes.specs.declared.page_type.PageType.TheVariants.{Notab}
+pub use Rattle.mig_pagetypes.specs.Limits.{most_frames}
 pub use Rattle.mig_pvtables.proofs.EachValue.{from_each}
 pub use Rattle.mig_pvtables.specs.BadEntries.{NamesKnown}
 pub use Rattle.mig_pvtables.specs.Blank.{each_value}

@@ -1,5 +1,5 @@
 -- What the parts of the exercise ask of its host, and what setting them makes.
-use Rattle.mig_exercise.proofs.Common.{◌≡◌, ℕ, suc, ◌+◌, ◌*◌, ◌<◌, ◌≤◌, List, ◌++◌, length, refl, sym, ap, subst, ◌∙◌, arith, eq-eqb, ◌==◌, little_bytes, Pv, VcpuBasic, PartKey, HostOf, part_cmp, p2m_key, vcpu_key, shared_key, PartMap, insert_len, length_longs, part_total, exercise_context, exercise_p2m_list, p2m_frame_count, page_of_zeros}
+use Rattle.mig_exercise.proofs.Common.{◌≡◌, ℕ, suc, ◌+◌, ◌*◌, ◌<◌, ◌≤◌, List, ◌++◌, length, refl, sym, ap, subst, ◌∙◌, arith, eq-eqb, ◌==◌, little_bytes, Pv, VcpuBasic, PartKey, HostOf, part_cmp, p2m_key, vcpu_key, shared_key, PartMap, insert_len, length_longs, part_total, exercise_context, exercise_p2m_list, p2m_frame_count, page_of_zeros, most_policy_entries}
 use Rattle.std.proofs.lemmas.List.Sums.{length-filter, count_by-le-length}
 use Rattle.mig_headers.specs.RecordTypes.{pv}
 use Rattle.mig_guest.specs.declared.part_code.PartCode.TheVariants.{P2mFrames, SharedInfo}
@@ -31,7 +31,7 @@ no_parts_yet n h kind width none = record { kind = kind; width = width; few = om
 -- what such a host allows, and what it is with one part more
 module _ (n count : ℕ) (h : HostOf) where
   module _ (is : HasFewParts n count h) (key : PartKey) (bytes : List ℕ) where
-    pub fits_policy : (code : ℕ) → count < 65536 → FitsPolicy code (maps.insert h.parts key bytes)
+    pub fits_policy : (code : ℕ) → count < most_policy_entries → FitsPolicy code (maps.insert h.parts key bytes)
     fits_policy code small =
         let m : PartMap = maps.insert h.parts key bytes in
         omega (arith, length-filter (λ (e : PartKey × List ℕ). e.0.code == code) (maps.entries m), count_by-le-length (λ (e : PartKey × List ℕ). e.0.code == code) (maps.entries m), sym (maps.len-entries m), insert_len part_total h.parts key bytes, is.few, small)

@@ -1,5 +1,5 @@
 -- Whatever its frames of data hold, the host of the exercise can be seen as a guest.
-use Rattle.mig_exercise.proofs.Common.{◌≡◌, ◌≢◌, ℕ, ◌+◌, ◌-◌, ◌*◌, ◌/◌, ◌^◌, ◌<◌, ◌≤◌, true, false, cond, not, nat_lt, List, length, Some, None, is_some, refl, sym, ap, subst, ◌∙◌, inl, inr, arith, lit<, cases_eq, cases_lt, ne_eqb, le-ltb, ltb-true, nat_cmp_total, nat_cmp-IsAntisymmetric, option_map, ◌==◌, level_of, PartKey, FrameOf, FrameMap, HostFrame, HostFrames, pfn_in, longs, part_cmp, p2m_key, vcpu_key, shared_key, length_longs, long_of_longs, part_total, part_exact, NamesKnown, each_value, is_used_somewhere, from_each, unsoundness, without_machine, p2m_frame_count, exercise_type, exercise_machine, exercise_page, exercise_frame, frames_up_to, exercise_context, exercise_p2m_list, page_of_zeros, host_with, ArePages, IsExerciseSize}
+use Rattle.mig_exercise.proofs.Common.{◌≡◌, ◌≢◌, ℕ, ◌+◌, ◌-◌, ◌*◌, ◌/◌, ◌^◌, ◌<◌, ◌≤◌, true, false, cond, not, nat_lt, List, length, Some, None, is_some, refl, sym, ap, subst, ◌∙◌, inl, inr, arith, lit<, cases_eq, cases_lt, ne_eqb, le-ltb, ltb-true, nat_cmp_total, nat_cmp-IsAntisymmetric, option_map, ◌==◌, level_of, PartKey, FrameOf, FrameMap, HostFrame, HostFrames, pfn_in, longs, part_cmp, p2m_key, vcpu_key, shared_key, length_longs, long_of_longs, part_total, part_exact, NamesKnown, each_value, is_used_somewhere, from_each, unsoundness, without_machine, p2m_frame_count, exercise_type, exercise_machine, exercise_page, exercise_frame, frames_up_to, exercise_context, exercise_p2m_list, page_of_zeros, host_with, ArePages, IsExerciseSize, most_gdt_entries}
 use Rattle.std.proofs.lemmas.Bool.{le-leb}
 use Rattle.std.proofs.lemmas.Option.{cond_some}
 use Rattle.std.specs.Prelude.{option_and_then}
@@ -180,7 +180,7 @@ module _ (n : ℕ) (size : IsExerciseSize n) (contents : ℕ → List ℕ) where
     parts = (ap is_some (p2m_there n), (ap is_some (shared_there n), (ap is_some (vcpu_there n), tt)));
     p2m = p2m_frames;
     entries = entries_known;
-    gdt = λ key context is code. subst (λ c. gdt_ents c ≤ 7168) (sym ((own_part n key context is).0 code).1) (omega (arith, gdt_one_page n));
+    gdt = λ key context is code. subst (λ c. gdt_ents c ≤ most_gdt_entries) (sym ((own_part n key context is).0 code).1) (omega (arith, gdt_one_page n));
     fields = fields_fit;
     context = λ bytes is. absurd ((own_part n _ bytes is).1 refl);
   }
