@@ -68,15 +68,15 @@ impl Relay {
         ensures seen { self.new.seen ≡ self.old.seen }
         ensures top { self.new.top ≡ self.old.top }
         ensures passed { self.new.passed ≡ self.old.passed }
-        ensures pages { head.kind ≡ 1 → self.new.coming ≡ comes.Front head }
-        ensures body { head.kind ≢ 1 → 0 < head.len → self.new.coming ≡ comes.Body head }
-        ensures begun { head.kind ≢ 1 → 0 < head.len → IsBegunBody self.new.body (fault_of_record_body head.kind) [] }
-        ensures len { head.kind ≢ 1 → 0 < head.len → self.new.body.len ≡ head.len }
+        ensures pages { head.kind ≡ PAGE_DATA → self.new.coming ≡ comes.Front head }
+        ensures body { head.kind ≢ PAGE_DATA → 0 < head.len → self.new.coming ≡ comes.Body head }
+        ensures begun { head.kind ≢ PAGE_DATA → 0 < head.len → IsBegunBody self.new.body (fault_of_record_body head.kind) [] }
+        ensures len { head.kind ≢ PAGE_DATA → 0 < head.len → self.new.body.len ≡ head.len }
         ensures p2m { head.kind ≡ 3 → 0 < head.len → piece_len self.new.body ≡ min head.len 4096 }
-        ensures mark { head.kind ≢ 1 → head.len ≡ 0 → head.kind ≢ 0 → self.new.coming ≡ comes.Head }
-        ensures wrapper { (head.kind ≡ 0 → 0 < head.len) → self.new.wrapper ≡ self.old.wrapper }
-        ensures alone { head.kind ≡ 0 → head.len ≡ 0 → self.old.wrapper ≡ None → (self.new.coming ≡ comes.End) × (self.new.wrapper ≡ None) }
-        ensures wrapped { head.kind ≡ 0 → head.len ≡ 0 → IfSome self.old.wrapper (λ behind. (self.new.coming ≡ comes.LibxlHead)
+        ensures mark { head.kind ≢ PAGE_DATA → head.len ≡ 0 → head.kind ≢ END → self.new.coming ≡ comes.Head }
+        ensures wrapper { (head.kind ≡ END → 0 < head.len) → self.new.wrapper ≡ self.old.wrapper }
+        ensures alone { head.kind ≡ END → head.len ≡ 0 → self.old.wrapper ≡ None → (self.new.coming ≡ comes.End) × (self.new.wrapper ≡ None) }
+        ensures wrapped { head.kind ≡ END → head.len ≡ 0 → IfSome self.old.wrapper (λ behind. (self.new.coming ≡ comes.LibxlHead)
             × (self.new.wrapper ≡ Some (record { records = behind.records + 1; emulated = behind.emulated; image = Some self.old.seen.kind }))) }
     {
         self.words = Vec::new(self.alloc);
@@ -146,12 +146,12 @@ impl Relay {
         ensures words { self.new.words.items ≡ [] }
         ensures seen { self.new.seen ≡ self.old.seen }
         ensures passed { self.new.passed ≡ self.old.passed }
-        ensures image { head.kind ≡ 1 → (self.new.coming ≡ comes.Marker) × (self.new.wrapper ≡ self.old.wrapper) }
-        ensures end { head.kind ≡ 0 → self.new.coming ≡ comes.End }
-        ensures body { head.kind ≢ 0 → head.kind ≢ 1 → 0 < head.len → (self.new.coming ≡ comes.LibxlBody head) × (self.new.wrapper ≡ self.old.wrapper) }
-        ensures begun { head.kind ≢ 0 → head.kind ≢ 1 → 0 < head.len → IsBegunBody self.new.body (fault_of_libxl_body head.kind) [] }
-        ensures len { head.kind ≢ 0 → head.kind ≢ 1 → 0 < head.len → self.new.body.len ≡ head.len }
-        ensures empty { head.kind ≢ 0 → head.kind ≢ 1 → head.len ≡ 0 → (self.new.coming ≡ comes.LibxlHead) × (self.new.wrapper ≡ Some (with_one head.kind behind)) }
+        ensures image { head.kind ≡ LIBXC_CONTEXT → (self.new.coming ≡ comes.Marker) × (self.new.wrapper ≡ self.old.wrapper) }
+        ensures end { head.kind ≡ LIBXL_END → self.new.coming ≡ comes.End }
+        ensures body { head.kind ≢ LIBXL_END → head.kind ≢ LIBXC_CONTEXT → 0 < head.len → (self.new.coming ≡ comes.LibxlBody head) × (self.new.wrapper ≡ self.old.wrapper) }
+        ensures begun { head.kind ≢ LIBXL_END → head.kind ≢ LIBXC_CONTEXT → 0 < head.len → IsBegunBody self.new.body (fault_of_libxl_body head.kind) [] }
+        ensures len { head.kind ≢ LIBXL_END → head.kind ≢ LIBXC_CONTEXT → 0 < head.len → self.new.body.len ≡ head.len }
+        ensures empty { head.kind ≢ LIBXL_END → head.kind ≢ LIBXC_CONTEXT → head.len ≡ 0 → (self.new.coming ≡ comes.LibxlHead) × (self.new.wrapper ≡ Some (with_one head.kind behind)) }
     {
         self.words = Vec::new(self.alloc);
         if head.kind == LIBXC_CONTEXT {
