@@ -35,7 +35,6 @@ pub use Rattle.mig_headers.specs.declared.kind.Kind.TheVariants.{Hvm, Pv}
 pub use Rattle.mig_headers.specs.RecordTypes.{most_body}
 pub use Rattle.mig_host_view.specs.LocaliseSteps.{filled_at, filled_where_listed}
 pub use Rattle.mig_host_view.specs.Localised.{localised, localised_frame, localised_of, localised_page, renamed, renamed_frame, renamed_page, renamed_part}
-pub use Rattle.mig_host_view.specs.NormaliseSteps.{normalised_frame}
 pub use Rattle.mig_host_view.specs.Normalised.{cut_by, normalised, normalised_of, part_seen}
 pub use Rattle.mig_host_view.specs.RenamedContexts.{field_named, renamed_context, value_renamed}
 pub use Rattle.mig_host_view.specs.Sound.{AreThere, CanBeSeen, IsSound, machine_type, misnames, needed_keys}
@@ -44,9 +43,6 @@ pub use Rattle.mig_pagetypes.specs.Limits.{pfn_limit, top_limit}
 pub use Rattle.mig_pagetypes.specs.PageTypes.{level_of}
 pub use Rattle.mig_pagetypes.specs.declared.page_type.PageType.{PageType}
 pub use Rattle.mig_pvtables.proofs.BlankBytesKept.{context_of_bytes}
-pub use Rattle.mig_pvtables.proofs.BlankCodes.{ChangedUpTo, code_end, code_fewer, code_long, code_next, code_start}
-pub use Rattle.mig_pvtables.proofs.BlankFrames.{FramesChangedBelow, frames_end, frames_next, frames_start, no_frame, no_table, no_table_page, table_written}
-pub use Rattle.mig_pvtables.proofs.BlankParts.{no_part}
 pub use Rattle.mig_pvtables.proofs.BlankSays.{field_there, place_field}
 pub use Rattle.mig_pvtables.proofs.EachValue.{count_each, each_each, each_same, from_each, len_each, same_each, some_each, stays_each, to_each}
 pub use Rattle.mig_pvtables.proofs.LongSteps.{each_twice}

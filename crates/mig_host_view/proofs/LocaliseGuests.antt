@@ -1,22 +1,7 @@
 -- A guest whose tables, P2M frames and contexts hold machine frames is the guest as it stands in a machine.
 use Rattle.mig_host_view.proofs.Common.{◌≡◌, ℕ, ◌+◌, ◌-◌, ◌*◌, ◌/◌, ◌<◌, ◌≤◌, ◌^◌, List, ◌++◌, length, take, Option, Some, None, IfSome, refl, sym, ap, subst, ◌∙◌, arith, option_map, nat_cmp_total, nat_cmp-IsAntisymmetric, eqb-true, Pv, top_limit, level_of, PartKey, IsFormed, width_of, FrameOf, GuestOf, PartMap, p2m_key, part_total, part_exact, each_value, count_in, place_of, is_used, IsTop, P2mFrames, VcpuBasic, of_part, Kind, p2m_page, renamed_table, each_each, same_each, overwritten, renamed_page, renamed_frame, renamed_part, localised_page, localised_frame, localised_of, localised, filled_at, filled_where_listed}
-use Rattle.std.proofs.Common.{drop, append-nil}
-use Rattle.std.proofs.lemmas.List.{drop_all}
-use Rattle.mig_pvtables.proofs.BlankParts.{WithParts, OnlyPart}
-use Rattle.mig_pvtables.proofs.Only.{insert_only}
+pub use Rattle.mig_pvtables.proofs.BlankParts.{part_put}
 use Rattle.std.specs.FinMap as maps
-
--- ---- one context
-
--- a part of n bytes, all of which are written
-pub part_put : (g : GuestOf) (key : PartKey) (h : List ℕ → List ℕ) (n : ℕ) {new : GuestOf} {part w : List ℕ} → Some part ≡ maps.get g.parts key → IfSome (maps.get g.parts key) (λ part. length part ≡ n) → length w ≡ n → w ≡ h part
-    → IfSome (maps.get g.parts key) (λ part. new ≡ WithParts g (maps.insert g.parts key ((take 0 part ++ w) ++ drop (0 + length w) part))) → new ≡ OnlyPart h g key
-part_put g key h n {new = new} {part = part} {w = w} is long size are wrote =
-    let whole : length part ≡ n = subst (λ o. IfSome o (λ part. length part ≡ n)) (sym is) long in
-    let one : new ≡ WithParts g (maps.insert g.parts key ((take 0 part ++ w) ++ drop (0 + length w) part)) = subst (λ o. IfSome o (λ part. new ≡ WithParts g (maps.insert g.parts key ((take 0 part ++ w) ++ drop (0 + length w) part)))) (sym is) wrote in
-    one ∙ ap (λ l. WithParts g (maps.insert g.parts key (w ++ l))) (drop_all (0 + length w) part (omega (arith, size, whole)))
-    ∙ ap (λ l. WithParts g (maps.insert g.parts key l)) (append-nil w ∙ are)
-    ∙ ap (WithParts g) (insert_only part_total part_exact g.parts key h part (sym is))
 
 -- ---- frames
 

@@ -1,7 +1,9 @@
 -- A guest whose tables and contexts hold PFNs, in blank form, is the form in a stream of the guest that stood in a machine.
-use Rattle.mig_host_view.proofs.Common.{◌≡◌, ℕ, List, length, Option, Some, IfSome, refl, sym, ap, subst, ◌∙◌, nat_cmp_total, nat_cmp-IsAntisymmetric, Pv, PartKey, shared_key, p2m_key, FrameOf, FrameMap, GuestOf, PartMap, part_total, part_exact, length_longs, each_value, blanked_frame, only, blanked_context, blanked_shared, level_of, blanked_page, Kind, place_in, is_used_somewhere, some_each, each_each, stays_each, renamed_frame, renamed_part, normalised_of, normalised, normalised_frame}
+use Rattle.mig_host_view.proofs.Common.{◌≡◌, ℕ, List, length, Option, Some, None, IfSome, refl, sym, ap, subst, ◌∙◌, nat_cmp_total, nat_cmp-IsAntisymmetric, Pv, PartKey, shared_key, p2m_key, FrameOf, FrameMap, GuestOf, PartMap, part_total, part_exact, length_longs, each_value, blanked_frame, only, blanked_context, blanked_shared, level_of, blanked_page, Kind, place_in, is_used_somewhere, some_each, each_each, stays_each, renamed_table, renamed_page, renamed_frame, renamed_part, normalised_of, normalised}
 use Rattle.mig_guest.specs.Order.{part_cmp}
-use Rattle.mig_pvtables.specs.BlankSteps.{with_zero_page, with_table_blanked, where_listed, blanked_code}
+use Rattle.mig_guest.specs.Tables.{blanked_table}
+use Rattle.mig_pvtables.specs.Blank.{table_changed}
+use Rattle.mig_pvtables.specs.BlankSteps.{with_zero_page, with_table_changed, where_listed, blanked_code}
 use Rattle.mig_pvtables.proofs.BlankGuests.{HasSolePage, HasLongPage, page_still, frames_blanked, parts_blanked}
 use Rattle.mig_host_view.proofs.LocalisedGuests.{from_context}
 use Rattle.std.specs.FinMap as maps
@@ -31,14 +33,24 @@ module _ (f : ℕ → Option ℕ) (g : GuestOf) where
   abbrev names_back : FrameMap
   names_back = each_value (λ pfn x. renamed_frame f x) g.frames
 
+  -- a table that is blanked once PFNs stand in it
+  abbrev table_back : ℕ → List ℕ → List ℕ
+  table_back level page = blanked_table level (renamed_table f level page)
+
+  both_changes : (level : Option ℕ) (page : Option (List ℕ)) → table_changed table_back level page ≡ table_changed blanked_table level (renamed_page f level page)
+  both_changes None page = refl
+  both_changes (Some level) None = refl
+  both_changes (Some level) (Some page) = refl
+
   -- P2M frames are zeroed after the tables are blank, or all at once
-  frames_turned : each_value (where_listed g.parts with_zero_page) (each_value (λ _ x. normalised_frame f x) g.frames) ≡ each_value (blanked_frame (turned f g.parts)) names_back
+  frames_turned : each_value (where_listed g.parts with_zero_page) (each_value (λ _ x. with_table_changed table_back x) g.frames) ≡ each_value (blanked_frame (turned f g.parts)) names_back
   frames_turned =
-      ap (each_value (where_listed g.parts with_zero_page)) (sym (each_each nat_cmp_total nat_cmp-IsAntisymmetric (λ _ x. with_table_blanked x) (λ pfn x. renamed_frame f x) g.frames))
+      ap (each_value (where_listed g.parts with_zero_page))
+      ((λ i. each_value (λ _ (x : FrameOf). record { type = x.type; page = both_changes (level_of x.type) x.page i }) g.frames) ∙ sym (each_each nat_cmp_total nat_cmp-IsAntisymmetric (λ _ x. with_table_changed blanked_table x) (λ pfn x. renamed_frame f x) g.frames))
       ∙ frames_blanked (record g { frames = names_back })
       ∙ ap (λ (o : Option (List ℕ)). each_value (λ pfn (x : FrameOf). record { type = x.type; page = blanked_page (place_in o pfn) (level_of x.type) x.page }) names_back) (sym (same_list f g.parts))
 
-  module _ {a b c : GuestOf} (one : a ≡ record g { frames = each_value (λ _ x. normalised_frame f x) g.frames }) (two : b ≡ record a { frames = each_value (where_listed a.parts with_zero_page) a.frames })
+  module _ {a b c : GuestOf} (one : a ≡ record g { frames = each_value (λ _ x. with_table_changed table_back x) g.frames }) (two : b ≡ record a { frames = each_value (where_listed a.parts with_zero_page) a.frames })
       (three : c ≡ record b { parts = each_value (renamed_part is_used_somewhere f) b.parts }) where
     same_parts : b.parts ≡ g.parts
     same_parts = ap (λ (s : GuestOf). s.parts) two ∙ ap (λ (s : GuestOf). s.parts) one

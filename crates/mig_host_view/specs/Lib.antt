@@ -4,4 +4,3 @@ pub mod Normalised
 pub mod View
 pub mod Sound
 pub mod LocaliseSteps
-pub mod NormaliseSteps

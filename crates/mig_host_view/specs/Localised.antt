@@ -9,7 +9,7 @@ use Rattle.mig_guest.specs.declared.part_key.PartKey.{PartKey}
 use Rattle.mig_guest.specs.Frames.{FrameOf}
 use Rattle.mig_guest.specs.Guests.{GuestOf}
 use Rattle.mig_guest.specs.Parts.{PartMap}
-use Rattle.mig_pvtables.specs.Blank.{each_value}
+use Rattle.mig_pvtables.specs.Blank.{each_value, table_changed}
 use Rattle.mig_pvtables.specs.P2mFrames.{place_of}
 use Rattle.mig_pvtables.specs.P2mPages.{p2m_page}
 use Rattle.mig_pvtables.specs.Renaming.{renamed_table}
@@ -20,8 +20,7 @@ use Rattle.mig_host_view.specs.RenamedContexts.{renamed_context}
 
 -- the page of a frame, where that is a table of some level
 abbrev pub renamed_page : (ℕ → Option ℕ) → Option ℕ → Option (List ℕ) → Option (List ℕ)
-renamed_page f (Some level) page = option_map (renamed_table f level) page
-renamed_page f None page = page
+renamed_page f level page = table_changed (renamed_table f) level page
 
 abbrev pub renamed_frame : (ℕ → Option ℕ) → FrameOf → FrameOf
 renamed_frame f frame = record { type = frame.type; page = renamed_page f (level_of frame.type) frame.page }

@@ -1,50 +1,23 @@
-ghost use Rattle.std.specs.Prelude.{◌≡◌, ◌≤◌, ◌<◌, ◌^◌, ℕ, List, length, Some, IfSome};
+ghost use Rattle.std.specs.Prelude.{◌≡◌, ◌≤◌, ◌<◌, ◌^◌, ℕ};
 ghost use Rattle.std.specs.Ordering.{nat_cmp};
 ghost use Rattle.std.specs.FinMap as maps;
-ghost use Rattle.mig_guest.specs.declared.part_key.PartKey.{PartKey};
-ghost use Rattle.mig_guest.specs.Order.{part_cmp};
 ghost use Rattle.mig_guest.specs.PartKeys.{p2m_key};
 ghost use Rattle.mig_pvtables.specs.Blank.{each_value};
 ghost use Rattle.mig_pvtables.specs.BlankSteps.{only};
 ghost use Rattle.mig_pvtables.specs.P2mFrames.{count_in};
+ghost use Rattle.mig_pvtables.specs.Renaming.{renamed_table};
 ghost use Rattle.mig_pvtables.specs.VcpuContexts.{is_used};
 ghost use Rattle.mig_pvtables.specs.Whole.{IsWhole};
-ghost use Rattle.mig_host_view.specs.Localised.{renamed_frame, renamed_part, localised};
+ghost use Rattle.mig_host_view.specs.Localised.{localised};
 ghost use Rattle.mig_host_view.specs.LocaliseSteps.{with_p2m_page, filled_where_listed};
 ghost use Rattle.mig_host_view.specs.RenamedContexts.{renamed_context};
 
-use mig_guest::{Guest, PartCode, PartKey, Parts};
+use mig_guest::{Guest, PartCode, Parts};
 use mig_headers::Kind;
 use mig_pvtables::{
-    FIELDS, Frames, VCPU_BASIC, listed_pfn, localise_table, p2m_page, put_vcpu_frame, sole_key,
-    vcpu_frame,
+    ContextStep, FIELDS, Frames, TableStep, each_context, each_table, listed_pfn, localise_table,
+    p2m_page, put_vcpu_frame, sole_key, vcpu_frame,
 };
-
-/// Puts machine frames into the table of this frame, where the frame is a table.
-fn localise_frame<F: Frames>(guest: &mut Guest, pfn: u64, frames: &F)
-    ensures { guest.new ≡ record guest.old { frames = each_value (only nat_cmp pfn (renamed_frame (F.mfns frames.now))) guest.old.frames } }
-{
-    let Some(kind) = guest.frame(pfn) else {
-        return;
-    };
-    let Some(level) = kind.table_level() else {
-        return;
-    };
-    if let Some(page) = guest.page_mut(pfn) {
-        localise_table(page, level, frames);
-    }
-}
-
-/// Puts machine frames into each table.
-fn localise_tables<F: Frames>(guest: &mut Guest, frames: &F)
-    ensures { guest.new ≡ record guest.old { frames = each_value (λ _ frame. renamed_frame (F.mfns frames.now) frame) guest.old.frames } }
-{
-    let mut from = 0;
-    while let Some(pfn) = guest.next_frame(from) {
-        localise_frame(guest, pfn, frames);
-        from = pfn + 1;
-    }
-}
 
 /// The page of this frame becomes that of P2M frame `index`, where it has one.
 #[tactic(auto, using(crate::proofs::LocaliseFrames::filled, crate::proofs::LocaliseFrames::nothing_filled))]
@@ -95,28 +68,25 @@ fn localise_context<F: Frames>(context: &mut [u8; 5168], id: u32, frames: &F)
     }
 }
 
-/// Puts machine frames into the context of this key.
-fn localise_vcpu<F: Frames>(guest: &mut Guest, key: PartKey, frames: &F)
-    requires { IfSome (maps.get guest.old.parts key) (λ context. length context ≡ 5168) }
-    ensures { guest.new ≡ record guest.old { parts = each_value (only part_cmp key (renamed_context is_used (F.mfns frames.now) key.key1)) guest.old.parts } }
-{
-    let Some(bytes) = guest.part(key) else {
-        return;
-    };
-    let mut context = *bytes.as_array::<5168>().unwrap();
-    localise_context(&mut context, key.key1, frames);
-    guest.write_part(key, 0, &context);
+/// Machine frames stand in place of frame numbers.
+#[derive(Drop)]
+struct Localising<'a, F> {
+    frames: &'a F,
 }
 
-/// Puts machine frames into each vCPU's context.
-fn localise_vcpus<F: Frames>(guest: &mut Guest, frames: &F)
-    requires { (key : PartKey) (context : List ℕ) → maps.get guest.old.parts key ≡ Some context → key.code ≡ 4 → length context ≡ 5168 }
-    ensures { guest.new ≡ record guest.old { parts = each_value (renamed_part is_used (F.mfns frames.now)) guest.old.parts } }
-{
-    let mut after = None;
-    while let Some((key, _)) = guest.next_of_code(VCPU_BASIC, after) {
-        localise_vcpu(guest, key, frames);
-        after = Some(key);
+impl<F: Frames> TableStep for Localising<'_, F> {
+    ghost tables = { λ step. renamed_table (F.mfns step.frames.now) };
+
+    fn change_table(&self, page: &mut [u8; 4096], level: u8) {
+        localise_table(page, level, self.frames);
+    }
+}
+
+impl<F: Frames> ContextStep for Localising<'_, F> {
+    ghost contexts = { λ step. renamed_context is_used (F.mfns step.frames.now) };
+
+    fn change_context(&self, context: &mut [u8; 5168], id: u32) {
+        localise_context(context, id, self.frames);
     }
 }
 
@@ -129,9 +99,10 @@ pub fn localise_guest<F: Frames>(guest: &mut Guest, frames: &F)
     match guest.kind() {
         Kind::Hvm => {}
         Kind::Pv => {
-            localise_tables(guest, frames);
+            let step = Localising { frames };
+            each_table(guest, &step);
             fill_p2m_frames(guest, frames);
-            localise_vcpus(guest, frames);
+            each_context(guest, &step);
         }
     }
 }

@@ -64,13 +64,13 @@ module _ (code : ℕ) where
   unfolding is_next
   next_from after key a b = and_from (key.code == code) (is_above after key) a b
 
+off : (b : Bool) (x y : List ℕ) → cond (b && false) x y ≡ y
+off true x y = refl
+off false x y = refl
+
 module _ (code : ℕ) (f : PartKey → List ℕ → List ℕ) (m : PartMap) where
   none_reached : each_value (blanked_up_to code f None) m ≡ m
-  none_reached = each_same part_total part_exact (blanked_up_to code f None) m (λ q x is. by_code (q.code == code) q x)
-    where
-      by_code : (b : Bool) (q : PartKey) (x : List ℕ) → cond (b && false) (f q x) x ≡ x
-      by_code true q x = refl
-      by_code false q x = refl
+  none_reached = each_same part_total part_exact (blanked_up_to code f None) m (λ q x is. off (q.code == code) (f q x) x)
 
   module _ (after : Option PartKey) where
     abbrev now : PartMap
@@ -118,14 +118,20 @@ module _ (code : ℕ) (f : PartKey → List ℕ → List ℕ) (m : PartMap) wher
               by_order false l = refl
               by_order true l = sym down ∙ above_up after e.0 q (next_parts code after e.0 found.0).1 l
 
+      fresh : is_reached after e.0 ≡ false
+      fresh = reached_is after e.0 ∙ ap not (next_parts code after e.0 found.0).1
+
+      -- the part itself is as it was
+      not_yet : (x : List ℕ) → blanked_up_to code f after e.0 x ≡ x
+      not_yet x = ap (λ r. cond ((e.0.code == code) && r) (f e.0 x) x) fresh ∙ off (e.0.code == code) (f e.0 x) x
+
       next_reached : each_value (only part_cmp e.0 (f e.0)) now ≡ each_value (blanked_up_to code f (Some e.0)) m
       next_reached = then_only part_total part_exact m e.0 (f e.0) (blanked_up_to code f after) (blanked_up_to code f (Some e.0)) here (λ q x is ne. by_code q x is ne (q.code == code) refl)
         where
           here : (x : List ℕ) → f e.0 (blanked_up_to code f after e.0 x) ≡ blanked_up_to code f (Some e.0) e.0 x
           here x =
               let coded : (e.0.code == code) ≡ true = eq-eqb e.0.code code next_code in
-              let fresh : is_reached after e.0 ≡ false = reached_is after e.0 ∙ ap not (next_parts code after e.0 found.0).1 in
-              (λ i. f e.0 (cond (coded i && fresh i) (f e.0 x) x)) ∙ sym (λ i. cond (coded i && not (not_itself part_total e.0 i)) (f e.0 x) x)
+              ap (f e.0) (not_yet x) ∙ sym (λ i. cond (coded i && not (not_itself part_total e.0 i)) (f e.0 x) x)
 
           by_code : (q : PartKey) (x : List ℕ) → maps.get m q ≡ Some x → (q ≡ e.0 → ⊥) → (b : Bool) → (q.code == code) ≡ b → cond (b && is_reached after q) (f q x) x ≡ cond (b && is_reached (Some e.0) q) (f q x) x
           by_code q x is ne false coded = refl
@@ -162,15 +168,15 @@ module _ {code : ℕ} {f : PartKey → List ℕ → List ℕ} {g : GuestOf} wher
       pub code_fewer : length (parts_after code (Some e.0) (maps.entries g.parts)) < length (parts_after code after (maps.entries g.parts))
       code_fewer = fewer code f g.parts after e next_now
 
-      -- a length that all parts of the code have, and keep
-      pub code_long : (n : ℕ) → ((key : PartKey) (x : List ℕ) → length (f key x) ≡ n) → ((key : PartKey) (x : List ℕ) → maps.get g.parts key ≡ Some x → key.code ≡ code → length x ≡ n) → IfSome (maps.get now.parts e.0) (λ x. length x ≡ n)
-      code_long n keeps long =
+      -- a length that all parts of the code have
+      pub code_size : (n : ℕ) → ((key : PartKey) (x : List ℕ) → maps.get g.parts key ≡ Some x → key.code ≡ code → length x ≡ n) → IfSome (maps.get now.parts e.0) (λ x. length x ≡ n)
+      code_size n long =
           subst (λ o. IfSome o (λ x. length x ≡ n)) (sym (ap (λ (s : GuestOf). maps.get s.parts e.0) is.done ∙ get_each part_total part_exact (blanked_up_to code f after) g.parts e.0))
           (elim (maps.get g.parts e.0) as (λ o. maps.get g.parts e.0 ≡ o → IfSome (option_map (blanked_up_to code f after e.0) o) (λ x. length x ≡ n)) [
             | None ↦ λ none. tt
-            | Some x ↦ λ has. either ((e.0.code == code) && is_reached after e.0) x (long e.0 x has (next_code code f g.parts after e next_now))
+            | Some x ↦ λ has. ap length (not_yet code f g.parts after e next_now x) ∙ long e.0 x has (next_code code f g.parts after e next_now)
           ] refl)
-        where
-          either : (b : Bool) (x : List ℕ) → length x ≡ n → length (cond b (f e.0 x) x) ≡ n
-          either true x size = keeps e.0 x
-          either false x size = size
+
+      -- the same, where they keep it
+      pub code_long : (n : ℕ) → ((key : PartKey) (x : List ℕ) → length (f key x) ≡ n) → ((key : PartKey) (x : List ℕ) → maps.get g.parts key ≡ Some x → key.code ≡ code → length x ≡ n) → IfSome (maps.get now.parts e.0) (λ x. length x ≡ n)
+      code_long n keeps long = code_size n long

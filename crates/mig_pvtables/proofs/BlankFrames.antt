@@ -1,5 +1,5 @@
 -- The frames of a guest on its way to its blank form.
-use Rattle.mig_pvtables.proofs.Common.{◌≡◌, ℕ, ◌+◌, ◌<◌, ◌≤◌, cond, List, length, Option, Some, None, refl, sym, ap, ◌∙◌, inl, inr, arith, option_map, nat_cmp, nat_cmp_total, nat_cmp-IsAntisymmetric, cases_lt, lt-ltb, le-ltb, length-replicate, pfn_limit, PageType, level_of, FrameOf, FrameMap, GuestOf, each_value, only, with_zero_page}
+use Rattle.mig_pvtables.proofs.Common.{◌≡◌, ℕ, ◌+◌, ◌<◌, ◌≤◌, cond, List, length, Option, Some, None, refl, sym, ap, ◌∙◌, inl, inr, arith, option_map, nat_cmp, nat_cmp_total, nat_cmp-IsAntisymmetric, cases_lt, lt-ltb, le-ltb, length-replicate, pfn_limit, PageType, level_of, FrameOf, FrameMap, GuestOf, each_value, table_changed, only, with_table_changed, with_zero_page}
 use Rattle.std.specs.Prelude.{option_and_then}
 use Rattle.mig_pvtables.specs.BlankSteps.{blanked_below}
 use Rattle.mig_pagestore.specs.FrameLending.{with_page, repaged}
@@ -45,37 +45,34 @@ module _ (g : GuestOf) (pfn : ℕ) where
   pub nothing_zeroed : None ≡ option_and_then (λ (f : FrameOf). f.page) (maps.get g.frames pfn) → g ≡ WithFrames g (each_value (only nat_cmp pfn with_zero_page) g.frames)
   nothing_zeroed none = ap (WithFrames g) (no_page g.frames pfn with_zero_page none (λ f page. ap (λ (o : Option (List ℕ)). record { type = f.type; page = option_map (λ _. zero_page) o }) page ∙ ap (λ (o : Option (List ℕ)). record { type = f.type; page = o }) (sym page)))
 
--- ---- a frame whose page changes by the level of the table that it is
+-- ---- a frame whose page changes where it is a table
 
-abbrev pub turned : (Option ℕ → Option (List ℕ) → Option (List ℕ)) → FrameOf → FrameOf
-turned turn x = record { type = x.type; page = turn (level_of x.type) x.page }
-
-module _ (turn : Option ℕ → Option (List ℕ) → Option (List ℕ)) (plain : (page : Option (List ℕ)) → turn None page ≡ page) (bare : (level : ℕ) → turn (Some level) None ≡ None) (g : GuestOf) (pfn : ℕ) where
+module _ (h : ℕ → List ℕ → List ℕ) (g : GuestOf) (pfn : ℕ) where
   abbrev Turned : GuestOf
-  Turned = WithFrames g (OnlyFrame (turned turn) g.frames pfn)
+  Turned = WithFrames g (OnlyFrame (with_table_changed h) g.frames pfn)
 
   pub no_frame : None ≡ option_map (λ (x : FrameOf). x.type) (maps.get g.frames pfn) → g ≡ Turned
-  no_frame none = ap (WithFrames g) (only_stays nat_cmp_total nat_cmp-IsAntisymmetric g.frames pfn (turned turn) (λ x is. let no : None ≡ Some x.type = none ∙ ap (option_map (λ (x : FrameOf). x.type)) is in cc))
+  no_frame none = ap (WithFrames g) (only_stays nat_cmp_total nat_cmp-IsAntisymmetric g.frames pfn (with_table_changed h) (λ x is. let no : None ≡ Some x.type = none ∙ ap (option_map (λ (x : FrameOf). x.type)) is in cc))
 
-  still_bare : (level : Option ℕ) → turn level None ≡ None
-  still_bare None = plain None
-  still_bare (Some level) = bare level
+  still_bare : (level : Option ℕ) → table_changed h level None ≡ None
+  still_bare None = refl
+  still_bare (Some level) = refl
 
   pub no_table_page : None ≡ option_and_then (λ (x : FrameOf). x.page) (maps.get g.frames pfn) → g ≡ Turned
-  no_table_page none = ap (WithFrames g) (no_page g.frames pfn (turned turn) none (λ x page. ap (λ (o : Option (List ℕ)). record { type = x.type; page = o }) (ap (turn (level_of x.type)) page ∙ still_bare (level_of x.type) ∙ sym page)))
+  no_table_page none = ap (WithFrames g) (no_page g.frames pfn (with_table_changed h) none (λ x page. ap (λ (o : Option (List ℕ)). record { type = x.type; page = o }) (ap (table_changed h (level_of x.type)) page ∙ still_bare (level_of x.type) ∙ sym page)))
 
   module _ (type : PageType) (typed : Some type ≡ option_map (λ (x : FrameOf). x.type) (maps.get g.frames pfn)) where
     same_type : (x : FrameOf) → maps.get g.frames pfn ≡ Some x → type ≡ x.type
     same_type x is = let same : Some type ≡ Some x.type = typed ∙ ap (option_map (λ (x : FrameOf). x.type)) is in cc
 
     pub no_table : None ≡ level_of type → g ≡ Turned
-    no_table none = ap (WithFrames g) (only_stays nat_cmp_total nat_cmp-IsAntisymmetric g.frames pfn (turned turn) (λ x is.
-        ap (λ (o : Option (List ℕ)). record { type = x.type; page = o }) (ap (λ l. turn l x.page) (sym (none ∙ ap level_of (same_type x is))) ∙ plain x.page)))
+    no_table none = ap (WithFrames g) (only_stays nat_cmp_total nat_cmp-IsAntisymmetric g.frames pfn (with_table_changed h) (λ x is.
+        ap (λ (l : Option ℕ). record { type = x.type; page = table_changed h l x.page }) (sym (none ∙ ap level_of (same_type x is)))))
 
-    pub table_written : (level : ℕ) (p w : List ℕ) → Some level ≡ level_of type → Some p ≡ option_and_then (λ (x : FrameOf). x.page) (maps.get g.frames pfn) → length w ≡ 4096 → turn (Some level) (Some p) ≡ Some w
+    pub table_written : (level : ℕ) (p w : List ℕ) → Some level ≡ level_of type → Some p ≡ option_and_then (λ (x : FrameOf). x.page) (maps.get g.frames pfn) → length w ≡ 4096 → w ≡ h level p
         → WithFrames g (with_page g.frames pfn w) ≡ Turned
-    table_written level p w lev has size is = ap (WithFrames g) (page_written g.frames pfn (turned turn) p w has size (λ x at page.
-        ap (λ (o : Option (List ℕ)). record { type = x.type; page = o }) ((λ i. turn (sym (lev ∙ ap level_of (same_type x at)) i) (page i)) ∙ is)))
+    table_written level p w lev has size is = ap (WithFrames g) (page_written g.frames pfn (with_table_changed h) p w has size (λ x at page.
+        ap (λ (o : Option (List ℕ)). record { type = x.type; page = o }) ((λ i. table_changed h (sym (lev ∙ ap level_of (same_type x at)) i) (page i)) ∙ ap (λ (q : List ℕ). Some q) (sym is))))
 
 -- ---- one frame after another
 

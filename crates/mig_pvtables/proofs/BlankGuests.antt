@@ -1,5 +1,5 @@
 -- A guest whose tables, P2M frames, contexts and shared page are in their blank form is in its own.
-use Rattle.mig_pvtables.proofs.Common.{◌≡◌, ℕ, true, false, cond, List, length, Option, Some, None, is_some, IsSome, IfSome, refl, sym, ap, subst, ◌∙◌, ◌==◌, option_map, nat_cmp_total, nat_cmp-IsAntisymmetric, eqb-true, ne_eqb, Pv, level_of, PartKey, IsFormed, width_of, FrameOf, GuestOf, part_cmp, shared_key, PartMap, blanked_table, part_total, part_exact, each_value, blanked_page, blanked_frame, blanked_part, blank_of, blank, only, with_zero_page, with_table_blanked, where_listed, blanked_code, place_of, blanked_context, blanked_shared, SharedInfo, of_part, zero_page}
+use Rattle.mig_pvtables.proofs.Common.{◌≡◌, ℕ, true, false, cond, List, length, Option, Some, None, is_some, IsSome, IfSome, refl, sym, ap, subst, ◌∙◌, ◌==◌, option_map, nat_cmp_total, nat_cmp-IsAntisymmetric, eqb-true, ne_eqb, Pv, level_of, PartKey, IsFormed, width_of, FrameOf, GuestOf, part_cmp, shared_key, PartMap, blanked_table, part_total, part_exact, each_value, blanked_page, blanked_frame, blanked_part, blank_of, blank, only, with_zero_page, with_table_changed, where_listed, blanked_code, place_of, blanked_context, blanked_shared, SharedInfo, of_part, zero_page}
 use Rattle.mig_guest.proofs.PartRows.{sole}
 use Rattle.mig_pvtables.proofs.EachValue.{each_each, same_each, stays_each}
 use Rattle.mig_pvtables.proofs.Only.{then_only}
@@ -12,14 +12,14 @@ zeroed_anyway : (level : Option ℕ) (page : Option (List ℕ)) → option_map (
 zeroed_anyway None page = refl
 zeroed_anyway (Some level) page = overwritten (blanked_table level) zero_page page
 
-frame_blanked : (place : Option ℕ) (f : FrameOf) → cond (is_some place) (with_zero_page (with_table_blanked f)) (with_table_blanked f) ≡ record { type = f.type; page = blanked_page place (level_of f.type) f.page }
+frame_blanked : (place : Option ℕ) (f : FrameOf) → cond (is_some place) (with_zero_page (with_table_changed blanked_table f)) (with_table_changed blanked_table f) ≡ record { type = f.type; page = blanked_page place (level_of f.type) f.page }
 frame_blanked None f = refl
 frame_blanked (Some k) f = ap (λ (o : Option (List ℕ)). record { type = f.type; page = o }) (zeroed_anyway (level_of f.type) f.page)
 
-pub frames_blanked : (g : GuestOf) → each_value (where_listed g.parts with_zero_page) (each_value (λ _ f. with_table_blanked f) g.frames) ≡ each_value (blanked_frame g.parts) g.frames
+pub frames_blanked : (g : GuestOf) → each_value (where_listed g.parts with_zero_page) (each_value (λ _ f. with_table_changed blanked_table f) g.frames) ≡ each_value (blanked_frame g.parts) g.frames
 frames_blanked g =
-    each_each nat_cmp_total nat_cmp-IsAntisymmetric (where_listed g.parts with_zero_page) (λ _ f. with_table_blanked f) g.frames
-    ∙ same_each nat_cmp_total nat_cmp-IsAntisymmetric (λ pfn f. where_listed g.parts with_zero_page pfn (with_table_blanked f)) (blanked_frame g.parts) g.frames (λ pfn f is. frame_blanked (place_of g.parts pfn) f)
+    each_each nat_cmp_total nat_cmp-IsAntisymmetric (where_listed g.parts with_zero_page) (λ _ f. with_table_changed blanked_table f) g.frames
+    ∙ same_each nat_cmp_total nat_cmp-IsAntisymmetric (λ pfn f. where_listed g.parts with_zero_page pfn (with_table_changed blanked_table f)) (blanked_frame g.parts) g.frames (λ pfn f is. frame_blanked (place_of g.parts pfn) f)
 
 -- ---- parts
 
@@ -54,7 +54,7 @@ module _ (g : GuestOf) (formed : IsFormed g) where
   ] refl there
 
   -- one step after another
-  pub all_blanked : {a b c d : GuestOf} → g.kind ≡ Pv → a ≡ record g { frames = each_value (λ _ f. with_table_blanked f) g.frames } → b ≡ record a { frames = each_value (where_listed a.parts with_zero_page) a.frames }
+  pub all_blanked : {a b c d : GuestOf} → g.kind ≡ Pv → a ≡ record g { frames = each_value (λ _ f. with_table_changed blanked_table f) g.frames } → b ≡ record a { frames = each_value (where_listed a.parts with_zero_page) a.frames }
       → c ≡ record b { parts = each_value (blanked_code 4 (λ _. blanked_context)) b.parts } → d ≡ record c { parts = each_value (only part_cmp shared_key blanked_shared) c.parts } → d ≡ blank g
   all_blanked kind one two three four =
       four ∙ ap (λ (s : GuestOf). record s { parts = each_value (only part_cmp shared_key blanked_shared) s.parts }) three
@@ -63,7 +63,7 @@ module _ (g : GuestOf) (formed : IsFormed g) where
       ∙ (λ i. record g { frames = frames_blanked g i; parts = parts_blanked g.parts formed_sole i }) ∙ ap (λ k. blank_of k g) (sym kind)
 
   -- what is there of the shared page on the way
-  pub page_on_way : {a b c : GuestOf} → a ≡ record g { frames = each_value (λ _ f. with_table_blanked f) g.frames } → b ≡ record a { frames = each_value (where_listed a.parts with_zero_page) a.frames }
+  pub page_on_way : {a b c : GuestOf} → a ≡ record g { frames = each_value (λ _ f. with_table_changed blanked_table f) g.frames } → b ≡ record a { frames = each_value (where_listed a.parts with_zero_page) a.frames }
       → c ≡ record b { parts = each_value (blanked_code 4 (λ _. blanked_context)) b.parts } → HasLongPage c.parts
   page_on_way {c = c} one two three =
       let parts : c.parts ≡ each_value (blanked_code 4 (λ _. blanked_context)) g.parts =

@@ -1,10 +1,10 @@
 -- The parts of a guest on its way to its blank form.
-use Rattle.mig_pvtables.proofs.Common.{◌≡◌, ℕ, ◌+◌, ◌*◌, ◌/◌, ◌<◌, ◌≤◌, true, false, List, ◌++◌, length, take, drop, Some, None, is_some, IsSome, IfSome, refl, sym, ap, subst, ◌∙◌, arith, get_or, option_map, PartKey, part_cmp, GuestOf, PartMap, shared_key, part_total, part_exact, blanked_context, blanked_shared, each_value, only, little_bytes, le64, with_field, bytes_from, blanked_value}
-use Rattle.std.proofs.Common.{append-nil, append_assoc, length-append, length-drop}
-use Rattle.std.proofs.lemmas.List.{drop_all, length-take-le}
+use Rattle.mig_pvtables.proofs.Common.{◌≡◌, ℕ, ◌+◌, ◌<◌, true, false, List, ◌++◌, length, take, drop, Some, None, IsSome, IfSome, refl, sym, ap, subst, ◌∙◌, arith, get_or, PartKey, part_cmp, GuestOf, PartMap, shared_key, part_total, part_exact, blanked_shared, each_value, only, little_bytes, with_field, bytes_from}
+use Rattle.std.proofs.Common.{append-nil, append_assoc}
+use Rattle.std.proofs.lemmas.List.{drop_all}
 use Rattle.byteorder.specs.Numbers.{length-bytes_low_first}
-use Rattle.mig_pvtables.proofs.Only.{insert_only, only_stays, get_only, only_alike, only_twice}
-use Rattle.mig_pvtables.proofs.BlankBytes.{context_blanked, shared_blanked}
+use Rattle.mig_pvtables.proofs.Only.{insert_only, only_stays, only_alike}
+use Rattle.mig_pvtables.proofs.BlankBytes.{shared_blanked}
 use Rattle.std.specs.FinMap as maps
 
 abbrev pub WithParts : GuestOf → PartMap → GuestOf
@@ -28,35 +28,19 @@ long_put g new key at v zeros bytes there size are wrote =
           ∙ ap (WithParts g) (insert_only part_total part_exact g.parts key (λ part. with_field part at (little_bytes 8 v)) part e)
     ] refl there wrote
 
-pub length_put : (part field : List ℕ) (at : ℕ) → at + length field ≤ length part → length (with_field part at field) ≡ length part
-length_put part field at long =
-    length-append (take at part) (field ++ drop (at + length field) part) ∙ omega (arith, long, length-take-le at part (omega (arith, long)), length-append field (drop (at + length field) part), length-drop (at + length field) part)
-
 -- it isn't there
 pub no_part : (g : GuestOf) (key : PartKey) (f : List ℕ → List ℕ) → None ≡ maps.get g.parts key → g ≡ OnlyPart f g key
 no_part g key f none = ap (WithParts g) (only_stays part_total part_exact g.parts key f (λ part is. let no : None ≡ Some part = none ∙ is in cc))
 
--- ---- a context, of which two numbers are put
-
-module _ (g mid : GuestOf) (key : PartKey) (context : List ℕ) (root : ℕ) (is : Some context ≡ maps.get g.parts key) (size : length context ≡ 5168) (first : mid ≡ OnlyPart (λ part. with_field part 5008 (little_bytes 8 root)) g key) where
-  still : maps.get mid.parts key ≡ Some (with_field context 5008 (little_bytes 8 root))
-  still = ap (λ (s : GuestOf). maps.get s.parts key) first ∙ get_only part_total part_exact g.parts key (λ part. with_field part 5008 (little_bytes 8 root)) ∙ ap (option_map (λ part. with_field part 5008 (little_bytes 8 root))) (sym is)
-
-  pub still_there : IsSome (maps.get mid.parts key)
-  still_there = ap is_some still
-
-  pub still_long : IfSome (maps.get mid.parts key) (λ part. 5000 ≤ length part)
-  still_long = subst (λ o. IfSome o (λ part. 5000 ≤ length part)) (sym still) (omega (arith, size, length_put context (little_bytes 8 root) 5008 (omega (arith, size, length-bytes_low_first 0 8 root))))
-
-  pub context_put : (new : GuestOf) (user_root : ℕ) → ((i : ℕ) → get_or context i 0 < 256) → root ≡ le64 context 5008 / 4096 * 4096 → user_root ≡ blanked_value 624 (le64 context 4992)
-      → new ≡ OnlyPart (λ part. with_field part 4992 (little_bytes 8 user_root)) mid key → new ≡ OnlyPart blanked_context g key
-  context_put new user_root all is_root is_user second =
-      second ∙ ap (λ (s : GuestOf). OnlyPart (λ part. with_field part 4992 (little_bytes 8 user_root)) s key) first
-      ∙ ap (WithParts g) (only_twice part_total part_exact g.parts key (λ part. with_field part 4992 (little_bytes 8 user_root)) (λ part. with_field part 5008 (little_bytes 8 root)))
-      ∙ ap (WithParts g) (only_alike part_total part_exact g.parts key (λ part. with_field (with_field part 5008 (little_bytes 8 root)) 4992 (little_bytes 8 user_root)) blanked_context (λ part has.
-      let same : Some context ≡ Some part = is ∙ has in let e : context ≡ part = cc in
-      ap (λ p. with_field (with_field p 5008 (little_bytes 8 root)) 4992 (little_bytes 8 user_root)) (sym e)
-      ∙ context_blanked context root user_root (bytes_from context all) size is_root is_user ∙ ap blanked_context e))
+-- a part of n bytes, all of which are written
+pub part_put : (g : GuestOf) (key : PartKey) (h : List ℕ → List ℕ) (n : ℕ) {new : GuestOf} {part w : List ℕ} → Some part ≡ maps.get g.parts key → IfSome (maps.get g.parts key) (λ part. length part ≡ n) → length w ≡ n → w ≡ h part
+    → IfSome (maps.get g.parts key) (λ part. new ≡ WithParts g (maps.insert g.parts key ((take 0 part ++ w) ++ drop (0 + length w) part))) → new ≡ OnlyPart h g key
+part_put g key h n {new = new} {part = part} {w = w} is long size are wrote =
+    let whole : length part ≡ n = subst (λ o. IfSome o (λ part. length part ≡ n)) (sym is) long in
+    let one : new ≡ WithParts g (maps.insert g.parts key ((take 0 part ++ w) ++ drop (0 + length w) part)) = subst (λ o. IfSome o (λ part. new ≡ WithParts g (maps.insert g.parts key ((take 0 part ++ w) ++ drop (0 + length w) part)))) (sym is) wrote in
+    one ∙ ap (λ l. WithParts g (maps.insert g.parts key (w ++ l))) (drop_all (0 + length w) part (omega (arith, size, whole)))
+    ∙ ap (λ l. WithParts g (maps.insert g.parts key l)) (append-nil w ∙ are)
+    ∙ ap (WithParts g) (insert_only part_total part_exact g.parts key h part (sym is))
 
 -- ---- the shared page
 
@@ -72,7 +56,3 @@ module _ (g : GuestOf) (key : PartKey) (sole : key ≡ shared_key) where
       ∙ ap (WithParts g) (only_alike part_total part_exact g.parts shared_key (λ part. with_field part 3096 (little_bytes 8 0)) blanked_shared (λ part has.
       let same : Some page ≡ Some part = there ∙ has in let e : page ≡ part = cc in
       ap (λ p. with_field p 3096 (little_bytes 8 0)) (sym e) ∙ shared_blanked page (bytes_from page all) size ∙ ap blanked_shared e))
-
--- the length of what is there
-pub context_size : (g : GuestOf) (key : PartKey) (context : List ℕ) → Some context ≡ maps.get g.parts key → IfSome (maps.get g.parts key) (λ part. length part ≡ 5168) → length context ≡ 5168
-context_size g key context is size = subst (λ o. IfSome o (λ part. length part ≡ 5168)) (sym is) size

@@ -31,15 +31,8 @@ module _ {K : Type 0} {R : K → K → Ordering} (o : IsTotalOrder R) (exact : I
     pub only_stays : (f : X → X) → ((x : X) → maps.get m k ≡ Some x → f x ≡ x) → m ≡ each_value (only R k f) m
     only_stays f stays = sym (each_same o exact (only R k f) m (λ q x is. by_key (λ b. cond b (f x) x ≡ x) q k (λ e. stays x (ap (maps.get m) (sym e) ∙ is)) (λ _. refl)))
 
-    pub get_only : (f : X → X) → maps.get (each_value (only R k f) m) k ≡ option_map f (maps.get m k)
-    get_only f = get_each o exact (only R k f) m k ∙ ap (λ b. option_map (λ (y : X). cond b (f y) y) (maps.get m k)) (alike k)
-
     pub only_alike : (f g : X → X) → ((x : X) → maps.get m k ≡ Some x → f x ≡ g x) → each_value (only R k f) m ≡ each_value (only R k g) m
     only_alike f g same = same_each o exact (only R k f) (only R k g) m (λ q x is. by_key (λ b. cond b (f x) x ≡ cond b (g x) x) q k (λ e. same x (ap (maps.get m) (sym e) ∙ is)) (λ _. refl))
-
-    pub only_twice : (f g : X → X) → each_value (only R k f) (each_value (only R k g) m) ≡ each_value (only R k (λ x. f (g x))) m
-    only_twice f g = each_each o exact (only R k f) (only R k g) m ∙ same_each o exact (λ q x. only R k f q (only R k g q x)) (only R k (λ x. f (g x))) m (λ q x is.
-        by_key (λ b. cond b (f (cond b (g x) x)) (cond b (g x) x) ≡ cond b (f (g x)) x) q k (λ _. refl) (λ _. refl))
 
     -- one more value changed
     pub then_only : (f : X → X) (F G : K → X → X) → ((x : X) → f (F k x) ≡ G k x) → ((q : K) (x : X) → maps.get m q ≡ Some x → (q ≡ k → ⊥) → F q x ≡ G q x) → each_value (only R k f) (each_value F m) ≡ each_value G m

@@ -22,11 +22,15 @@ each_value f m = maps.from_entries (map (λ e. (e.0, f e.0 e.1)) (maps.entries m
 unfoldable pub zero_page : List ℕ
 zero_page = replicate 4096 0
 
+-- the page of a frame, changed where the frame is a table of some level
+abbrev pub table_changed : (ℕ → List ℕ → List ℕ) → Option ℕ → Option (List ℕ) → Option (List ℕ)
+table_changed f (Some level) page = option_map (f level) page
+table_changed f None page = page
+
 -- the page of a frame: of a P2M frame a zero page, of a table the table with its blank slots 0
 abbrev pub blanked_page : Option ℕ → Option ℕ → Option (List ℕ) → Option (List ℕ)
 blanked_page (Some k) level page = option_map (λ _. zero_page) page
-blanked_page None (Some level) page = option_map (blanked_table level) page
-blanked_page None None page = page
+blanked_page None level page = table_changed blanked_table level page
 
 abbrev pub blanked_frame : PartMap → ℕ → FrameOf → FrameOf
 blanked_frame parts pfn frame = record { type = frame.type; page = blanked_page (place_of parts pfn) (level_of frame.type) frame.page }

@@ -1,4 +1,4 @@
--- The steps by which a guest comes to its blank form: one frame or part after another.
+-- The steps of a walk over a guest: one frame or part after another.
 use Rattle.std.specs.Prelude.{ℕ, Bool, false, List, Option, None, Some, ◌==◌, ◌&&◌, not, nat_lt, is_some, if◌then◌else◌}
 use Rattle.std.specs.List.{list_any, range_with_len}
 use Rattle.std.specs.Ordering.{eq_by_cmp, is_lt}
@@ -9,7 +9,7 @@ use Rattle.mig_guest.specs.declared.part_key.PartKey.{PartKey}
 use Rattle.mig_guest.specs.Frames.{FrameOf}
 use Rattle.mig_guest.specs.Order.{part_cmp}
 use Rattle.mig_guest.specs.Parts.{PartMap}
-use Rattle.mig_pvtables.specs.Blank.{zero_page, blanked_page}
+use Rattle.mig_pvtables.specs.Blank.{zero_page, table_changed}
 use Rattle.mig_pvtables.specs.Faults.{is_this}
 use Rattle.mig_pvtables.specs.P2mFrames.{listed, place_of}
 
@@ -21,9 +21,9 @@ only R key f q x = if eq_by_cmp R q key then f x else x
 abbrev pub with_zero_page : FrameOf → FrameOf
 with_zero_page frame = record { type = frame.type; page = option_map (λ _. zero_page) frame.page }
 
--- a frame whose page is in its blank form, where it is a table
-abbrev pub with_table_blanked : FrameOf → FrameOf
-with_table_blanked frame = record { type = frame.type; page = blanked_page None (level_of frame.type) frame.page }
+-- a frame whose page is changed, where it is a table
+abbrev pub with_table_changed : (ℕ → List ℕ → List ℕ) → FrameOf → FrameOf
+with_table_changed f frame = record { type = frame.type; page = table_changed f (level_of frame.type) frame.page }
 
 -- the frames of the numbers that are listed changed
 abbrev pub where_listed : PartMap → (FrameOf → FrameOf) → ℕ → FrameOf → FrameOf

@@ -9,13 +9,13 @@ ghost use Rattle.mig_guest.specs.PartCodes.{code_number};
 ghost use Rattle.mig_guest.specs.PartKeys.{p2m_key as list_key, shared_key as page_key};
 ghost use Rattle.mig_guest.specs.Tables.{blanked_table};
 ghost use Rattle.mig_pvtables.specs.Blank.{each_value, zero_page as zeros, blank as blank_form};
-ghost use Rattle.mig_pvtables.specs.BlankSteps.{only, with_table_blanked, with_zero_page, where_listed, blanked_code};
+ghost use Rattle.mig_pvtables.specs.BlankSteps.{only, with_zero_page, where_listed, blanked_code};
 ghost use Rattle.mig_pvtables.specs.P2mFrames.{listed};
 ghost use Rattle.mig_pvtables.specs.VcpuContexts.{blanked_value, blanked_context, blanked_shared};
 ghost use Rattle.mig_pvtables.specs.Whole.{IsWhole};
 
 use crate::listing::{listed_pfn, sole_key};
-use crate::vcpu::VCPU_BASIC;
+use crate::walking::{ContextStep, TableStep, each_context, each_table};
 use mig_bytes::{put_u64_le, u64_le};
 use mig_guest::{Guest, PartCode, PartKey};
 use mig_headers::Kind;
@@ -36,32 +36,6 @@ fn blank_table(page: &mut [u8; 4096], level: u8)
 {
     if level == 4 {
         page[2048..2176].fill(0);
-    }
-}
-
-/// Brings the table of this frame to its blank form, where the frame is a table.
-fn blank_frame(guest: &mut Guest, pfn: u64)
-    ensures { guest.new ≡ record guest.old { frames = each_value (only nat_cmp pfn with_table_blanked) guest.old.frames } }
-{
-    let Some(kind) = guest.frame(pfn) else {
-        return;
-    };
-    let Some(level) = kind.table_level() else {
-        return;
-    };
-    if let Some(page) = guest.page_mut(pfn) {
-        blank_table(page, level);
-    }
-}
-
-/// Brings each table to its blank form.
-fn blank_tables(guest: &mut Guest)
-    ensures { guest.new ≡ record guest.old { frames = each_value (λ _ frame. with_table_blanked frame) guest.old.frames } }
-{
-    let mut from = 0;
-    while let Some(pfn) = guest.next_frame(from) {
-        blank_frame(guest, pfn);
-        from = pfn + 1;
     }
 }
 
@@ -122,19 +96,34 @@ fn blank_user_root(value: u64) -> u64
     }
 }
 
-/// Brings the context of this key to its blank form.
-fn blank_vcpu(guest: &mut Guest, key: PartKey)
-    requires { IfSome (maps.get guest.old.parts key) (λ context. length context ≡ 5168) }
-    ensures { guest.new ≡ record guest.old { parts = each_value (only part_cmp key blanked_context) guest.old.parts } }
+/// Brings ctrlreg[3] and ctrlreg[1] to their blank forms.
+fn blank_roots(context: &mut [u8; 5168])
+    ensures { context.new ≡ blanked_context context.old }
 {
-    let Some(context) = guest.part(key) else {
-        return;
-    };
-    are_small(context);
     let root = u64_le(context, ROOT) / 4096 * 4096;
     let user_root = blank_user_root(u64_le(context, USER_ROOT));
-    put_long(guest, key, ROOT, root);
-    put_long(guest, key, USER_ROOT, user_root);
+    put_u64_le(context, ROOT, root);
+    put_u64_le(context, USER_ROOT, user_root);
+}
+
+/// Tables and contexts come to their blank form.
+#[derive(Drop)]
+struct Blanking;
+
+impl TableStep for Blanking {
+    ghost tables = { λ _. blanked_table };
+
+    fn change_table(&self, page: &mut [u8; 4096], level: u8) {
+        blank_table(page, level);
+    }
+}
+
+impl ContextStep for Blanking {
+    ghost contexts = { λ _ _. blanked_context };
+
+    fn change_context(&self, context: &mut [u8; 5168], _id: u32) {
+        blank_roots(context);
+    }
 }
 
 /// Brings each vCPU's context to its blank form.
@@ -142,11 +131,7 @@ pub fn blank_vcpus(guest: &mut Guest)
     requires { (key : PartKey) (context : List ℕ) → maps.get guest.old.parts key ≡ Some context → key.code ≡ 4 → length context ≡ 5168 }
     ensures { guest.new ≡ record guest.old { parts = each_value (blanked_code 4 (λ _. blanked_context)) guest.old.parts } }
 {
-    let mut after = None;
-    while let Some((key, _)) = guest.next_of_code(VCPU_BASIC, after) {
-        blank_vcpu(guest, key);
-        after = Some(key);
-    }
+    each_context(guest, &Blanking);
 }
 
 /// Bytes 3096 to 3103 of SHARED_INFO become 0.
@@ -170,7 +155,7 @@ pub fn blank(guest: &mut Guest)
     match guest.kind() {
         Kind::Hvm => {}
         Kind::Pv => {
-            blank_tables(guest);
+            each_table(guest, &Blanking);
             zero_p2m_frames(guest);
             blank_vcpus(guest);
             blank_shared_info(guest);

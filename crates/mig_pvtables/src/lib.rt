@@ -1,9 +1,9 @@
 //! Page tables and the contexts of vCPUs, whole guests and their blank form.
 //!
 //! Responsible for: what an entry of a table says, what is wrong with a table in a stream, the frame that a field of a
-//! vCPU's context says, what is wrong with a guest at the end of its stream, bringing a guest to its blank form, and
-//! bringing a table from frame numbers to machine frames and back. Left to others: a whole guest that stands in a machine
-//! (mig_host_view).
+//! vCPU's context says, what is wrong with a guest at the end of its stream, the walks over a guest's tables and the
+//! contexts of its vCPUs, bringing a guest to its blank form, and bringing a table from frame numbers to machine frames and
+//! back. Left to others: a whole guest that stands in a machine (mig_host_view).
 //!
 //! What the layers above rely on: a guest is whole exactly where no row of its faults finds anything, and its blank form is
 //! whole then, and is its own blank form. For those that look at a guest in a machine, the searches are here that are the
@@ -20,6 +20,7 @@ mod renaming_law;
 mod table;
 mod testing;
 mod vcpu;
+mod walking;
 
 pub use blanking::{blank, blank_shared_info, blank_vcpus, zero_p2m_frames};
 pub use frames::Frames;
@@ -38,3 +39,4 @@ pub use renaming_law::{
 pub use table::{check_table, entry, put_entry, superpage_slot};
 pub use testing::{WholeAnswer, is_type_of_field, whole};
 pub use vcpu::{FIELDS, VCPU_BASIC, gdt_ents, host_frame, put_vcpu_frame, vcpu_frame};
+pub use walking::{ContextStep, TableStep, each_context, each_table};

@@ -3,10 +3,10 @@ use Rattle.mig_host_view.proofs.LocaliseGuests.{few_listed, contexts_long, all_l
 use Rattle.mig_host_view.proofs.localising.localise_guest.Goals as goal
 
 pub fill_p2m_frames-requires : goal.fill_p2m_frames-requires
-fill_p2m_frames-requires g c = few_listed (g.F.Frames.mfns c.args.frames.now) c.args.guest.now c.requires.formed (sym c.in-Pv.ensures) c.localise_tables.ensures
+fill_p2m_frames-requires g c = few_listed (g.F.Frames.mfns c.args.frames.now) c.args.guest.now c.requires.formed (sym c.in-Pv.ensures) c.each_table.ensures
 
-pub localise_vcpus-requires : goal.localise_vcpus-requires
-localise_vcpus-requires g c = contexts_long (g.F.Frames.mfns c.args.frames.now) c.args.guest.now c.requires.formed (sym c.in-Pv.ensures) c.localise_tables.ensures c.fill_p2m_frames.ensures
+pub each_context-requires-clause-long : goal.each_context-requires-clause-long
+each_context-requires-clause-long g c = contexts_long (g.F.Frames.mfns c.args.frames.now) c.args.guest.now c.requires.formed (sym c.in-Pv.ensures) c.each_table.ensures c.fill_p2m_frames.ensures
 
 pub returns-in-Pv : goal.returns-in-Pv
-returns-in-Pv g c = all_localised (g.F.Frames.mfns c.args.frames.now) c.args.guest.now c.requires.formed (sym c.in-Pv.ensures) c.localise_tables.ensures c.fill_p2m_frames.ensures c.localise_vcpus.ensures
+returns-in-Pv g c = all_localised (g.F.Frames.mfns c.args.frames.now) c.args.guest.now c.requires.formed (sym c.in-Pv.ensures) c.each_table.ensures c.fill_p2m_frames.ensures c.each_context.ensures

@@ -1,0 +1,96 @@
+ghost use Rattle.std.specs.Prelude.{◌≡◌, ◌≤◌, ℕ, List, length, Some, IfSome};
+ghost use Rattle.std.specs.Ordering.{nat_cmp};
+ghost use Rattle.std.specs.FinMap as maps;
+ghost use Rattle.mig_guest.specs.declared.part_key.PartKey.{PartKey};
+ghost use Rattle.mig_guest.specs.Order.{part_cmp};
+ghost use Rattle.mig_pvtables.specs.Blank.{each_value};
+ghost use Rattle.mig_pvtables.specs.BlankSteps.{only, with_table_changed, blanked_code};
+
+use crate::vcpu::VCPU_BASIC;
+use mig_guest::{Guest, PartKey};
+
+/// What becomes of a table of a guest.
+pub trait TableStep {
+    /// The table afterwards, by its level and the table before.
+    ghost tables: { Self → ℕ → List ℕ → List ℕ };
+
+    /// What a step relies on.
+    ghost can_change: { Self → Type 0 } = { λ _. Unit {0} };
+
+    /// Changes a table of this level.
+    fn change_table(&self, page: &mut [u8; 4096], level: u8)
+        requires can { can_change self.now }
+        requires least { 1 ≤ level }
+        requires most { level ≤ 4 }
+        ensures table { page.new ≡ tables self.now level page.old }
+        ensures size { length page.new ≡ 4096 };
+}
+
+/// What becomes of the context of a vCPU.
+pub trait ContextStep {
+    /// The context afterwards, by the vCPU's id and the context before.
+    ghost contexts: { Self → ℕ → List ℕ → List ℕ };
+
+    /// What a step relies on.
+    ghost can_change: { Self → Type 0 } = { λ _. Unit {0} };
+
+    /// Changes the context of the vCPU with this id.
+    fn change_context(&self, context: &mut [u8; 5168], id: u32)
+        requires { can_change self.now }
+        ensures { context.new ≡ contexts self.now id context.old };
+}
+
+/// Changes the page of this frame, where the frame is a table.
+fn change_frame<S: TableStep>(guest: &mut Guest, pfn: u64, step: &S)
+    requires { S.can_change step.now }
+    ensures { guest.new ≡ record guest.old { frames = each_value (only nat_cmp pfn (with_table_changed (S.tables step.now))) guest.old.frames } }
+{
+    let Some(kind) = guest.frame(pfn) else {
+        return;
+    };
+    let Some(level) = kind.table_level() else {
+        return;
+    };
+    if let Some(page) = guest.page_mut(pfn) {
+        step.change_table(page, level);
+    }
+}
+
+/// Changes each table of a guest, in the order of their frame numbers.
+pub fn each_table<S: TableStep>(guest: &mut Guest, step: &S)
+    requires { S.can_change step.now }
+    ensures { guest.new ≡ record guest.old { frames = each_value (λ _ frame. with_table_changed (S.tables step.now) frame) guest.old.frames } }
+{
+    let mut from = 0;
+    while let Some(pfn) = guest.next_frame(from) {
+        change_frame(guest, pfn, step);
+        from = pfn + 1;
+    }
+}
+
+/// Changes the context of this key, where there is one.
+fn change_vcpu<S: ContextStep>(guest: &mut Guest, key: PartKey, step: &S)
+    requires can { S.can_change step.now }
+    requires long { IfSome (maps.get guest.old.parts key) (λ context. length context ≡ 5168) }
+    ensures { guest.new ≡ record guest.old { parts = each_value (only part_cmp key (S.contexts step.now key.key1)) guest.old.parts } }
+{
+    let Some(bytes) = guest.part(key) else {
+        return;
+    };
+    let mut context = *bytes.as_array::<5168>().unwrap();
+    step.change_context(&mut context, key.key1);
+    guest.write_part(key, 0, &context);
+}
+
+/// Changes the context of each vCPU of a guest, in the order of their keys.
+pub fn each_context<S: ContextStep>(guest: &mut Guest, step: &S)
+    requires can { S.can_change step.now }
+    requires long { (key : PartKey) (context : List ℕ) → maps.get guest.old.parts key ≡ Some context → key.code ≡ 4 → length context ≡ 5168 }
+    ensures { guest.new ≡ record guest.old { parts = each_value (blanked_code 4 (λ key. S.contexts step.now key.key1)) guest.old.parts } }
+{
+    let mut after = None;
+    while let Some((key, _)) = guest.next_of_code(VCPU_BASIC, after) {
+        change_vcpu(guest, key, step);
+        after = Some(key);
+    }
+}
