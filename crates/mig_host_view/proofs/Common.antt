@@ -53,7 +53,7 @@ pub use Rattle.mig_pvtables.proofs.Searches.{overwritten}
 pub use Rattle.mig_pvtables.proofs.Walks.{IsSoBehind, contexts_start, in_fields, large_in, taken}
 pub use Rattle.mig_pvtables.specs.BadEntries.{NamesKnown, is_unknown}
 pub use Rattle.mig_pvtables.specs.Blank.{blank, blank_of, blanked_frame, blanked_page, each_value}
-pub use Rattle.mig_pvtables.specs.BlankSteps.{only}
+pub use Rattle.mig_pvtables.specs.BlankSteps.{only, written_at, written_where_listed}
 pub use Rattle.mig_pvtables.specs.Faults.{fits_field, type_at}
 pub use Rattle.mig_pvtables.specs.P2mFrames.{count_in, listed, listed_in, place_in, place_of}
 pub use Rattle.mig_pvtables.specs.P2mPages.{p2m_page}

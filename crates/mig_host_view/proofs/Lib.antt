@@ -13,7 +13,6 @@ pub mod ViewedPv
 pub mod ViewedHvm
 pub mod ViewedGuests
 pub mod HostViews
-pub mod LocaliseFrames
 pub mod LocaliseContexts
 pub mod LocaliseGuests
 pub mod NormaliseFrames

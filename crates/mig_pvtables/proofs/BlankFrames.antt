@@ -1,10 +1,9 @@
 -- The frames of a guest on its way to its blank form.
-use Rattle.mig_pvtables.proofs.Common.{◌≡◌, ℕ, ◌+◌, ◌<◌, ◌≤◌, cond, List, length, Option, Some, None, refl, sym, ap, ◌∙◌, inl, inr, arith, option_map, nat_cmp, nat_cmp_total, nat_cmp-IsAntisymmetric, cases_lt, lt-ltb, le-ltb, length-replicate, pfn_limit, PageType, level_of, FrameOf, FrameMap, GuestOf, each_value, table_changed, only, with_table_changed, with_zero_page}
+use Rattle.mig_pvtables.proofs.Common.{◌≡◌, ℕ, ◌+◌, ◌<◌, ◌≤◌, cond, List, length, Option, Some, None, refl, sym, ap, ◌∙◌, inl, inr, arith, option_map, nat_cmp, nat_cmp_total, nat_cmp-IsAntisymmetric, cases_lt, lt-ltb, le-ltb, pfn_limit, PageType, level_of, FrameOf, FrameMap, GuestOf, each_value, table_changed, only, with_other_page, with_table_changed}
 use Rattle.std.specs.Prelude.{option_and_then}
 use Rattle.mig_pvtables.specs.BlankSteps.{blanked_below}
 use Rattle.mig_pagestore.specs.FrameLending.{with_page, repaged}
 use Rattle.mig_pagestore.proofs.Places.{whole_is}
-use Rattle.mig_pvtables.specs.Blank.{zero_page}
 use Rattle.mig_pvtables.proofs.EachValue.{get_each, each_same, same_each}
 use Rattle.mig_pvtables.proofs.Only.{insert_only, only_stays, then_only}
 use Rattle.std.specs.FinMap as maps
@@ -35,15 +34,19 @@ module _ (m : FrameMap) (pfn : ℕ) (h : FrameOf → FrameOf) where
 abbrev pub WithFrames : GuestOf → FrameMap → GuestOf
 WithFrames g m = record { kind = g.kind; top = g.top; frames = m; parts = g.parts }
 
-module _ (g : GuestOf) (pfn : ℕ) where
-  pub zeroed : (p w : List ℕ) → Some p ≡ option_and_then (λ (f : FrameOf). f.page) (maps.get g.frames pfn) → w ≡ zero_page
-      → WithFrames g (with_page g.frames pfn w) ≡ WithFrames g (each_value (only nat_cmp pfn with_zero_page) g.frames)
-  unfolding zero_page
-  zeroed p w has is = ap (WithFrames g) (page_written g.frames pfn with_zero_page p w has (ap length is ∙ length-replicate {A = ℕ} 4096 0)
-      (λ f at page. ap (λ (o : Option (List ℕ)). record { type = f.type; page = option_map (λ _. zero_page) o }) page ∙ ap (λ (l : List ℕ). record { type = f.type; page = Some l }) (sym is)))
+-- ---- a frame with another page
 
-  pub nothing_zeroed : None ≡ option_and_then (λ (f : FrameOf). f.page) (maps.get g.frames pfn) → g ≡ WithFrames g (each_value (only nat_cmp pfn with_zero_page) g.frames)
-  nothing_zeroed none = ap (WithFrames g) (no_page g.frames pfn with_zero_page none (λ f page. ap (λ (o : Option (List ℕ)). record { type = f.type; page = option_map (λ _. zero_page) o }) page ∙ ap (λ (o : Option (List ℕ)). record { type = f.type; page = o }) (sym page)))
+module _ (page : List ℕ) (g : GuestOf) (pfn : ℕ) where
+  abbrev Written : GuestOf
+  Written = WithFrames g (OnlyFrame (with_other_page page) g.frames pfn)
+
+  pub other_written : (p w : List ℕ) → Some p ≡ option_and_then (λ (f : FrameOf). f.page) (maps.get g.frames pfn) → length w ≡ 4096 → w ≡ page → WithFrames g (with_page g.frames pfn w) ≡ Written
+  other_written p w has size is = ap (WithFrames g) (page_written g.frames pfn (with_other_page page) p w has size
+      (λ f at there. ap (λ (o : Option (List ℕ)). record { type = f.type; page = option_map (λ _. page) o }) there ∙ ap (λ (l : List ℕ). record { type = f.type; page = Some l }) (sym is)))
+
+  pub nothing_written : None ≡ option_and_then (λ (f : FrameOf). f.page) (maps.get g.frames pfn) → g ≡ Written
+  nothing_written none = ap (WithFrames g) (no_page g.frames pfn (with_other_page page) none (λ f there.
+      ap (λ (o : Option (List ℕ)). record { type = f.type; page = option_map (λ _. page) o }) there ∙ ap (λ (o : Option (List ℕ)). record { type = f.type; page = o }) (sym there)))
 
 -- ---- a frame whose page changes where it is a table
 

@@ -1,82 +1,81 @@
--- The frames that a list names, one after another.
-use Rattle.mig_pvtables.proofs.Common.{◌≡◌, ℕ, ◌+◌, ◌/◌, ◌<◌, Bool, true, false, cond, List, length, Option, Some, None, is_some, refl, sym, ap, ◌∙◌, inl, inr, arith, ◌==◌, ◌||◌, range_with_len, list_any, nat_cmp, nat_cmp_total, nat_cmp-IsAntisymmetric, cases_lt, ne_eqb, eq-eqb, lt-ltb, le-ltb, FrameOf, FrameMap, GuestOf, long_at, PartMap, p2m_key, each_value, only, with_zero_page, where_listed, is_listed_before, is_this, count_in, listed_in, listed, zero_page}
-use Rattle.mig_pvtables.specs.BlankSteps.{blanked_listed}
+-- The frames that a list names, one after another, from the end of the list.
+use Rattle.mig_pvtables.proofs.Common.{◌≡◌, ℕ, ◌+◌, ◌-◌, ◌/◌, ◌<◌, ◌≤◌, suc, cond, List, length, find, range_with_len, ◌==◌, Option, Some, None, is_some, refl, sym, ap, ◌∙◌, arith, nat_cmp, nat_cmp_total, nat_cmp-IsAntisymmetric, ne_eqb, eq-eqb, lt-ltb, FrameOf, FrameMap, GuestOf, PartMap, p2m_key, long_at, each_value, only, zero_page, with_zero_page, with_other_page, where_listed, written_at, written_from, written_where_listed, count_in, listed, listed_in, place_of}
+use Rattle.mig_pvtables.specs.BlankSteps.{place_from_in}
 use Rattle.mig_pvtables.specs.P2mFrames.{place_in}
+use Rattle.mig_pvtables.proofs.BlankFrames.{WithFrames}
 use Rattle.mig_pvtables.proofs.EachValue.{each_same, same_each}
 use Rattle.mig_pvtables.proofs.Only.{then_only}
-use Rattle.mig_pvtables.proofs.BlankFrames.{WithFrames}
-use Rattle.mig_pvtables.proofs.PvGuests.{counted}
-use Rattle.mig_pvtables.proofs.Searches.{alike_false, any_in_range, any_more, find_in_range, none_of, overwritten}
+use Rattle.mig_pvtables.proofs.Searches.{overwritten}
 use Rattle.std.specs.FinMap as maps
 
--- ---- which numbers are listed
+-- behind the end none is listed
+place_end : (o : Option (List ℕ)) (pfn : ℕ) → place_from_in o (count_in o) pfn ≡ None
+unfolding place_from_in
+place_end None pfn = refl
+place_end (Some bytes) pfn = ap (λ n. find (λ j. long_at bytes j == pfn) (range_with_len (length bytes / 8) n)) (let e : length bytes / 8 - length bytes / 8 ≡ 0 = omega arith in e)
 
--- at the end of the list, one is listed before exactly where it has a place
-module _ (o : Option (List ℕ)) (pfn : ℕ) where
-  abbrev test_in : ℕ → Bool
-  test_in j = is_this pfn (listed_in o j)
+-- from the first on, each has its place
+place_start : (o : Option (List ℕ)) (pfn : ℕ) → place_from_in o 0 pfn ≡ place_in o pfn
+unfolding place_from_in place_in
+place_start None pfn = refl
+place_start (Some bytes) pfn = ap (λ n. find (λ j. long_at bytes j == pfn) (range_with_len 0 n)) (let e : length bytes / 8 - 0 ≡ length bytes / 8 = omega arith in e)
 
-placed : (o : Option (List ℕ)) (pfn k : ℕ) → listed_in o k ≡ None → is_some (place_in o pfn) ≡ list_any (λ j. is_this pfn (listed_in o j)) (range_with_len 0 k)
-unfolding place_in
-placed None pfn k none = sym ((any_in_range (λ j. false) k).1 (λ j lt. refl))
-placed (Some bytes) pfn k none = alike_false _ _
-    (λ no_place. (any_in_range (test_in (Some bytes) pfn) k).1 (λ j lt. elim (cases_lt j (length bytes / 8)) [
-      | inl less ↦ ap (λ b. is_this pfn (cond b (Some (long_at bytes j)) None)) (lt-ltb j (length bytes / 8) less) ∙ (find_in_range (λ k. long_at bytes k == pfn) (length bytes / 8)).0 (none_of _ no_place) j less
-      | inr more ↦ ap (λ b. is_this pfn (cond b (Some (long_at bytes j)) None)) (le-ltb j (length bytes / 8) more)
-    ]))
-    (λ no_test. ap is_some ((find_in_range (λ k. long_at bytes k == pfn) (length bytes / 8)).1 (λ j less.
-    sym (ap (λ b. is_this pfn (cond b (Some (long_at bytes j)) None)) (lt-ltb j (length bytes / 8) less))
-    ∙ (any_in_range (test_in (Some bytes) pfn) k).0 no_test j (elim (cases_lt j k) [
-      | inl lt ↦ lt
-      | inr ge ↦ let no : Some (long_at bytes k) ≡ None = sym (ap (λ b. cond b (Some (long_at bytes k)) None) (lt-ltb k (length bytes / 8) (omega (arith, less, ge)))) ∙ none in cc
-    ]))))
+-- one more index
+place_step : (o : Option (List ℕ)) (k n pfn : ℕ) → listed_in o k ≡ Some n → k < count_in o → place_from_in o k pfn ≡ cond (n == pfn) (Some k) (place_from_in o (k + 1) pfn)
+unfolding place_from_in
+place_step None k n pfn is lt = cc
+place_step (Some bytes) k n pfn is lt =
+    let here : Some (long_at bytes k) ≡ Some n = sym (ap (λ b. cond b (Some (long_at bytes k)) None) (lt-ltb k (length bytes / 8) lt)) ∙ is in let same : long_at bytes k ≡ n = cc in
+    ap (λ c. find (λ j. long_at bytes j == pfn) (range_with_len k c)) (let e : length bytes / 8 - k ≡ suc (length bytes / 8 - (k + 1)) = omega (arith, lt) in e)
+    ∙ ap (λ v. cond (v == pfn) (Some k) (find (λ j. long_at bytes j == pfn) (range_with_len (k + 1) (length bytes / 8 - (k + 1))))) same
 
--- ---- one frame after another
+module _ (f : ℕ → List ℕ) where
+  written_again : (k : ℕ) (place : Option ℕ) (x : FrameOf) → with_other_page (f k) (written_at f place x) ≡ with_other_page (f k) x
+  written_again k None x = refl
+  written_again k (Some j) x = ap (λ (o : Option (List ℕ)). record { type = x.type; page = o }) (overwritten (λ _. f j) (f k) x.page)
 
-module _ (parts : PartMap) (m : FrameMap) where
-  none_listed : each_value (blanked_listed parts 0 with_zero_page) m ≡ m
-  none_listed = each_same nat_cmp_total nat_cmp-IsAntisymmetric (blanked_listed parts 0 with_zero_page) m (λ q f is. refl)
+  module _ (parts : PartMap) (m : FrameMap) where
+    next_written : (k n : ℕ) → listed parts k ≡ Some n → k < count_in (maps.get parts p2m_key) → each_value (only nat_cmp n (with_other_page (f k))) (each_value (written_from parts (k + 1) f) m) ≡ each_value (written_from parts k f) m
+    next_written k n is lt = then_only nat_cmp_total nat_cmp-IsAntisymmetric m n (with_other_page (f k)) (written_from parts (k + 1) f) (written_from parts k f)
+        (λ x. written_again k (later n) x ∙ sym (ap (λ o. written_at f o x) (step n ∙ ap (λ b. cond b (Some k) (later n)) (eq-eqb n n refl))))
+        (λ q x _ ne. sym (ap (λ o. written_at f o x) (step q ∙ ap (λ b. cond b (Some k) (later q)) (ne_eqb n q (λ e. ne (sym e))))))
+      where
+        later : ℕ → Option ℕ
+        later q = place_from_in (maps.get parts p2m_key) (k + 1) q
 
-  next_listed : (k pfn : ℕ) → listed parts k ≡ Some pfn → each_value (only nat_cmp pfn with_zero_page) (each_value (blanked_listed parts k with_zero_page) m) ≡ each_value (blanked_listed parts (k + 1) with_zero_page) m
-  next_listed k pfn is = then_only nat_cmp_total nat_cmp-IsAntisymmetric m pfn with_zero_page (blanked_listed parts k with_zero_page) (blanked_listed parts (k + 1) with_zero_page)
-      (λ x. zeroed x (is_listed_before parts k pfn) ∙ sym (ap (λ b. cond b (with_zero_page x) x) (more pfn ∙ ap (λ b. is_listed_before parts k pfn || b) (eq-eqb pfn pfn refl))))
-      (λ q x _ ne. stays x (is_listed_before parts k q) ∙ sym (ap (λ b. cond b (with_zero_page x) x) (more q ∙ ap (λ b. is_listed_before parts k q || b) (ne_eqb pfn q (λ e. ne (sym e))))))
-    where
-      more : (q : ℕ) → is_listed_before parts (k + 1) q ≡ (is_listed_before parts k q || (pfn == q))
-      more q = any_more (λ j. is_this q (listed parts j)) k ∙ ap (λ o. is_listed_before parts k q || is_this q o) is
+        step : (q : ℕ) → place_from_in (maps.get parts p2m_key) k q ≡ cond (n == q) (Some k) (later q)
+        step q = place_step (maps.get parts p2m_key) k n q is lt
 
-      zeroed : (x : FrameOf) (b : Bool) → with_zero_page (cond b (with_zero_page x) x) ≡ cond (b || true) (with_zero_page x) x
-      zeroed x true = ap (λ (o : Option (List ℕ)). record { type = x.type; page = o }) (overwritten (λ _. zero_page) zero_page x.page)
-      zeroed x false = refl
+-- on the way from g the frames that are listed from k on hold their pages
+pub record WrittenFrom (f : ℕ → List ℕ) (g : GuestOf) (k : ℕ) (now : GuestOf) : Type 0 where
+  pub most : k ≤ count_in (maps.get g.parts p2m_key)
+  pub done : now ≡ WithFrames g (each_value (written_from g.parts k f) g.frames)
 
-      stays : (x : FrameOf) (b : Bool) → cond b (with_zero_page x) x ≡ cond (b || false) (with_zero_page x) x
-      stays x true = refl
-      stays x false = refl
+module _ {f : ℕ → List ℕ} {g : GuestOf} where
+  pub listed_start : {n : ℕ} → n ≡ count_in (maps.get g.parts p2m_key) → WrittenFrom f g n g
+  listed_start {n = n} is = record {
+    most = omega (arith, is);
+    done = ap (WithFrames g) (sym (each_same nat_cmp_total nat_cmp-IsAntisymmetric (written_from g.parts n f) g.frames (λ q x _.
+        ap (λ k. written_from g.parts k f q x) is ∙ ap (λ o. written_at f o x) (place_end (maps.get g.parts p2m_key) q))));
+  }
 
-  all_listed : (k : ℕ) → listed parts k ≡ None → each_value (blanked_listed parts k with_zero_page) m ≡ each_value (where_listed parts with_zero_page) m
-  all_listed k none = same_each nat_cmp_total nat_cmp-IsAntisymmetric (blanked_listed parts k with_zero_page) (where_listed parts with_zero_page) m (λ q f is.
-      ap (λ b. cond b (with_zero_page f) f) (sym (placed (maps.get parts p2m_key) q k none)))
-
--- on the way from g the first k frames that are listed are zeroed
-pub record ZeroedBefore (g : GuestOf) (k : ℕ) (now : GuestOf) : Type 0 where
-  pub done : now ≡ WithFrames g (each_value (blanked_listed g.parts k with_zero_page) g.frames)
-
-module _ {g : GuestOf} where
-  pub list_start : ZeroedBefore g 0 g
-  list_start = record { done = ap (WithFrames g) (sym (none_listed g.parts g.frames)) }
-
-  module _ {k : ℕ} {now : GuestOf} (is : ZeroedBefore g k now) {o : Option ℕ} (found : o ≡ listed now.parts k) where
-    same_list : o ≡ listed g.parts k
-    same_list = found ∙ ap (λ (s : GuestOf). listed s.parts k) is.done
-
-    pub list_next : {new : GuestOf} {pfn : ℕ} → o ≡ Some pfn → new ≡ WithFrames now (each_value (only nat_cmp pfn with_zero_page) now.frames) → ZeroedBefore g (k + 1) new
-    list_next {pfn = pfn} some one = record {
-      done = one ∙ ap (λ (s : GuestOf). WithFrames s (each_value (only nat_cmp pfn with_zero_page) s.frames)) is.done
-          ∙ ap (WithFrames g) (next_listed g.parts g.frames k pfn (sym same_list ∙ some));
+  module _ {index : ℕ} {now : GuestOf} (is : WrittenFrom f g index now) where
+    pub listed_next : (k : ℕ) → index ≡ k + 1 → {new : GuestOf} {n : ℕ} → Some n ≡ listed now.parts k → new ≡ WithFrames now (each_value (only nat_cmp n (with_other_page (f k))) now.frames) → WrittenFrom f g k new
+    listed_next k step {n = n} found one = record {
+      most = omega (arith, step, is.most);
+      done = one ∙ ap (λ (s : GuestOf). WithFrames s (each_value (only nat_cmp n (with_other_page (f k))) s.frames)) (is.done ∙ ap (λ j. WithFrames g (each_value (written_from g.parts j f) g.frames)) step)
+          ∙ ap (WithFrames g) (next_written f g.parts g.frames k n (sym (found ∙ ap (λ (s : GuestOf). listed s.parts k) is.done)) (omega (arith, step, is.most)));
     }
 
-    pub list_counted : {pfn : ℕ} → o ≡ Some pfn → k < count_in (maps.get g.parts p2m_key)
-    list_counted {pfn = pfn} some = counted g.frames g.parts (maps.get g.parts p2m_key) k pfn (sym same_list ∙ some)
+    pub listed_end : index ≡ 0 → now ≡ WithFrames g (each_value (written_where_listed g.parts f) g.frames)
+    listed_end zero =
+        is.done ∙ ap (WithFrames g) (same_each nat_cmp_total nat_cmp-IsAntisymmetric (written_from g.parts index f) (written_where_listed g.parts f) g.frames (λ q x _.
+        ap (λ k. written_from g.parts k f q x) zero ∙ ap (λ o. written_at f o x) (place_start (maps.get g.parts p2m_key) q)))
 
-    pub list_end : o ≡ None → now ≡ WithFrames g (each_value (where_listed g.parts with_zero_page) g.frames)
-    list_end none = is.done ∙ ap (WithFrames g) (all_listed g.parts g.frames k (sym same_list ∙ none))
+-- each P2M frame with a page of zeros
+listed_zeroed : (place : Option ℕ) (frame : FrameOf) → written_at (λ _. zero_page) place frame ≡ cond (is_some place) (with_zero_page frame) frame
+listed_zeroed None frame = refl
+listed_zeroed (Some k) frame = refl
+
+pub all_zeroed : (g : GuestOf) → WithFrames g (each_value (written_where_listed g.parts (λ _. zero_page)) g.frames) ≡ WithFrames g (each_value (where_listed g.parts with_zero_page) g.frames)
+all_zeroed g = λ i. WithFrames g (each_value (λ pfn frame. listed_zeroed (place_of g.parts pfn) frame i) g.frames)

@@ -1,21 +1,19 @@
 ghost use Rattle.std.specs.Prelude.{◌≡◌, ◌≤◌, ℕ, List, ◌+◌, ◌<◌, ◌^◌, length, get_or, IfSome, IsSome};
-ghost use Rattle.std.specs.Ordering.{nat_cmp};
 ghost use Rattle.std.specs.FinMap as maps;
 ghost use Rattle.byteorder.specs.Endian.{little_bytes};
 ghost use Rattle.mig_bytes.specs.Fields.{with_field};
 ghost use Rattle.mig_guest.specs.declared.part_key.PartKey.{PartKey};
 ghost use Rattle.mig_guest.specs.Order.{part_cmp};
 ghost use Rattle.mig_guest.specs.PartCodes.{code_number};
-ghost use Rattle.mig_guest.specs.PartKeys.{p2m_key as list_key, shared_key as page_key};
+ghost use Rattle.mig_guest.specs.PartKeys.{shared_key as page_key};
 ghost use Rattle.mig_guest.specs.Tables.{blanked_table};
 ghost use Rattle.mig_pvtables.specs.Blank.{each_value, zero_page as zeros, blank as blank_form};
 ghost use Rattle.mig_pvtables.specs.BlankSteps.{only, with_zero_page, where_listed, blanked_code};
-ghost use Rattle.mig_pvtables.specs.P2mFrames.{listed};
 ghost use Rattle.mig_pvtables.specs.VcpuContexts.{blanked_value, blanked_context, blanked_shared};
 ghost use Rattle.mig_pvtables.specs.Whole.{IsWhole};
 
-use crate::listing::{listed_pfn, sole_key};
-use crate::walking::{ContextStep, TableStep, each_context, each_table};
+use crate::listing::sole_key;
+use crate::walking::{ContextStep, P2mStep, TableStep, each_context, each_p2m_frame, each_table};
 use mig_bytes::{put_u64_le, u64_le};
 use mig_guest::{Guest, PartCode, PartKey};
 use mig_headers::Kind;
@@ -44,27 +42,6 @@ fn clear(page: &mut [u8; 4096])
     ensures { page.new ≡ zeros }
 {
     page.fill(0);
-}
-
-/// The page of this frame becomes zeros, where it has one.
-#[tactic(auto, using(crate::proofs::BlankFrames::zeroed, crate::proofs::BlankFrames::nothing_zeroed))]
-fn zero_page(guest: &mut Guest, pfn: u64)
-    ensures { guest.new ≡ record guest.old { frames = each_value (only nat_cmp pfn with_zero_page) guest.old.frames } }
-{
-    if let Some(page) = guest.page_mut(pfn) {
-        clear(page);
-    }
-}
-
-/// The pages of the P2M frames become zeros.
-pub fn zero_p2m_frames(guest: &mut Guest)
-    ensures { guest.new ≡ record guest.old { frames = each_value (where_listed guest.old.parts with_zero_page) guest.old.frames } }
-{
-    let mut index = 0;
-    while let Some(pfn) = listed_pfn(guest.parts(), index) {
-        zero_page(guest, pfn);
-        index += 1;
-    }
 }
 
 /// Does nothing. That bytes are below 256 is what a part's other numbers stay by, where it is read and written as numbers
@@ -106,7 +83,7 @@ fn blank_roots(context: &mut [u8; 5168])
     put_u64_le(context, USER_ROOT, user_root);
 }
 
-/// Tables and contexts come to their blank form.
+/// Tables, P2M frames and contexts come to their blank form.
 #[derive(Drop)]
 struct Blanking;
 
@@ -118,12 +95,27 @@ impl TableStep for Blanking {
     }
 }
 
+impl P2mStep for Blanking {
+    ghost pages = { λ _ _. zeros };
+
+    fn write_page(&self, page: &mut [u8; 4096], _index: u64) {
+        clear(page);
+    }
+}
+
 impl ContextStep for Blanking {
     ghost contexts = { λ _ _. blanked_context };
 
     fn change_context(&self, context: &mut [u8; 5168], _id: u32) {
         blank_roots(context);
     }
+}
+
+/// The pages of the P2M frames become zeros.
+pub fn zero_p2m_frames(guest: &mut Guest)
+    ensures { guest.new ≡ record guest.old { frames = each_value (where_listed guest.old.parts with_zero_page) guest.old.frames } }
+{
+    each_p2m_frame(guest, &Blanking);
 }
 
 /// Brings each vCPU's context to its blank form.

@@ -1,8 +1,8 @@
 //! Page tables and the contexts of vCPUs, whole guests and their blank form.
 //!
 //! Responsible for: what an entry of a table says, what is wrong with a table in a stream, the frame that a field of a
-//! vCPU's context says, what is wrong with a guest at the end of its stream, the walks over a guest's tables and the
-//! contexts of its vCPUs, bringing a guest to its blank form, and bringing a table from frame numbers to machine frames and
+//! vCPU's context says, what is wrong with a guest at the end of its stream, the walks over a guest's tables,
+//! its P2M frames and the contexts of its vCPUs, bringing a guest to its blank form, and bringing a table from frame numbers to machine frames and
 //! back. Left to others: a whole guest that stands in a machine (mig_host_view).
 //!
 //! What the layers above rely on: a guest is whole exactly where no row of its faults finds anything, and its blank form is
@@ -39,4 +39,4 @@ pub use renaming_law::{
 pub use table::{check_table, entry, put_entry, superpage_slot};
 pub use testing::{WholeAnswer, is_type_of_field, whole};
 pub use vcpu::{FIELDS, VCPU_BASIC, gdt_ents, host_frame, put_vcpu_frame, vcpu_frame};
-pub use walking::{ContextStep, TableStep, each_context, each_table};
+pub use walking::{ContextStep, P2mStep, TableStep, each_context, each_p2m_frame, each_table};

@@ -1,13 +1,16 @@
-ghost use Rattle.std.specs.Prelude.{◌≡◌, ◌≤◌, ℕ, List, length, Some, IfSome};
+ghost use Rattle.std.specs.Prelude.{◌≡◌, ◌≤◌, ◌<◌, ℕ, List, length, Some, IfSome};
 ghost use Rattle.std.specs.Ordering.{nat_cmp};
 ghost use Rattle.std.specs.FinMap as maps;
 ghost use Rattle.mig_guest.specs.declared.part_key.PartKey.{PartKey};
 ghost use Rattle.mig_guest.specs.Order.{part_cmp};
+ghost use Rattle.mig_guest.specs.PartKeys.{p2m_key};
 ghost use Rattle.mig_pvtables.specs.Blank.{each_value};
-ghost use Rattle.mig_pvtables.specs.BlankSteps.{only, with_table_changed, blanked_code};
+ghost use Rattle.mig_pvtables.specs.BlankSteps.{only, with_table_changed, with_other_page, written_where_listed, blanked_code};
+ghost use Rattle.mig_pvtables.specs.P2mFrames.{count_in};
 
+use crate::listing::{listed_pfn, sole_key};
 use crate::vcpu::VCPU_BASIC;
-use mig_guest::{Guest, PartKey};
+use mig_guest::{Guest, PartCode, PartKey, Parts};
 
 /// What becomes of a table of a guest.
 pub trait TableStep {
@@ -23,6 +26,21 @@ pub trait TableStep {
         requires least { 1 ≤ level }
         requires most { level ≤ 4 }
         ensures table { page.new ≡ tables self.now level page.old }
+        ensures size { length page.new ≡ 4096 };
+}
+
+/// What becomes of the page of a P2M frame.
+pub trait P2mStep {
+    /// The page of P2M frame k afterwards.
+    ghost pages: { Self → ℕ → List ℕ };
+
+    /// What a step at an index relies on.
+    ghost can_write: { Self → ℕ → Type 0 } = { λ _ _. Unit {0} };
+
+    /// Writes the page of P2M frame `index`.
+    fn write_page(&self, page: &mut [u8; 4096], index: u64)
+        requires { can_write self.now index }
+        ensures page { page.new ≡ pages self.now index }
         ensures size { length page.new ≡ 4096 };
 }
 
@@ -65,6 +83,41 @@ pub fn each_table<S: TableStep>(guest: &mut Guest, step: &S)
     while let Some(pfn) = guest.next_frame(from) {
         change_frame(guest, pfn, step);
         from = pfn + 1;
+    }
+}
+
+/// The page of this frame becomes that of P2M frame `index`, where it has one.
+fn write_frame<S: P2mStep>(guest: &mut Guest, pfn: u64, index: u64, step: &S)
+    requires { S.can_write step.now index }
+    ensures { guest.new ≡ record guest.old { frames = each_value (only nat_cmp pfn (with_other_page (S.pages step.now index))) guest.old.frames } }
+{
+    if let Some(page) = guest.page_mut(pfn) {
+        step.write_page(page, index);
+    }
+}
+
+/// How many P2M frames are listed.
+fn listed_count(parts: &Parts) -> usize
+    ensures { result ≡ count_in (maps.get parts.now p2m_key) }
+{
+    match parts.get(sole_key(PartCode::P2mFrames)) {
+        Some(list) => list.len() / 8,
+        None => 0,
+    }
+}
+
+/// Writes the page of each P2M frame; one that is listed more than once gets the page of its first place. The list is
+/// walked from its end, so that this is written last.
+pub fn each_p2m_frame<S: P2mStep>(guest: &mut Guest, step: &S)
+    requires { (k : ℕ) → k < count_in (maps.get guest.old.parts p2m_key) → S.can_write step.now k }
+    ensures { guest.new ≡ record guest.old { frames = each_value (written_where_listed guest.old.parts (S.pages step.now)) guest.old.frames } }
+{
+    let mut index = listed_count(guest.parts());
+    while 0 < index {
+        index -= 1;
+        if let Some(pfn) = listed_pfn(guest.parts(), index) {
+            write_frame(guest, pfn, index as u64, step);
+        }
     }
 }
 
