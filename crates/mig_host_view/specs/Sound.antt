@@ -5,7 +5,6 @@ use Rattle.std.specs.FinMap as maps
 use Rattle.mig_headers.specs.Contexts.{scan}
 use Rattle.mig_headers.specs.declared.fault.ContextFault.{ContextFault}
 use Rattle.mig_headers.specs.declared.kind.Kind.{Kind}
-use Rattle.mig_headers.specs.declared.kind.Kind.TheVariants.{Pv, Hvm}
 use Rattle.mig_headers.specs.declared.unsound.Unsound.{Unsound}
 use Rattle.mig_headers.specs.declared.unsound.Unsound.TheVariants.{Missing, P2mFrame, Superpage, NoFrame, GdtEnts, VcpuFrame, BadContext}
 use Rattle.mig_pagetypes.specs.declared.page_type.PageType.{PageType}
@@ -15,10 +14,11 @@ use Rattle.mig_guest.specs.Frames.{FrameOf, FrameMap}
 use Rattle.mig_guest.specs.Guests.{GuestOf}
 use Rattle.mig_guest.specs.Hosts.{HostOf, pfn_in}
 use Rattle.mig_guest.specs.Parts.{PartMap}
-use Rattle.mig_guest.specs.PartKeys.{p2m_key, vcpu_key, shared_key, context_key}
+use Rattle.mig_guest.specs.PartKeys.{context_key}
 use Rattle.mig_guest.specs.Tables.{EachEntry}
 use Rattle.mig_guest.specs.Limits.{most_gdt_entries}
 use Rattle.mig_pvtables.specs.BadEntries.{is_unknown, NamesKnown}
+pub use Rattle.mig_pvtables.specs.Faults.{needed_keys}
 use Rattle.mig_pvtables.specs.Faults.{first_some, first_cause, type_at, fits_field, find_p2m, find_entry, find_in_contexts}
 use Rattle.mig_pvtables.specs.Tables.{is_superpage}
 use Rattle.mig_pvtables.specs.VcpuContexts.{field_value, is_used_somewhere, frame_of_field}
@@ -26,11 +26,6 @@ use Rattle.mig_pvtables.specs.WholePv.{AreP2mFrames}
 use Rattle.mig_host_view.specs.View.{guest_in}
 
 -- ---- a sound host
-
--- the keys of the parts that no guest of this kind goes without
-abbrev pub needed_keys : Kind → List PartKey
-needed_keys Hvm = context_key ∷ []
-needed_keys Pv = p2m_key ∷ shared_key ∷ vcpu_key 0 ∷ []
 
 abbrev pub AreThere : PartMap → List PartKey → Type 0
 AreThere parts [] = ⊤

@@ -2,13 +2,11 @@ ghost use Rattle.std.specs.Prelude.{◌≡◌, ◌≤◌, ◌<◌, ◌^◌, ℕ,
 ghost use Rattle.std.specs.Option.{option_copied, option_map, option_or};
 ghost use Rattle.std.specs.FinMap as maps;
 ghost use Rattle.mig_headers.specs.declared.unsound.Unsound.TheVariants.{Superpage, NoFrame, GdtEnts, VcpuFrame, BadContext};
-ghost use Rattle.mig_headers.specs.declared.kind.Kind.TheVariants.{Hvm, Pv};
 ghost use Rattle.mig_pagetypes.specs.Limits.{pfn_limit};
 ghost use Rattle.mig_pagetypes.specs.PageTypes.{level_of};
+ghost use Rattle.mig_guest.specs.declared.part_key.PartKey.{PartKey};
 ghost use Rattle.mig_guest.specs.Frames.{NextEntry};
-ghost use Rattle.mig_guest.specs.PartCodes.{code_number};
 ghost use Rattle.mig_guest.specs.PartKeys.{p2m_key};
-ghost use Rattle.mig_guest.specs.Parts.{NextPart};
 ghost use Rattle.mig_pvtables.specs.BadEntries.{is_unknown};
 ghost use Rattle.mig_pvtables.specs.Faults.{find_slot, find_entry, find_in_contexts, field_numbers, first_cause, first_some};
 ghost use Rattle.mig_pvtables.specs.P2mFrames.{count_in};
@@ -16,52 +14,22 @@ ghost use Rattle.mig_pvtables.specs.Tables.{is_superpage};
 ghost use Rattle.mig_host_view.specs.Sound.{absent, needed_keys, misnames, machine_type as type_of_machine_frame, find_gdt, find_context_fault, unsound_rows};
 
 use mig_bytes::Memory;
-use mig_guest::{FrameStore, MOST_GDT_ENTRIES, PartCode, PartKey, Parts};
+use mig_guest::{FrameStore, MOST_GDT_ENTRIES, PartCode, Parts};
 use mig_headers::{ContextFault, Kind, Unsound};
 use mig_hvm::scan_context;
 use mig_pagetypes::PageType;
 use mig_pvtables::{
-    FIELDS, Frames, VCPU_BASIC, frame_type, gdt_ents, host_frame, is_type_of_field, lacks,
-    misplaced_frame, sole_key, superpage_slot, unknown_slot,
+    FIELDS, Frames, frame_type, gdt_ents, host_frame, is_type_of_field, misplaced_frame,
+    missing_part, next_context, sole_key, superpage_slot, unknown_slot,
 };
 use std::alloc::Global;
-
-/// That the only part of its code isn't there.
-fn absent_part(parts: &Parts, code: PartCode) -> Option<Unsound>
-    ensures { result ≡ absent parts.now (record { code = code_number code; key1 = 0; key2 = 0 }) }
-{
-    if lacks(parts, code) {
-        Some(Unsound::Missing(u64::from(code.number())))
-    } else {
-        None
-    }
-}
-
-/// The first of the parts that each PV guest has that isn't there. Of the contexts, that of vCPU 0 has to be.
-#[tactic(auto, using(mig_pvtables::proofs::Searches::first_of_three))]
-fn absent_pv_part(parts: &Parts) -> Option<Unsound>
-    ensures { result ≡ first_some (absent parts.now) (needed_keys Pv) }
-{
-    absent_part(parts, PartCode::P2mFrames)
-        .or(absent_part(parts, PartCode::SharedInfo))
-        .or(absent_part(parts, PartCode::VcpuBasic))
-}
-
-/// The first of the parts that each HVM guest has that isn't there.
-fn absent_hvm_part(parts: &Parts) -> Option<Unsound>
-    ensures { result ≡ first_some (absent parts.now) (needed_keys Hvm) }
-{
-    absent_part(parts, PartCode::HvmContext)
-}
 
 /// The first of the parts that each guest of this kind has that isn't there.
 fn absent_needed(kind: Kind, parts: &Parts) -> Option<Unsound>
     ensures { result ≡ first_some (absent parts.now) (needed_keys kind) }
 {
-    match kind {
-        Kind::Hvm => absent_hvm_part(parts),
-        Kind::Pv => absent_pv_part(parts),
-    }
+    let code = missing_part(kind, parts)?;
+    Some(Unsound::Missing(code))
 }
 
 /// The first superpage in a frame, which may be no table.
@@ -125,17 +93,6 @@ fn bad_entry<F: Frames>(frames: &FrameStore, machines: &F) -> Option<Unsound>
     }
     let (pfn, slot) = unknown?;
     Some(Unsound::NoFrame(pfn, slot as u64))
-}
-
-/// The context of a vCPU with the least key above `after`, or of all.
-fn next_context(parts: &Parts, after: Option<PartKey>) -> Option<(PartKey, &[u8; 5168])>
-    requires contexts { (key : PartKey) (context : List ℕ) → maps.get parts.now key ≡ Some context → key.code ≡ 4 → length context ≡ 5168 }
-    requires code { IfSome after (λ key. key.code ≡ 4) }
-    ensures next { NextPart 4 after (maps.entries parts.now) (option_map (λ e. (e.0, e.1.now)) result) }
-    ensures code { IfSome result (λ e. e.0.code ≡ 4) }
-{
-    let (key, bytes) = parts.next_of_code(VCPU_BASIC, after)?;
-    Some((key, bytes.as_array::<5168>().unwrap()))
 }
 
 /// The first vCPU whose GDT has too many descriptors: its id, and how many.

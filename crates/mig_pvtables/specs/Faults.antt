@@ -35,6 +35,14 @@ first_cause (cause ∷ causes) = option_or cause (first_cause causes)
 
 -- ---- a part that no guest of this kind goes without
 
+abbrev pub needed_keys : Kind → List PartKey
+needed_keys Hvm = context_key ∷ []
+needed_keys Pv = p2m_key ∷ shared_key ∷ vcpu_key 0 ∷ []
+
+-- the code of a part that isn't there
+abbrev pub missing_code : PartMap → PartKey → Option ℕ
+missing_code parts key = if is_none (maps.get parts key) then Some key.code else None
+
 abbrev pub missing : PartMap → PartKey → Option Cause
 missing parts key = if is_none (maps.get parts key) then Some (Missing key.code) else None
 

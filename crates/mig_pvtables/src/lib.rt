@@ -29,7 +29,7 @@ pub use law::{
     hvm_guest_is_blank, hvm_guest_is_whole, pv_guest_is_whole, some_blank_pv_guest_is_whole,
     whole_as_its_blank_form, worked_pv_guest_is_whole,
 };
-pub use listing::{frame_type, lacks, listed_pfn, misplaced_frame, sole_key};
+pub use listing::{PartsByKey, frame_type, listed_pfn, misplaced_frame, missing_part, sole_key};
 pub use mig_guest::Entry;
 pub use p2m::p2m_page;
 pub use rename::{BadEntry, Why, localise_table, normalise_table, rename_back, unknown_slot};
@@ -39,4 +39,6 @@ pub use renaming_law::{
 pub use table::{check_table, entry, put_entry, superpage_slot};
 pub use testing::{WholeAnswer, is_type_of_field, whole};
 pub use vcpu::{FIELDS, VCPU_BASIC, gdt_ents, host_frame, put_vcpu_frame, vcpu_frame};
-pub use walking::{ContextStep, P2mStep, TableStep, each_context, each_p2m_frame, each_table};
+pub use walking::{
+    ContextStep, P2mStep, TableStep, each_context, each_p2m_frame, each_table, next_context,
+};

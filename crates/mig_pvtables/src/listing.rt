@@ -2,13 +2,15 @@ ghost use Rattle.std.specs.FinMap as maps;
 ghost use Rattle.mig_guest.specs.PartKeys.{p2m_key};
 ghost use Rattle.std.specs.Prelude.{◌≡◌, ◌≤◌, ◌<◌, ◌^◌, IfSome, IfOk, IsSome, is_none, ◌||◌, not, if◌then◌else◌};
 ghost use Rattle.mig_guest.specs.PartCodes.{code_number};
+ghost use Rattle.mig_guest.specs.Parts.{PartMap};
 ghost use Rattle.mig_pagetypes.specs.Limits.{pfn_limit};
-ghost use Rattle.mig_pvtables.specs.Faults.{is_needed as has_frames, is_notab, type_at, find_p2m};
+ghost use Rattle.mig_pvtables.specs.Faults.{first_some, needed_keys, missing_code as code_of_missing, is_needed as has_frames, is_notab, type_at, find_p2m};
 ghost use Rattle.mig_pvtables.specs.P2mFrames.{count_in, listed};
 ghost use Rattle.mig_pvtables.specs.P2mMarks.{clashes};
 
 use mig_bytes::{Memory, u64_le};
 use mig_guest::{FrameStore, PartCode, PartKey, Parts};
+use mig_headers::Kind;
 use mig_pagestore_index::Index;
 use mig_pagetypes::PageType;
 use std::alloc::Global;
@@ -29,11 +31,47 @@ pub fn sole_key(code: PartCode) -> PartKey
     }
 }
 
-/// Whether the only part of its code isn't there.
-pub fn lacks(parts: &Parts, code: PartCode) -> bool
-    ensures { result ≡ is_none (maps.get parts.now (record { code = code_number code; key1 = 0; key2 = 0 })) }
+/// Whoever has parts by their keys.
+pub trait PartsByKey {
+    /// The parts.
+    ghost parts: { Self → PartMap };
+
+    /// Whether there is no part of this key.
+    fn lacks(&self, key: PartKey) -> bool
+        ensures { result ≡ is_none (maps.get (parts self.now) key) };
+}
+
+impl PartsByKey for Parts {
+    ghost parts = { λ parts. parts };
+
+    fn lacks(&self, key: PartKey) -> bool {
+        self.get(key).is_none()
+    }
+}
+
+/// The number of a code whose only part isn't there.
+fn missing_code<P: PartsByKey>(parts: &P, code: PartCode) -> Option<u64>
+    ensures { result ≡ code_of_missing (P.parts parts.now) (record { code = code_number code; key1 = 0; key2 = 0 }) }
 {
-    parts.get(sole_key(code)).is_none()
+    if parts.lacks(sole_key(code)) {
+        Some(u64::from(code.number()))
+    } else {
+        None
+    }
+}
+
+/// The code of the first of the parts that each guest of this kind has that isn't there, as a number. Of the contexts of
+/// a PV guest, that of vCPU 0 has to be.
+#[tactic(auto, using(crate::proofs::Searches::first_of_three))]
+pub fn missing_part<P: PartsByKey>(kind: Kind, parts: &P) -> Option<u64>
+    ensures { result ≡ first_some (code_of_missing (P.parts parts.now)) (needed_keys kind) }
+{
+    match kind {
+        Kind::Hvm => missing_code(parts, PartCode::HvmContext),
+        Kind::Pv => missing_code(parts, PartCode::P2mFrames)
+            .or(missing_code(parts, PartCode::SharedInfo))
+            .or(missing_code(parts, PartCode::VcpuBasic)),
+    }
 }
 
 /// The PFN of P2M frame `index`, where there are so many.

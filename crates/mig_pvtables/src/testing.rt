@@ -5,17 +5,17 @@ ghost use Rattle.mig_headers.specs.declared.fault.Cause.TheVariants.{TargetAbsen
 ghost use Rattle.mig_headers.specs.declared.kind.Kind.TheVariants.{Hvm, Pv};
 ghost use Rattle.mig_pagetypes.specs.PageTypes.{level_of};
 ghost use Rattle.mig_guest.specs.Formed.{IsFormed};
-ghost use Rattle.mig_guest.specs.PartCodes.{code_number};
-ghost use Rattle.mig_guest.specs.PartKeys.{p2m_key, shared_key, vcpu_key};
+ghost use Rattle.mig_guest.specs.declared.part_key.PartKey.{PartKey};
 ghost use Rattle.mig_guest.specs.Tables.{entry as what_is_said};
-ghost use Rattle.mig_pvtables.specs.Faults.{find_slot, find_entry, is_absent, slots, find_field, misfits, fits_field, field_numbers, missing, too_many as more_than_allowed, first_cause, fault_of_guest};
+ghost use Rattle.mig_pvtables.specs.Faults.{find_slot, find_entry, is_absent, slots, find_field, misfits, fits_field, field_numbers, needed_keys, first_some, missing, too_many as more_than_allowed, first_cause, fault_of_guest};
 ghost use Rattle.mig_pvtables.specs.declared.testing.WholeAnswer.TheVariants.{Fault, Memory as NoMemory};
 
-use crate::listing::{lacks, misplaced_frame};
+use crate::listing::{misplaced_frame, missing_part};
 use crate::table::{SLOTS, entry};
-use crate::vcpu::{FIELDS, VCPU_BASIC, vcpu_frame};
+use crate::vcpu::{FIELDS, vcpu_frame};
+use crate::walking::next_context;
 use mig_bytes::Memory;
-use mig_guest::{Entry, Guest, PartCode, PartKey, Parts};
+use mig_guest::{Entry, Guest};
 use mig_headers::{Cause, Kind};
 use mig_pagetypes::{MOST_FRAMES, PageType};
 use std::alloc::Global;
@@ -32,15 +32,12 @@ pub enum WholeAnswer {
     Memory,
 }
 
-/// That the only part of its code isn't there.
-fn absent_part(parts: &Parts, code: PartCode) -> Option<Cause>
-    ensures { result ≡ missing parts.now (record { code = code_number code; key1 = 0; key2 = 0 }) }
+/// The first of the parts that each guest of its kind has that isn't there.
+fn absent_part(guest: &Guest) -> Option<Cause>
+    ensures { result ≡ first_some (missing guest.now.parts) (needed_keys guest.now.kind) }
 {
-    if lacks(parts, code) {
-        Some(Cause::Missing(u64::from(code.number())))
-    } else {
-        None
-    }
+    let code = missing_part(guest.kind(), guest.parts())?;
+    Some(Cause::Missing(code))
 }
 
 /// That there are more frames than a guest may have.
@@ -127,24 +124,13 @@ fn bad_field(guest: &Guest) -> Option<(u32, u8)>
     ensures { result ≡ find_field guest.now.frames guest.now.parts }
 {
     let mut after = None;
-    while let Some((key, bytes)) = guest.next_of_code(VCPU_BASIC, after) {
-        let context = bytes.as_array::<5168>().unwrap();
+    while let Some((key, context)) = next_context(guest.parts(), after) {
         if let Some(field) = misfit(guest, context, key.key1) {
             return Some((key.key1, field));
         }
         after = Some(key);
     }
     None
-}
-
-/// The first of the parts that each PV guest has that isn't there. Of the contexts, that of vCPU 0 has to be.
-#[tactic(auto, using(crate::proofs::Searches::first_of_three))]
-fn absent_pv_part(parts: &Parts) -> Option<Cause>
-    ensures { result ≡ first_cause (missing parts.now p2m_key ∷ missing parts.now shared_key ∷ missing parts.now (vcpu_key 0) ∷ []) }
-{
-    absent_part(parts, PartCode::P2mFrames)
-        .or(absent_part(parts, PartCode::SharedInfo))
-        .or(absent_part(parts, PartCode::VcpuBasic))
 }
 
 /// The first cause in a PV guest that comes behind those of its P2M frames.
@@ -168,7 +154,7 @@ fn pv_fault(alloc: Global, guest: &Guest) -> Result<Option<Cause>, Memory>
     requires pv { guest.now.kind ≡ Pv }
     ensures { IfOk result (λ fault. fault ≡ fault_of_guest guest.now) }
 {
-    if let Some(cause) = absent_pv_part(guest.parts()) {
+    if let Some(cause) = absent_part(guest) {
         return Ok(Some(cause));
     }
     if let Some(place) = misplaced_frame(alloc, guest.frame_store(), guest.parts())? {
@@ -182,7 +168,7 @@ fn hvm_fault(guest: &Guest) -> Option<Cause>
     requires { guest.now.kind ≡ Hvm }
     ensures { result ≡ fault_of_guest guest.now }
 {
-    absent_part(guest.parts(), PartCode::HvmContext).or(too_many(guest))
+    absent_part(guest).or(too_many(guest))
 }
 
 /// Whether a guest that is well formed is whole; else the first cause in it, at its least place. An HVM guest is tested

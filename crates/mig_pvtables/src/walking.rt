@@ -1,9 +1,11 @@
 ghost use Rattle.std.specs.Prelude.{◌≡◌, ◌≤◌, ◌<◌, ℕ, List, length, Some, IfSome};
 ghost use Rattle.std.specs.Ordering.{nat_cmp};
+ghost use Rattle.std.specs.Option.{option_map};
 ghost use Rattle.std.specs.FinMap as maps;
 ghost use Rattle.mig_guest.specs.declared.part_key.PartKey.{PartKey};
 ghost use Rattle.mig_guest.specs.Order.{part_cmp};
 ghost use Rattle.mig_guest.specs.PartKeys.{p2m_key};
+ghost use Rattle.mig_guest.specs.Parts.{NextPart};
 ghost use Rattle.mig_pvtables.specs.Blank.{each_value};
 ghost use Rattle.mig_pvtables.specs.BlankSteps.{only, with_table_changed, with_other_page, written_where_listed, blanked_code};
 ghost use Rattle.mig_pvtables.specs.P2mFrames.{count_in};
@@ -119,6 +121,17 @@ pub fn each_p2m_frame<S: P2mStep>(guest: &mut Guest, step: &S)
             write_frame(guest, pfn, index as u64, step);
         }
     }
+}
+
+/// The context of a vCPU with the least key above `after`, or of all.
+pub fn next_context(parts: &Parts, after: Option<PartKey>) -> Option<(PartKey, &[u8; 5168])>
+    requires contexts { (key : PartKey) (context : List ℕ) → maps.get parts.now key ≡ Some context → key.code ≡ 4 → length context ≡ 5168 }
+    requires code { IfSome after (λ key. key.code ≡ 4) }
+    ensures next { NextPart 4 after (maps.entries parts.now) (option_map (λ e. (e.0, e.1.now)) result) }
+    ensures code { IfSome result (λ e. e.0.code ≡ 4) }
+{
+    let (key, bytes) = parts.next_of_code(VCPU_BASIC, after)?;
+    Some((key, bytes.as_array::<5168>().unwrap()))
 }
 
 /// Changes the context of this key, where there is one.

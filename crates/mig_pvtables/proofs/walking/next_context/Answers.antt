@@ -1,6 +1,6 @@
-use Rattle.mig_guest.specs.Parts.{Part}
+use Rattle.mig_pvtables.proofs.Common.{Part}
 use Rattle.mig_pvtables.proofs.Walks.{context_there}
-use Rattle.mig_host_view.proofs.soundness.next_context.Goals as goal
+use Rattle.mig_pvtables.proofs.walking.next_context.Goals as goal
 
 pub unwrap-requires : goal.unwrap-requires
 unwrap-requires c =
