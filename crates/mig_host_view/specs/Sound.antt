@@ -1,5 +1,5 @@
 -- Whether a host can be seen as a guest, and what is in the way: each cause at its least place.
-use Rattle.std.specs.Prelude.{◌≡◌, ◌≤◌, ℕ, ⊤, Bool, true, List, [], ◌∷◌, Option, Some, None, Result, Ok, Err, IsSome, is_none, ◌==◌, ◌&&◌, not, nat_lt, option_and_then, if◌then◌else◌}
+use Rattle.std.specs.Prelude.{◌≡◌, ◌≤◌, ℕ, ⊤, Bool, true, List, [], ◌∷◌, Option, Some, None, Result, Ok, Err, IsSome, is_none, ◌==◌, ◌&&◌, nat_lt, option_and_then, if◌then◌else◌}
 use Rattle.std.specs.Option.{option_map}
 use Rattle.std.specs.FinMap as maps
 use Rattle.mig_headers.specs.Contexts.{scan}
@@ -19,7 +19,7 @@ use Rattle.mig_guest.specs.Tables.{EachEntry}
 use Rattle.mig_guest.specs.Limits.{most_gdt_entries}
 use Rattle.mig_pvtables.specs.BadEntries.{is_unknown, NamesKnown}
 pub use Rattle.mig_pvtables.specs.Faults.{needed_keys}
-use Rattle.mig_pvtables.specs.Faults.{first_some, first_cause, type_at, fits_field, find_p2m, find_entry, find_in_contexts}
+use Rattle.mig_pvtables.specs.Faults.{first_some, first_cause, type_at, fits_field, find_p2m, find_entry, find_in_contexts, misses}
 use Rattle.mig_pvtables.specs.Tables.{is_superpage}
 use Rattle.mig_pvtables.specs.VcpuContexts.{field_value, is_used_somewhere, frame_of_field}
 use Rattle.mig_pvtables.specs.WholePv.{AreP2mFrames}
@@ -61,8 +61,7 @@ absent parts key = if is_none (maps.get parts key) then Some (Missing key.code) 
 
 -- the field is used in a host, and says no machine frame of its type
 abbrev pub misnames : FrameMap → (ℕ → Option ℕ) → ℕ → List ℕ → ℕ → Bool
-misnames frames pfn_of id context field =
-    is_used_somewhere id (gdt_ents context) field (field_value context field) && not (fits_field field (machine_type frames pfn_of (frame_of_field field (field_value context field))))
+misnames frames pfn_of id context field = misses is_used_somewhere (machine_type frames pfn_of) id context field
 
 -- the first vCPU whose GDT has too many descriptors, by its id and their number
 abbrev pub find_gdt : PartMap → Option (ℕ × ℕ)

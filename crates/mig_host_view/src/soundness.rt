@@ -8,9 +8,10 @@ ghost use Rattle.mig_guest.specs.declared.part_key.PartKey.{PartKey};
 ghost use Rattle.mig_guest.specs.Frames.{NextEntry};
 ghost use Rattle.mig_guest.specs.PartKeys.{p2m_key};
 ghost use Rattle.mig_pvtables.specs.BadEntries.{is_unknown};
-ghost use Rattle.mig_pvtables.specs.Faults.{find_slot, find_entry, find_in_contexts, field_numbers, first_cause, first_some};
+ghost use Rattle.mig_pvtables.specs.Faults.{find_slot, find_entry, find_in_contexts, first_cause, first_some};
 ghost use Rattle.mig_pvtables.specs.P2mFrames.{count_in};
 ghost use Rattle.mig_pvtables.specs.Tables.{is_superpage};
+ghost use Rattle.mig_pvtables.specs.VcpuContexts.{is_used_somewhere};
 ghost use Rattle.mig_host_view.specs.Sound.{absent, needed_keys, misnames, machine_type as type_of_machine_frame, find_gdt, find_context_fault, unsound_rows};
 
 use mig_bytes::Memory;
@@ -19,7 +20,7 @@ use mig_headers::{ContextFault, Kind, Unsound};
 use mig_hvm::scan_context;
 use mig_pagetypes::PageType;
 use mig_pvtables::{
-    FIELDS, Frames, frame_type, gdt_ents, host_frame, is_type_of_field, misplaced_frame,
+    FieldFrames, Frames, bad_field, frame_type, gdt_ents, host_frame, misplaced_frame,
     missing_part, next_context, sole_key, superpage_slot, unknown_slot,
 };
 use std::alloc::Global;
@@ -111,46 +112,26 @@ pub fn large_gdt(parts: &Parts) -> Option<(u32, u64)>
     None
 }
 
-/// The type of the frame that has a machine frame.
-fn machine_type<F: Frames>(frames: &FrameStore, machines: &F, mfn: u64) -> Option<PageType>
-    ensures { result ≡ type_of_machine_frame frames.now.frames (F.pfns machines.now) mfn }
-{
-    let pfn = machines.pfn_of(mfn)?;
-    frame_type(frames, pfn)
+/// The frames of a guest in a machine, by their machine frames.
+#[derive(Drop)]
+struct InMachine<'a, F> {
+    frames: &'a FrameStore,
+    machines: &'a F,
 }
 
-/// The first field of a vCPU's context that a host uses and that says no machine frame of its type.
-fn misname<F: Frames>(
-    frames: &FrameStore,
-    machines: &F,
-    context: &[u8; 5168],
-    id: u32,
-) -> Option<u8>
-    ensures { result ≡ find (misnames frames.now.frames (F.pfns machines.now) id context.now) field_numbers }
-{
-    for field in 0..FIELDS {
-        if let Some(mfn) = host_frame(context, id, field) {
-            if !is_type_of_field(field, machine_type(frames, machines, mfn)) {
-                return Some(field);
-            }
-        }
-    }
-    None
-}
+impl<F: Frames> FieldFrames for InMachine<'_, F> {
+    ghost used = { λ _. is_used_somewhere };
 
-/// The first field of a vCPU that a host uses and that says no machine frame of its type: the vCPU's id, and the field.
-fn bad_field<F: Frames>(frames: &FrameStore, parts: &Parts, machines: &F) -> Option<(u32, u8)>
-    requires { (key : PartKey) (context : List ℕ) → maps.get parts.now key ≡ Some context → key.code ≡ 4 → length context ≡ 5168 }
-    ensures { result ≡ find_in_contexts (misnames frames.now.frames (F.pfns machines.now)) parts.now }
-{
-    let mut after = None;
-    while let Some((key, context)) = next_context(parts, after) {
-        if let Some(field) = misname(frames, machines, context, key.key1) {
-            return Some((key.key1, field));
-        }
-        after = Some(key);
+    ghost types = { λ it. type_of_machine_frame it.frames.now.frames (F.pfns it.machines.now) };
+
+    fn field_frame(&self, context: &[u8; 5168], id: u32, field: u8) -> Option<u64> {
+        host_frame(context, id, field)
     }
-    None
+
+    fn type_of(&self, frame: u64) -> Option<PageType> {
+        let pfn = self.machines.pfn_of(frame)?;
+        frame_type(self.frames, pfn)
+    }
 }
 
 /// What is wrong with the context of an HVM guest, where there is one.
@@ -174,7 +155,7 @@ fn bad_context<F: Frames>(frames: &FrameStore, parts: &Parts, machines: &F) -> O
     if let Some((id, descriptors)) = large_gdt(parts) {
         return Some(Unsound::GdtEnts(u64::from(id), descriptors));
     }
-    if let Some((id, field)) = bad_field(frames, parts, machines) {
+    if let Some((id, field)) = bad_field(parts, &InMachine { frames, machines }) {
         return Some(Unsound::VcpuFrame(u64::from(id), u64::from(field)));
     }
     let fault = context_fault(parts)?;

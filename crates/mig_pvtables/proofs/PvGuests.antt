@@ -1,5 +1,5 @@
 -- The rows of faults find nothing in a PV guest exactly where what they look for isn't there.
-use Rattle.mig_pvtables.proofs.Common.{◌≡◌, ℕ, ◌+◌, ◌*◌, ◌<◌, ◌≤◌, Bool, true, false, cond, not, List, length, Option, Some, None, is_some, IsSome, refl, sym, ap, ◌∙◌, arith, ◌↔◌, find, ◌&&◌, ◌||◌, range_with_len, option_map, nat_cmp_total, nat_cmp-IsAntisymmetric, eqb-true, eq-eqb, ltb-true, or_parts, or_from, Missing, Pv, PageType, level_of, PartKey, Entry, Frame, gdt_ents, FrameOf, FrameMap, GuestOf, PartMap, p2m_key, vcpu_key, shared_key, entry, EachEntry, part_total, part_exact, field_value, is_used, frame_of_field, count_in, listed_in, listed, first_cause, type_at, is_notab, is_needed, is_this, is_misplaced, find_p2m, find_slot, find_entry, is_absent, fits_field, faults_for, fault_of_guest, IsWhole, cond_some, Notab, Usage, IsEmptyRange, AreP2mFrames, IsCompletePv}
+use Rattle.mig_pvtables.proofs.Common.{◌≡◌, ℕ, ◌+◌, ◌*◌, ◌<◌, ◌≤◌, Bool, true, false, cond, not, List, length, Option, Some, None, is_some, IsSome, refl, sym, ap, ◌∙◌, arith, ◌↔◌, find, ◌&&◌, ◌||◌, range_with_len, option_map, nat_cmp_total, nat_cmp-IsAntisymmetric, eqb-true, eq-eqb, ltb-true, or_parts, or_from, Missing, Pv, PageType, level_of, PartKey, Entry, Frame, gdt_ents, FrameOf, FrameMap, GuestOf, PartMap, p2m_key, vcpu_key, shared_key, entry, EachEntry, part_total, part_exact, field_value, is_used, frame_of_field, count_in, listed_in, listed, first_cause, type_at, is_notab, is_needed, is_this, is_misplaced, find_p2m, find_slot, find_entry, is_absent, fits_field, faults_for, fault_of_guest, IsWhole, cond_some, Notab, Usage, IsEmptyRange, AreP2mFrames, IsCompletePv, misses}
 use Rattle.std.proofs.lemmas.Bool.{cond-true, cond_both}
 use Rattle.mig_pvtables.specs.Faults.{find_field, slots, field_numbers, find_in_contexts}
 use Rattle.std.proofs.Common.{◌==◌}
@@ -69,13 +69,10 @@ module _ (bad : ℕ → List ℕ → ℕ → Bool) (parts : PartMap) where
 
 -- fields that are used and say no frame of their type, where type_of gives the type of the frame that is said
 module _ (used : Usage) (type_of : ℕ → Option PageType) where
-  abbrev pub misses : ℕ → List ℕ → ℕ → Bool
-  misses id context field = used id (gdt_ents context) field (field_value context field) && not (fits_field field (type_of (frame_of_field field (field_value context field))))
-
-  pub none_misses : (parts : PartMap) → (find_in_contexts misses parts ≡ None) ↔ ((key : PartKey) (context : List ℕ) → maps.get parts key ≡ Some context → key.code ≡ 4
+  pub none_misses : (parts : PartMap) → (find_in_contexts (misses used type_of) parts ≡ None) ↔ ((key : PartKey) (context : List ℕ) → maps.get parts key ≡ Some context → key.code ≡ 4
       → (field : ℕ) → field ≤ 18 → used key.key1 (gdt_ents context) field (field_value context field) ≡ true → fits_field field (type_of (frame_of_field field (field_value context field))) ≡ true)
   none_misses parts =
-      let search = none_in_contexts misses parts in
+      let search = none_in_contexts (misses used type_of) parts in
       let fits = λ (key : PartKey) (context : List ℕ) (field : ℕ). not_both (used key.key1 (gdt_ents context) field (field_value context field)) (fits_field field (type_of (frame_of_field field (field_value context field)))) in (
         (λ none key context is code field most. (fits key context field).0 (search.0 none key context is code field most)),
         (λ fit. search.1 (λ key context is code field most. (fits key context field).1 (fit key context is code field most))),

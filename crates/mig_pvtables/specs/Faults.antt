@@ -20,7 +20,7 @@ use Rattle.mig_guest.specs.Parts.{PartMap}
 use Rattle.mig_guest.specs.PartKeys.{p2m_key, vcpu_key, shared_key, context_key}
 use Rattle.mig_guest.specs.Tables.{entry}
 use Rattle.mig_guest.specs.Formed.{gdt_ents}
-use Rattle.mig_pvtables.specs.VcpuContexts.{field_value, is_used, frame_of_field}
+use Rattle.mig_pvtables.specs.VcpuContexts.{Usage, field_value, is_used, frame_of_field}
 use Rattle.mig_pvtables.specs.P2mFrames.{count_in, listed}
 
 -- the first answer that f gives along a list
@@ -111,10 +111,13 @@ abbrev pub find_in_contexts : (ℕ → List ℕ → ℕ → Bool) → PartMap �
 find_in_contexts bad parts =
     first_some (λ e. if e.0.code == 4 then option_map (λ field. (e.0.key1, field)) (find (bad e.0.key1 e.1) field_numbers) else None) (maps.entries parts)
 
--- the field is used, and says no frame of its type
+-- the field is used, and says no frame of its type, where type_of gives the type of the frame that is said
+abbrev pub misses : Usage → (ℕ → Option PageType) → ℕ → List ℕ → ℕ → Bool
+misses used type_of id context field = used id (gdt_ents context) field (field_value context field) && not (fits_field field (type_of (frame_of_field field (field_value context field))))
+
+-- the same in a stream
 abbrev pub misfits : FrameMap → ℕ → List ℕ → ℕ → Bool
-misfits frames id context field =
-    is_used id (gdt_ents context) field (field_value context field) && not (fits_field field (type_at frames (frame_of_field field (field_value context field))))
+misfits frames id context field = misses is_used (type_at frames) id context field
 
 abbrev pub find_field : FrameMap → PartMap → Option (ℕ × ℕ)
 find_field frames parts = find_in_contexts (misfits frames) parts

@@ -56,9 +56,13 @@ blanked_shared bytes = each_long 512 blanked_shared_value bytes
 
 -- ---- a field of its own
 
+-- the frame that the field says, where vCPU id uses it
+abbrev pub says_where : Usage → ℕ → List ℕ → ℕ → Option ℕ
+says_where used id context field = if used id (gdt_ents context) field (field_value context field) then Some (frame_of_field field (field_value context field)) else None
+
 -- the frame that the field says, where vCPU id uses it in a stream
 abbrev pub field_says : ℕ → List ℕ → ℕ → Option ℕ
-field_says id context field = if is_used id (gdt_ents context) field (field_value context field) then Some (frame_of_field field (field_value context field)) else None
+field_says id context field = says_where is_used id context field
 
 -- whether vCPU id uses the field in a stream or in a host: there ctrlreg[1] is used where it isn't 0
 abbrev pub is_used_somewhere : ℕ → ℕ → ℕ → ℕ → Bool
@@ -66,8 +70,7 @@ is_used_somewhere id ents field v = if field == 18 then not (v == 0) else is_use
 
 -- the frame that the field says, where vCPU id uses it in a stream or in a host
 abbrev pub field_says_somewhere : ℕ → List ℕ → ℕ → Option ℕ
-field_says_somewhere id context field =
-    if is_used_somewhere id (gdt_ents context) field (field_value context field) then Some (frame_of_field field (field_value context field)) else None
+field_says_somewhere id context field = says_where is_used_somewhere id context field
 
 -- the value that says the frame
 abbrev pub field_of_frame : ℕ → ℕ → ℕ

@@ -11,6 +11,7 @@
 #![tactic(auto)]
 
 mod blanking;
+mod fields;
 mod frames;
 mod law;
 mod listing;
@@ -23,6 +24,7 @@ mod vcpu;
 mod walking;
 
 pub use blanking::{blank, blank_shared_info, blank_vcpus, zero_p2m_frames};
+pub use fields::{FieldFrames, bad_field, is_type_of_field};
 pub use frames::Frames;
 pub use law::{
     blank_form_is_blank, blank_form_is_whole, faultless_table_is_within, hvm_guest_has_two_faults,
@@ -37,7 +39,7 @@ pub use renaming_law::{
     localised_table_comes_back, normalise_table_refuses_the_first, renamed_table_says_the_same,
 };
 pub use table::{check_table, entry, put_entry, superpage_slot};
-pub use testing::{WholeAnswer, is_type_of_field, whole};
+pub use testing::{WholeAnswer, whole};
 pub use vcpu::{FIELDS, VCPU_BASIC, gdt_ents, host_frame, put_vcpu_frame, vcpu_frame};
 pub use walking::{
     ContextStep, P2mStep, TableStep, each_context, each_p2m_frame, each_table, next_context,

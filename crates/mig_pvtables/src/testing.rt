@@ -5,15 +5,13 @@ ghost use Rattle.mig_headers.specs.declared.fault.Cause.TheVariants.{TargetAbsen
 ghost use Rattle.mig_headers.specs.declared.kind.Kind.TheVariants.{Hvm, Pv};
 ghost use Rattle.mig_pagetypes.specs.PageTypes.{level_of};
 ghost use Rattle.mig_guest.specs.Formed.{IsFormed};
-ghost use Rattle.mig_guest.specs.declared.part_key.PartKey.{PartKey};
 ghost use Rattle.mig_guest.specs.Tables.{entry as what_is_said};
-ghost use Rattle.mig_pvtables.specs.Faults.{find_slot, find_entry, is_absent, slots, find_field, misfits, fits_field, field_numbers, needed_keys, first_some, missing, too_many as more_than_allowed, first_cause, fault_of_guest};
+ghost use Rattle.mig_pvtables.specs.Faults.{find_slot, find_entry, is_absent, slots, find_field, needed_keys, first_some, missing, too_many as more_than_allowed, first_cause, fault_of_guest};
 ghost use Rattle.mig_pvtables.specs.declared.testing.WholeAnswer.TheVariants.{Fault, Memory as NoMemory};
 
+use crate::fields::bad_field;
 use crate::listing::{misplaced_frame, missing_part};
 use crate::table::{SLOTS, entry};
-use crate::vcpu::{FIELDS, vcpu_frame};
-use crate::walking::next_context;
 use mig_bytes::Memory;
 use mig_guest::{Entry, Guest};
 use mig_headers::{Cause, Kind};
@@ -93,46 +91,6 @@ fn absent_target(guest: &Guest) -> Option<(u64, usize)>
     None
 }
 
-/// Whether a field of a vCPU's context may say a frame of this type.
-pub fn is_type_of_field(field: u8, kind: Option<PageType>) -> bool
-    ensures { result ≡ fits_field field kind }
-{
-    if field <= 16 {
-        matches!(kind, Some(PageType::Notab))
-    } else {
-        matches!(kind, Some(PageType::L4Tab | PageType::L4Pinned))
-    }
-}
-
-/// The first field of a vCPU's context that is used and says no frame of its type.
-fn misfit(guest: &Guest, context: &[u8; 5168], id: u32) -> Option<u8>
-    ensures value { result ≡ find (misfits guest.now.frames id context.now) field_numbers }
-{
-    for field in 0..FIELDS {
-        if let Some(pfn) = vcpu_frame(context, id, field) {
-            if !is_type_of_field(field, guest.frame(pfn)) {
-                return Some(field);
-            }
-        }
-    }
-    None
-}
-
-/// The first field of a vCPU that is used and says no frame of its type: the vCPU's id, and the field.
-fn bad_field(guest: &Guest) -> Option<(u32, u8)>
-    requires { (key : PartKey) (context : List ℕ) → maps.get guest.now.parts key ≡ Some context → key.code ≡ 4 → length context ≡ 5168 }
-    ensures { result ≡ find_field guest.now.frames guest.now.parts }
-{
-    let mut after = None;
-    while let Some((key, context)) = next_context(guest.parts(), after) {
-        if let Some(field) = misfit(guest, context, key.key1) {
-            return Some((key.key1, field));
-        }
-        after = Some(key);
-    }
-    None
-}
-
 /// The first cause in a PV guest that comes behind those of its P2M frames.
 fn later_fault(guest: &Guest) -> Option<Cause>
     requires { IsFormed guest.now }
@@ -142,7 +100,7 @@ fn later_fault(guest: &Guest) -> Option<Cause>
     if let Some((pfn, slot)) = absent_target(guest) {
         return Some(Cause::TargetAbsent(pfn, slot as u64));
     }
-    if let Some((id, field)) = bad_field(guest) {
+    if let Some((id, field)) = bad_field(guest.parts(), guest) {
         return Some(Cause::VcpuFrame(u64::from(id), u64::from(field)));
     }
     too_many(guest)
