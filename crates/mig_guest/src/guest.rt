@@ -1,7 +1,8 @@
-ghost use Rattle.std.specs.Prelude.{◌≡◌, ◌==◌, ℕ, ◌+◌, ◌<◌, ◌≤◌, length, not, IsOk, OnOk, OnErr, IfSome, IfNone, IsSome, None, is_some, option_and_then};
+ghost use Rattle.std.specs.Prelude.{◌≡◌, ◌==◌, ℕ, ◌+◌, ◌<◌, ◌≤◌, ◌⊎◌, List, length, not, IsOk, OnOk, OnErr, IfSome, IfNone, IsSome, None, Some, Err, true, is_some, option_and_then};
 ghost use Rattle.std.specs.Option.{option_copied, option_copied_mut, option_map};
 ghost use Rattle.std.specs.FinMap as maps;
 ghost use Rattle.std.specs.Borrow.{sem};
+ghost use Rattle.mig_bytes.specs.declared.stop.Stop.TheVariants as stops;
 ghost use Rattle.mig_pagetypes.specs.PageTypes.{type_has_data};
 ghost use Rattle.mig_pagetypes.specs.Limits.{pfn_limit};
 ghost use Rattle.mig_pagetypes.specs.declared.page_type.PageType.TheVariants.{Xtab};
@@ -12,9 +13,9 @@ ghost use Rattle.mig_guest.specs.Parts.{NextPart, NextBehind, NextKey};
 
 use crate::part_key::PartKey;
 use crate::parts::{Parts, bytes_mut};
-use mig_bytes::Memory;
+use mig_bytes::{Memory, Stop};
 use mig_headers::Kind;
-use mig_pagestore::FrameStore;
+use mig_pagestore::{Fill, FrameStore};
 use mig_pagetypes::PageType;
 use std::alloc::Global;
 use std::marker::Model;
@@ -89,6 +90,24 @@ impl Guest {
         ensures taken { kind ≡ Xtab → IsOk result }
     {
         self.frames.set(pfn, kind, page)
+    }
+
+    /// Sets the type of a frame with data, and has its page filled in its place. Behind an error the guest is as it was:
+    /// where the filler stopped, or no memory was found, with nothing taken from the source.
+    pub fn set_filled<S, F: Fill<S>>(
+        &mut self,
+        pfn: u64,
+        kind: PageType,
+        src: &mut S,
+        fill: &F,
+    ) -> Result<(), Stop<F::Cause>>
+        requires small { pfn < pfn_limit }
+        requires paged { type_has_data kind ≡ true }
+        ensures ok { OnOk result ((page : List ℕ) × F.fills fill.now src.old src.new page result × (self.new ≡ record self.old { frames = framed self.old.frames pfn kind (Some page) })) }
+        ensures err { OnErr result (self.new ≡ self.old) }
+        ensures stopped { OnErr result (((page : List ℕ) × F.fills fill.now src.old src.new page result) ⊎ ((result ≡ Err stops.Memory) × (src.new ≡ src.old))) }
+    {
+        self.frames.set_filled(pfn, kind, src, fill)
     }
 
     /// The type of this frame; none where the guest doesn't have it.

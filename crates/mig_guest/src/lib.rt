@@ -33,7 +33,7 @@ pub use law::{
     setting_policies_keeps_formed,
 };
 pub use machine_law::{footprint_laws, members_laws, rounds_laws};
-pub use mig_pagestore::FrameStore;
+pub use mig_pagestore::{Fill, FrameStore};
 pub use part_code::{
     EMULATOR_CONTEXT, EMULATOR_PAIRS, MOST_GDT_ENTRIES, MOST_PAIRS, PartCode, is_fixed,
 };

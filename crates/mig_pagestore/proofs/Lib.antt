@@ -4,6 +4,7 @@ pub mod Mapping
 pub mod FrameCells
 pub mod Places
 pub mod Led
+pub mod FilledPages
 pub mod Seen
 pub mod Loans
 pub mod PagesSeen

@@ -9,7 +9,7 @@ module _ {X : Type 0} where
   get_left (x ∷ xs) ys zero lt = refl
   get_left (x ∷ xs) ys (suc i) lt = get_left xs ys i (omega arith)
 
-  get_right : (xs ys : List X) (i k : ℕ) → i ≡ length xs + k → slice_get (xs ++ ys) i ≡ slice_get ys k
+  pub get_right : (xs ys : List X) (i k : ℕ) → i ≡ length xs + k → slice_get (xs ++ ys) i ≡ slice_get ys k
   get_right [] ys i k e = let same : i ≡ k = omega arith in ap (slice_get ys) same
   get_right (x ∷ xs) ys zero k e = absurd (omega arith)
   get_right (x ∷ xs) ys (suc i) k e = get_right xs ys i k (omega arith)
@@ -19,7 +19,7 @@ module _ {X : Type 0} where
   set_left (x ∷ xs) ys zero w lt = refl
   set_left (x ∷ xs) ys (suc i) w lt = ap (λ l. x ∷ l) (set_left xs ys i w (omega arith))
 
-  set_right : (xs ys : List X) (i k : ℕ) (w : X) → i ≡ length xs + k → set (xs ++ ys) i w ≡ xs ++ set ys k w
+  pub set_right : (xs ys : List X) (i k : ℕ) (w : X) → i ≡ length xs + k → set (xs ++ ys) i w ≡ xs ++ set ys k w
   set_right [] ys i k w e = let same : i ≡ k = omega arith in ap (λ m. set ys m w) same
   set_right (x ∷ xs) ys zero k w e = absurd (omega arith)
   set_right (x ∷ xs) ys (suc i) k w e = ap (λ l. x ∷ l) (set_right xs ys i k w (omega arith))

@@ -1,4 +1,5 @@
 pub mod Packed
+pub mod Filling
 pub mod ArenaLends
 pub mod Frames
 pub mod Mapped

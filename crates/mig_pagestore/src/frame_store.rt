@@ -1,4 +1,4 @@
-ghost use Rattle.std.specs.Prelude.{◌≡◌, ◌≢◌, ℕ, ◌+◌, ◌-◌, ◌^◌, ◌<◌, ◌≤◌, [], ◌∷◌, ◌++◌, length, vec_capacity, IsSome, IsOk, OnOk, OnErr, IfSome, IfNone, Some, None, is_some};
+ghost use Rattle.std.specs.Prelude.{◌≡◌, ◌≢◌, ℕ, ◌+◌, ◌-◌, ◌^◌, ◌<◌, ◌≤◌, ◌⊎◌, List, [], ◌∷◌, ◌++◌, length, vec_capacity, IsSome, IsOk, OnOk, OnErr, IfSome, IfNone, Some, None, Err, true, is_some};
 ghost use Rattle.std.specs.Option.{option_copied, option_copied_mut, option_map};
 ghost use Rattle.std.specs.FinMap as maps;
 ghost use Rattle.std.specs.Borrow.{sem};
@@ -8,9 +8,12 @@ ghost use Rattle.mig_pagetypes.specs.declared.page_type.PageType.TheVariants.{Xt
 ghost use Rattle.mig_pagestore.specs.Frames.{FrameOf, frame_page, IsSized, framed};
 ghost use Rattle.mig_pagestore.specs.FrameView.{cell_type, cell_place, IsCell, AreCells, page_at_place, frame_at, place_of_page, IsLed, SameBut, Moved};
 ghost use Rattle.mig_pagestore.specs.FrameLending.{LendsFramePage};
+ghost use Rattle.mig_pagestore.specs.Filling.{PushesFilled, PlacesLast, PutsFilled};
+ghost use Rattle.mig_bytes.specs.declared.stop.Stop.TheVariants as stops;
 
 use crate::arena::Arena;
-use mig_bytes::Memory;
+use crate::fill::Fill;
+use mig_bytes::{Memory, Stop};
 use mig_pagestore_index::Index;
 use mig_pagetypes::{FrameWord, PageType, decode_word, encode_word};
 use std::alloc::{AllocError, Global};
@@ -224,6 +227,48 @@ fn set_page(
     pfns.len() as u64
 }
 
+/// Fills a page behind the others; where that fails, they stay.
+fn push_filled<S, F: Fill<S>>(
+    arena: &mut Arena,
+    src: &mut S,
+    fill: &F,
+) -> Result<(), Stop<F::Cause>>
+    requires { 1 ≤ arena.old.room }
+    ensures { (page : List ℕ) × F.fills fill.now src.old src.new page result × PushesFilled arena.old arena.new page result }
+{
+    let place = arena.len();
+    arena.push(&[0; 4096]);
+    match fill.fill(src, arena.lend(place)) {
+        Ok(()) => {
+            // To the proof a page that is read tells its size, one that is lent doesn't.
+            let _page = whole(arena.get(place));
+            Ok(())
+        }
+        Err(stop) => {
+            let _page = arena.pop();
+            Err(stop)
+        }
+    }
+}
+
+/// Makes the last page, which no frame has, that of a frame with its page at this place; the answer is its place from now
+/// on. The frame's cell stays as it is.
+fn place_last(pfns: &mut Vec<u64>, arena: &mut Arena, pfn: u64, place: u64) -> u64
+    requires place { place < length arena.old.pages }
+    requires room { place ≡ 0 → length pfns.old.items < vec_capacity pfns.old }
+    ensures placed { (pages : List (List ℕ)) (page : List ℕ) → arena.old.pages ≡ pages ++ page ∷ [] → PlacesLast place pfn page pfns.old.items pages pfns.new.items arena.new.pages result }
+    ensures pages { arena.old.room + 1 ≤ arena.new.room + (1 - place) }
+    ensures capacity { vec_capacity pfns.old ≤ vec_capacity pfns.new }
+{
+    if place == 0 {
+        push_spare(pfns, pfn);
+        return pfns.len() as u64;
+    }
+    let page = arena.pop();
+    *arena.lend(place as usize - 1) = page;
+    place
+}
+
 /// How many spare pages a frame takes whose page is at this place, when it is set.
 fn pages_taken(place: u64) -> usize
     ensures { result ≡ 1 - place }
@@ -342,6 +387,51 @@ impl FrameStore {
             page,
         );
         self.index.put_spare(pfn, write_cell(kind, place));
+    }
+
+    /// Sets the type of a frame with data, and has its page filled in its place; takes no memory. Behind an error the
+    /// frames are as they were.
+    fn put_filled<S, F: Fill<S>>(
+        &mut self,
+        pfn: u64,
+        kind: PageType,
+        src: &mut S,
+        fill: &F,
+    ) -> Result<(), Stop<F::Cause>>
+        requires small { pfn < pfn_limit }
+        requires paged { type_has_data kind ≡ true }
+        requires room { 1 ≤ self.old.spare }
+        ensures filled { (page : List ℕ) × F.fills fill.now src.old src.new page result × PutsFilled self.old self.new pfn kind page result }
+        ensures taken { self.old.spare ≤ self.new.spare + 1 }
+    {
+        push_filled(&mut self.arena, src, fill)?;
+        let before = place_of(&self.index, pfn);
+        self.spare -= pages_taken(before);
+        let place = place_last(&mut self.pfns, &mut self.arena, pfn, before);
+        let cell = write_cell(kind, place);
+        self.index.put_spare(pfn, cell);
+        Ok(())
+    }
+
+    /// The same, where no page need be spare: `Memory` where none is found, with nothing taken from the source.
+    pub fn set_filled<S, F: Fill<S>>(
+        &mut self,
+        pfn: u64,
+        kind: PageType,
+        src: &mut S,
+        fill: &F,
+    ) -> Result<(), Stop<F::Cause>>
+        requires small { pfn < pfn_limit }
+        requires paged { type_has_data kind ≡ true }
+        ensures ok { OnOk result ((page : List ℕ) × F.fills fill.now src.old src.new page result × (self.new.frames ≡ framed self.old.frames pfn kind (Some page))) }
+        ensures err { OnErr result (self.new.frames ≡ self.old.frames) }
+        ensures stopped { OnErr result (((page : List ℕ) × F.fills fill.now src.old src.new page result) ⊎ ((result ≡ Err stops.Memory) × (src.new ≡ src.old))) }
+        ensures spare { self.old.spare ≤ self.new.spare + 1 }
+    {
+        match self.reserve(1) {
+            Ok(()) => self.put_filled(pfn, kind, src, fill),
+            Err(Memory) => Err(Stop::Memory),
+        }
     }
 
     /// Takes a frame away, where it is there.

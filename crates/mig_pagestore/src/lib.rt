@@ -12,10 +12,12 @@
 
 mod arena;
 mod cells;
+mod fill;
 mod frame_store;
 mod page_store;
 mod slab;
 
+pub use fill::Fill;
 pub use frame_store::FrameStore;
 pub use page_store::PageStore;
 pub use slab::{PLACES, Slab};

@@ -1,3 +1,4 @@
 pub mod Begun
 pub mod Compared
+pub mod PageReads
 pub mod Reads

@@ -1,6 +1,5 @@
 ghost use Rattle.std.specs.Prelude.{◌≡◌, ◌≤◌, ◌^◌, ◌*◌, IfOk, OnOk, OnErr, [], ◌∷◌, IsErrOf, length, vec_len, true, false, None, Some};
 ghost use Rattle.std.specs.List.{All, AllByRecursion};
-ghost use Rattle.mig_bytes.specs.Bytes.{AreBytes};
 ghost use Rattle.mig_bytes.specs.Faults.{RisesOnReadFault};
 ghost use Rattle.mig_bytes.specs.Judged.{Gives, each, plain_at};
 ghost use Rattle.mig_headers.specs.declared.fault.Cause.TheVariants.{Truncated};
@@ -19,6 +18,7 @@ ghost use Rattle.mig_restore_form.specs.Judging.{sets_at, info_at, p2m_at, words
 ghost use Rattle.mig_restore_form.specs.Record.Content.{Nothing};
 ghost use Rattle.mig_restore_form.specs.Spelled.{IsGoodWord};
 
+use crate::page::{EntryPage, are_bytes};
 use mig_bytes::{ReadFailed, Source, Stop, skip, take_long, take_part, u32_le};
 use mig_guest::{Guest, PartCode};
 use mig_headers::{Cause, Kind, RecordType, is_optional};
@@ -27,13 +27,8 @@ use mig_records::{
     RecordHead, body_fault, count_fault, data_len, p2m_fault, pv_info_fault, read_body, read_p2m,
     words_fault,
 };
-use mig_restore_form::{meant, page_fault, pfn_in, type_in, words_of};
+use mig_restore_form::{meant, pfn_in, type_in, words_of};
 use std::alloc::Global;
-
-/// Does nothing. That bytes are below 256 is what makes a guest that they are set in one of bytes.
-fn are_bytes(bytes: &[u8])
-    ensures { AreBytes bytes.now }
-{}
 
 // ---- parts
 
@@ -183,16 +178,12 @@ fn take_entry<S: Source>(
             Err(_) => Err(Stop::Memory),
         };
     }
-    let mut page = [0; 4096];
-    take_part(src, &mut page, Cause::Truncated)?;
-    if let Some(cause) = page_fault(kind, &page, place, guest.top()) {
-        return Err(Stop::Refused(cause));
-    }
-    are_bytes(&page);
-    match guest.set_frame(pfn_in(word), kind, Some(&page)) {
-        Ok(()) => Ok(()),
-        Err(_) => Err(Stop::Memory),
-    }
+    let page = EntryPage {
+        kind,
+        place,
+        top: guest.top(),
+    };
+    guest.set_filled(pfn_in(word), kind, src, &page)
 }
 
 /// Takes the pages of a PAGE_DATA whose words these are, one for each word of a type with data, and sets the frame of each

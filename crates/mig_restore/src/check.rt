@@ -12,12 +12,13 @@ ghost use Rattle.mig_restore_form.specs.Mean.{some_frame, is_same_page as same_p
 ghost use Rattle.mig_restore_form.specs.Record.{placed_content};
 
 use crate::body::{take_body, take_list};
-use mig_bytes::{Source, Stop, take_part};
-use mig_guest::Guest;
+use crate::page::EntryPage;
+use mig_bytes::{Source, Stop};
+use mig_guest::{Fill, Guest};
 use mig_headers::Cause;
 use mig_pagetypes::PageType;
 use mig_records::RecordHead;
-use mig_restore_form::{meant, page_fault, pfn_in, type_in};
+use mig_restore_form::{meant, pfn_in, type_in};
 use std::alloc::Global;
 
 /// The type of the records that carry frames.
@@ -67,12 +68,14 @@ fn check_entry<S: Source>(
     if !in_stream.has_data() {
         return Ok(has_frame(guest, pfn_in(word), kind, None));
     }
+    let entry = EntryPage {
+        kind,
+        place,
+        top: guest.top(),
+    };
     let mut page = [0; 4096];
-    take_part(src, &mut page, Cause::Truncated)?;
-    match page_fault(kind, &page, place, guest.top()) {
-        Some(cause) => Err(Stop::Refused(cause)),
-        None => Ok(has_frame(guest, pfn_in(word), kind, Some(&page))),
-    }
+    entry.fill(src, &mut page)?;
+    Ok(has_frame(guest, pfn_in(word), kind, Some(&page)))
 }
 
 /// Takes the pages of a PAGE_DATA whose words these are, and keeps none. Says how many of its entries differ from what the

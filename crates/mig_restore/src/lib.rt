@@ -14,6 +14,7 @@
 mod answer;
 mod body;
 mod check;
+mod page;
 mod read;
 
 pub use answer::StreamAnswer;

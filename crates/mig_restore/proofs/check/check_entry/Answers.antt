@@ -1,6 +1,6 @@
 use Rattle.mig_restore.proofs.Common.{Some, None, ◌∙◌, rules}
 use Rattle.mig_restore_form.proofs.Batches.{carries}
-use Rattle.mig_restore.proofs.Entries.{no_page, with_page, bad_page, judged, compared}
+use Rattle.mig_restore.proofs.Entries.{no_page, with_page, stopped_page, compared}
 use Rattle.mig_restore.proofs.check.check_entry.Goals as goal
 
 pub returns-then-not-has_data-clause-read : goal.returns-then-not-has_data-clause-read
@@ -8,13 +8,13 @@ returns-then-not-has_data-clause-read g c =
     no_page _ c.args.guest.now.kind c.args.guest.now.top c.args.place _ c.args.word c.has_frame.result (carries c.args.word ∙ search rules)
     (compared c.args.guest.now c.args.word c.pfn_in.result c.meant-kind.result None c.has_frame.result c.pfn_in.ensures (search rules) c.has_frame.ensures)
 
-pub returns-in-Some-clause-read : goal.returns-in-Some-clause-read
-returns-in-Some-clause-read g c =
-    bad_page _ c.args.guest.now.kind c.args.guest.now.top c.args.place _ _ c.args.word _ c.take_part.new.buf tt c.in-Some.cause (search rules) c.in_ok-take_part.ensures.read (carries c.args.word ∙ search rules)
-    (judged c.args.guest.now c.args.place c.args.word c.meant-kind.result c.type_in-in_stream.result c.take_part.new.buf (Some c.in-Some.cause) (search rules) (search rules) (search rules))
+pub returns-in_err-fill-clause-read : goal.returns-in_err-fill-clause-read
+returns-in_err-fill-clause-read g c =
+    stopped_page _ c.args.guest.now.kind c.args.guest.now.top c.args.place c.args.word c.meant-kind.result (search rules) (carries c.args.word ∙ search rules) _ _ c.fill.new.page c.in_err-fill.field-0.0 c.from_residual.result c.from_residual.ensures.1
+    (rw c.top.ensures at c.in_err-fill.ensures.read)
 
-pub returns-in-None-clause-read : goal.returns-in-None-clause-read
-returns-in-None-clause-read g c =
-    with_page _ c.args.guest.now.kind c.args.guest.now.top c.args.place _ _ c.args.word _ c.take_part.new.buf tt c.has_frame-in-None.result (search rules) c.in_ok-take_part.ensures.read (carries c.args.word ∙ search rules)
-    (judged c.args.guest.now c.args.place c.args.word c.meant-kind.result c.type_in-in_stream.result c.take_part.new.buf None (search rules) (search rules) (search rules))
-    (compared c.args.guest.now c.args.word c.pfn_in-in-None.result c.meant-kind.result (Some c.take_part.new.buf) c.has_frame-in-None.result c.pfn_in-in-None.ensures (search rules) c.has_frame-in-None.ensures)
+pub returns-clause-read : goal.returns-clause-read
+returns-clause-read g c =
+    with_page _ c.args.guest.now.kind c.args.guest.now.top c.args.place c.args.word c.meant-kind.result (search rules) (carries c.args.word ∙ search rules) _ _ c.fill.new.page tt c.has_frame-2.result
+    (rw c.top.ensures at c.in_ok-fill.ensures.read)
+    (compared c.args.guest.now c.args.word c.pfn_in-2.result c.meant-kind.result (Some c.fill.new.page) c.has_frame-2.result c.pfn_in-2.ensures (search rules) c.has_frame-2.ensures)
