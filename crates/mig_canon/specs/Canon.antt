@@ -16,15 +16,15 @@ use Rattle.mig_guest.specs.PartCodes.{code_number}
 use Rattle.mig_guest.specs.PartKeys.{p2m_key}
 use Rattle.mig_records.specs.Shapes.{canonical_bodies, part_body, parts_at, shape_of}
 use Rattle.mig_records.specs.Records.{Record, text_of}
-use Rattle.mig_records_pages.specs.PageData.{Frame, body_of}
+use Rattle.mig_records_pages.specs.PageData.{Frame, most_entries, body_of}
 
--- ---- frames: 1024 in each record, and the rest in the last
+-- ---- frames: as many in each record as one may have, and the rest in the last
 
 abbrev pub batch : List Frame → ℕ → List Frame
-batch fs k = take 1024 (drop (1024 * k) fs)
+batch fs k = take most_entries (drop (most_entries * k) fs)
 
 abbrev pub batches : List Frame → ℕ
-batches fs = div_ceil (length fs) 1024
+batches fs = div_ceil (length fs) most_entries
 
 -- ---- records: a type and a body
 

@@ -40,6 +40,9 @@ pub some_text : (fs : List Frame) (n pages : ℕ) → n ≤ length fs → length
     → spelled 1 (body_of (take n fs)) ≡ head_of 1 (8 + 8 * n + 4096 * pages) ++ ((little_bytes 4 n ++ replicate 4 0) ++ (words_of (take n fs) ++ pages_of (take n fs)))
 some_text fs n pages le len = batch_text (take n fs) n pages (omega (arith, length-take n fs)) len
 
+pub some_short : (fs : List Frame) (n pages : ℕ) → n ≤ length fs → length (pages_of (take n fs)) ≡ 4096 * pages → pages ≤ n → length (body_of (take n fs)) ≤ 8 + 4104 * n
+some_short fs n pages le len few = omega (arith, body_len (take n fs) n pages (omega (arith, length-take n fs, le)) len, few)
+
 -- ---- the words in a buffer
 
 -- one word more

@@ -2,6 +2,7 @@
 use Rattle.std.specs.Prelude.{◌≡◌, ℕ, ◌+◌, ◌<◌, ◌≤◌, Bool, nat_lt, count_by, List, [], ◌∷◌, ◌++◌, length, map, Option, Result, Ok, Err}
 use Rattle.std.specs.List.{AllByRecursion}
 use Rattle.mig_bytes.specs.declared.failure.WriteFailed.{WriteFailed}
+use Rattle.mig_records_pages.specs.PageData.{most_entries}
 use Rattle.mig_records_pages.specs.Told.{FrameTold, telling_record, all_told}
 use Rattle.mig_records_pages.specs.Written.{WroteAll, WroteSome}
 
@@ -18,19 +19,19 @@ abbrev pub JoinsBatches : {X : Type 0} → List FrameTold → Option (List ℕ) 
 JoinsBatches ts old new (Ok x) = (start : Option (List ℕ)) (batches : List (List FrameTold)) → BatchesWritten start old batches → BatchesWritten start new (batches ++ ts ∷ [])
 JoinsBatches ts old new (Err e) = (start : Option (List ℕ)) (batches : List (List FrameTold)) → BatchesWritten start old batches → BatchesCut start new batches
 
--- a batch has from 1 to 1024 entries
+-- a batch has an entry, and no more than a record may have
 pub record FitsBatch (batch : List FrameTold) : Type 0 where
   pub some : 0 < length batch
-  pub most : length batch ≤ 1024
+  pub most : length batch ≤ most_entries
 
--- fewer than 1024 entries
+-- fewer entries than a record may have
 abbrev pub is_short : List FrameTold → Bool
-is_short batch = nat_lt (length batch) 1024
+is_short batch = nat_lt (length batch) most_entries
 
 abbrev pub AreSized : List (List FrameTold) → Type 0
 AreSized batches = AllByRecursion FitsBatch batches
 
--- at most so many of the batches have fewer than 1024 entries
+-- at most so many of the batches are short
 abbrev pub AreFull : ℕ → List (List FrameTold) → Type 0
 AreFull flushes batches = count_by is_short batches ≤ flushes
 
@@ -45,11 +46,11 @@ pub record IsSent (start now : Option (List ℕ)) (flushes : ℕ) (held sent : L
   pub full : AreFull flushes batches
   pub all : sent ≡ all_told batches ++ held
 
--- of n entries that were sent at most 1024 stand in no whole record that was written
+-- of n entries that were sent at most as many as a record may have stand in no whole record that was written
 pub record IsBehind (start now : Option (List ℕ)) (n : ℕ) : Type 0 where
   pub batches : List (List FrameTold)
   pub cut : BatchesCut start now batches
-  pub few : n ≤ length (all_told batches) + 1024
+  pub few : n ≤ length (all_told batches) + most_entries
 
 -- whatever was sent before, this entry is sent behind it; these were held, and now those are
 abbrev pub SendsOn : FrameTold → Option (List ℕ) → Option (List ℕ) → List FrameTold → List FrameTold → Type 0
@@ -59,6 +60,6 @@ SendsOn t old new held later = (start : Option (List ℕ)) (flushes : ℕ) (sent
 abbrev pub Flushes : Option (List ℕ) → Option (List ℕ) → List FrameTold → Type 0
 Flushes old new held = (start : Option (List ℕ)) (flushes : ℕ) (sent : List FrameTold) → IsSent start old flushes held sent → IsSent start new (flushes + 1) [] sent
 
--- of whatever was sent before, and so many more, at most 1024 stand in no whole record; these were held
+-- of whatever was sent before, and so many more, at most as many as a record may have stand in no whole record; these were held
 abbrev pub FallsBehind : ℕ → Option (List ℕ) → Option (List ℕ) → List FrameTold → Type 0
 FallsBehind more old new held = (start : Option (List ℕ)) (flushes : ℕ) (sent : List FrameTold) → IsSent start old flushes held sent → IsBehind start new (length sent + more)

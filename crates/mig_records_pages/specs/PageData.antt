@@ -22,6 +22,10 @@ page_in f = unwrap_or f.1.page []
 abbrev pub pages_of : List Frame → List ℕ
 pages_of fs = flat_map page_in fs
 
+-- the most entries of a PAGE_DATA record that a writer makes
+abbrev pub most_entries : ℕ
+most_entries = 1024
+
 -- the body of a PAGE_DATA record: the count, 4 zero bytes, the words, the pages
 unfoldable pub body_of : List Frame → List ℕ
 body_of fs = little_bytes 4 (length fs) ++ (replicate 4 0 ++ (words_of fs ++ pages_of fs))

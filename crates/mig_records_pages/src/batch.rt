@@ -1,16 +1,14 @@
 ghost use Rattle.std.specs.Prelude.{◌≡◌, ◌<◌, [], length, OnOk, OnErr, IfOk};
 ghost use Rattle.mig_bytes.specs.Faults.{HasCause};
+ghost use Rattle.mig_records_pages.specs.PageData.{most_entries};
 ghost use Rattle.mig_records_pages.specs.Told.{told_of, HasPfn};
 ghost use Rattle.mig_records_pages.specs.Batches.{SendsOn, Flushes, FallsBehind};
 
 use crate::HeldFrame;
-use crate::pages::write_batch;
+use crate::pages::{MOST_ENTRIES, write_batch};
 use mig_bytes::{Sink, WriteFailed};
 use std::alloc::{AllocError, Global};
 use std::marker::Model;
-
-/// The most entries of a PAGE_DATA record.
-const BATCH: usize = 1024;
 
 /// Entries that are held until their record is written.
 #[derive(Drop)]
@@ -20,13 +18,14 @@ pub struct Batch {
 
 impl Model for Batch {
     ghost use Rattle.std.specs.Prelude.{◌<◌, ◌≤◌, List, All, length, vec_capacity};
+    ghost use Rattle.mig_records_pages.specs.PageData.{most_entries};
     ghost use Rattle.mig_records_pages.specs.Told.{FrameTold, told_held, HasPfn};
 
     ghost Value = { List FrameTold };
 
     ghost view = { λ b. told_held b.entries.items };
 
-    ghost invariant = { λ b. (1024 ≤ vec_capacity b.entries) × (length b.entries.items < 1024) × All HasPfn b.entries.items };
+    ghost invariant = { λ b. (most_entries ≤ vec_capacity b.entries) × (length b.entries.items < most_entries) × All HasPfn b.entries.items };
 }
 
 impl Batch {
@@ -34,22 +33,22 @@ impl Batch {
     pub fn new(alloc: Global) -> Result<Batch, AllocError>
         ensures { IfOk result (λ batch. batch ≡ []) }
     {
-        let entries = Vec::with_capacity(alloc, BATCH)?;
+        let entries = Vec::with_capacity(alloc, MOST_ENTRIES)?;
         Ok(Batch { entries })
     }
 
-    /// Sends an entry: it is held, and once 1024 are held they are written as one record. After `WriteFailed` nothing is
-    /// held.
+    /// Sends an entry: it is held, and once as many are held as a record may have they are written as one. After
+    /// `WriteFailed` nothing is held.
     pub fn send<K: Sink>(&mut self, sink: &mut K, entry: HeldFrame) -> Result<(), WriteFailed>
         requires { HasPfn entry }
         ensures sent { OnOk result (SendsOn (told_of entry) (K.written sink.old) (K.written sink.new) self.old self.new) }
         ensures behind { OnErr result (FallsBehind 1 (K.written sink.old) (K.written sink.new) self.old) }
         ensures empty { OnErr result (self.new ≡ []) }
-        ensures few { length self.new < 1024 }
+        ensures few { length self.new < most_entries }
         ensures cause { HasCause (K.faults sink.old) (K.faults sink.new) result }
     {
         let _ = self.entries.push(entry);
-        if self.entries.len() < BATCH {
+        if self.entries.len() < MOST_ENTRIES {
             return Ok(());
         }
         let written = write_batch(sink, &self.entries);

@@ -2,12 +2,12 @@ ghost use Rattle.std.specs.Prelude.{◌≡◌, ◌+◌, ◌*◌, ◌≤◌, [], 
 ghost use Rattle.std.specs.Option.{option_copied, unwrap_or};
 
 /// Room for the words of a batch.
-pub fn no_words() -> [u8; 8192] {
+pub(crate) fn no_words() -> [u8; 8192] {
     [0; 8192]
 }
 
 /// Room for the pages of one write.
-pub fn no_pages() -> [u8; 16384] {
+pub(crate) fn no_pages() -> [u8; 16384] {
     [0; 16384]
 }
 
@@ -20,7 +20,7 @@ fn one_page(page: &[u8; 4096]) -> u32
 }
 
 /// How many pages come with a frame: 1 or 0.
-pub fn pages_with(page: Option<&[u8; 4096]>) -> u32
+pub(crate) fn pages_with(page: Option<&[u8; 4096]>) -> u32
     ensures len { length (unwrap_or (option_copied page.entry) []) ≡ 4096 * result }
     ensures most { result ≤ 1 }
 {
@@ -31,7 +31,7 @@ pub fn pages_with(page: Option<&[u8; 4096]>) -> u32
 }
 
 /// Puts the page, if there is one, behind so many pages; answers how many came: 1 or 0.
-pub fn put_page(buffer: &mut [u8], pages: u32, page: Option<&[u8; 4096]>) -> u32
+pub(crate) fn put_page(buffer: &mut [u8], pages: u32, page: Option<&[u8; 4096]>) -> u32
     requires room { 4096 * (pages + 1) ≤ length buffer.old }
     ensures bytes { take (4096 * (pages + result)) buffer.new ≡ take (4096 * pages) buffer.old ++ unwrap_or (option_copied page.entry) [] }
     ensures room { length buffer.new ≡ length buffer.old }

@@ -1,6 +1,7 @@
-ghost use Rattle.std.specs.Prelude.{◌<◌, ◌≤◌, ◌+◌, ◌*◌, ℕ, List, [], ◌++◌, length};
+ghost use Rattle.std.specs.Prelude.{◌<◌, ◌≤◌, ◌+◌, ◌-◌, ◌*◌, ℕ, List, [], ◌++◌, length};
 ghost use Rattle.std.specs.declared.option.Option.{Option};
 ghost use Rattle.mig_records.specs.Records.{Record};
+ghost use Rattle.mig_records_pages.specs.PageData.{most_entries};
 ghost use Rattle.mig_records_pages.specs.Told.{FrameTold, all_told};
 ghost use Rattle.mig_records_pages.specs.Written.{WroteAll, WroteSome};
 ghost use Rattle.mig_records_pages.specs.Batches.{AreSized, AreFull, IsSent, IsBehind};
@@ -16,11 +17,11 @@ pub fn records_stand_behind_records()
 {}
 
 /// Before anything is written no entry is sent, and none is held. Of entries that were sent, and one more that is to be, at
-/// most 1024 stand in no whole record, where fewer than 1024 are held. The records are as few as their entries and flushes
+/// most as many as a record may have stand in no whole record, where fewer are held. The records are as few as their entries and flushes
 /// allow.
 #[tactic(auto, using(crate::proofs::Joins::nothing_sent))]
 pub fn sent_entries_are_little_behind()
     ensures nothing { (start : Option (List ℕ)) → IsSent start start 0 [] [] }
-    ensures behind { (start now : Option (List ℕ)) (flushes : ℕ) (held sent : List FrameTold) → length held < 1024 → IsSent start now flushes held sent → IsBehind start now (length sent + 1) }
-    ensures few { (flushes : ℕ) (batches : List (List FrameTold)) → AreSized batches → AreFull flushes batches → 1024 * length batches ≤ length (all_told batches) + 1023 * flushes }
+    ensures behind { (start now : Option (List ℕ)) (flushes : ℕ) (held sent : List FrameTold) → length held < most_entries → IsSent start now flushes held sent → IsBehind start now (length sent + 1) }
+    ensures few { (flushes : ℕ) (batches : List (List FrameTold)) → AreSized batches → AreFull flushes batches → most_entries * length batches ≤ length (all_told batches) + (most_entries - 1) * flushes }
 {}

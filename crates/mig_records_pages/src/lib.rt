@@ -1,7 +1,7 @@
 //! PAGE_DATA records: the text of frames in batches, and a writer of entries that come one by one.
 //!
-//! Responsible for: the words, pages and records of frames (libxc migration stream, "PAGE_DATA"); what an entry tells of a
-//! frame number; batches of 1024 entries, of which the last before a flush may have fewer; what was written whole, and in
+//! Responsible for: the words, pages and records of frames (libxc migration stream, "PAGE_DATA"), wherever the frames come
+//! from; what an entry tells of a frame number; batches of 1024 entries, of which the last before a flush may have fewer; what was written whole, and in
 //! part, since a start; and the END record. Left to others: heads and padding (mig_records), the canonical stream
 //! (mig_canon), which entries are sent and what they mean (mig_dirtysave_rounds), and whether what was written is a stream
 //! (mig_dirtysave).
@@ -16,11 +16,12 @@ mod gathered;
 mod held_frame;
 mod law;
 mod pages;
+mod sequence;
 mod stream;
 
 pub use batch::Batch;
-pub use gathered::{no_pages, no_words, pages_with, put_page};
 pub use held_frame::HeldFrame;
 pub use law::{records_stand_behind_records, sent_entries_are_little_behind};
-pub use pages::write_batch;
+pub use pages::{MOST_ENTRIES, write_batch, write_page_data};
+pub use sequence::FrameSequence;
 pub use stream::{write_end, write_plain};

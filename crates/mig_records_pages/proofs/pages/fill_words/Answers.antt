@@ -1,25 +1,26 @@
-use Rattle.std.proofs.Common.{List, arith, ◌≡◌, ◌*◌, length, take, ap, sym, ◌∙◌, subst}
-use Rattle.mig_records_pages.specs.PageData.{Frame, words_of, pages_of}
+use Rattle.std.proofs.Common.{sym, ◌∙◌, arith}
+use Rattle.std.specs.Option.{option_copied}
+use Rattle.mig_records_pages.specs.PageData.{Frame}
+use Rattle.mig_records_pages.proofs.ListSteps.{drop_next, not_ended}
 use Rattle.mig_records_pages.proofs.PageTexts.{pages_next, words_put}
-use Rattle.mig_records_pages.proofs.Places.{at_place, all_taken, no_entry, frames_held}
 use Rattle.mig_records_pages.proofs.pages.fill_words.Goals as goal
 
+pub returns-in-None-clause-pages : goal.returns-in-None-clause-pages
+returns-in-None-clause-pages g c =
+    absurd (not_ended c.loop-i.i c.args.count (g.F.FrameSequence.frames_from c.args.frames.now c.args.start) (sym c.loop-i.invariant.at ∙ c.in-None.ensures.none) c.loop-i-test.true c.requires.has)
+
+pub returns-in-None-clause-words : goal.returns-in-None-clause-words
+returns-in-None-clause-words g c =
+    absurd (not_ended c.loop-i.i c.args.count (g.F.FrameSequence.frames_from c.args.frames.now c.args.start) (sym c.loop-i.invariant.at ∙ c.in-None.ensures.none) c.loop-i-test.true c.requires.has)
+
 pub loop-i-preserved : goal.loop-i-preserved
-loop-i-preserved c =
-    let all = frames_held c.args.entries.now in
-    let here = at_place c.args.entries.now c.loop-i.i no_entry c.loop-i-test.true in
+loop-i-preserved g c =
+    let all = g.F.FrameSequence.frames_from c.args.frames.now c.args.start in
+    let e : Frame = (c.in-Some.word.pfn, record { type = c.in-Some.word.kind; page = option_copied c.in-Some.page }) in
+    let here = sym c.loop-i.invariant.at ∙ c.in-Some.ensures.some in
     record {
-      words = words_put c.loop-i.i all _ _ c.loop-i.words c.put_u64_le.new.bytes here (omega arith) c.loop-i.invariant.words (rw c.word_told.ensures at c.put_u64_le.ensures);
-      pages = pages_next c.loop-i.i all _ _ c.loop-i.pages c.pages_with-pages.result here c.loop-i.invariant.pages (rw c.page_told.ensures at c.pages_with-pages.ensures.len);
+      at = sym (drop_next c.loop-i.i all _ e here);
+      words = words_put c.loop-i.i all _ e c.loop-i.words c.put_u64_le.new.bytes here (omega arith) c.loop-i.invariant.words (rw c.encode_word.ensures at c.put_u64_le.ensures);
+      pages = pages_next c.loop-i.i all _ e c.loop-i.pages c.pages_with-pages.result here c.loop-i.invariant.pages c.pages_with-pages.ensures.len;
       few = omega arith;
     }
-
-pub returns-clause-words : goal.returns-clause-words
-returns-clause-words c =
-    let ended : c.loop-i.i ≡ length c.args.entries.now = omega arith in
-    subst (λ n. take (8 * n) c.loop-i.words ≡ words_of (frames_held c.args.entries.now)) ended (c.loop-i.invariant.words ∙ ap words_of (all_taken c.args.entries.now c.loop-i.i ended))
-
-pub returns-clause-pages : goal.returns-clause-pages
-returns-clause-pages c =
-    let ended : c.loop-i.i ≡ length c.args.entries.now = omega arith in
-    ap (λ (l : List Frame). length (pages_of l)) (sym (all_taken c.args.entries.now c.loop-i.i ended)) ∙ c.loop-i.invariant.pages

@@ -1,7 +1,14 @@
-use Rattle.std.proofs.Common.{arith}
+use Rattle.std.proofs.Common.{◌≤◌, ◌^◌, List, Err, refl, ap, subst, length, arith}
+use Rattle.mig_bytes.specs.Bytes.{AppendsPart}
+use Rattle.mig_records.specs.Records.{spelled}
+use Rattle.mig_records_pages.specs.PageData.{Frame, body_of}
 use Rattle.mig_records_pages.specs.Told.{told_held}
 use Rattle.mig_records_pages.proofs.Joins.{batch_joins}
+use Rattle.mig_records_pages.proofs.Places.{all_taken, frames_held}
 use Rattle.mig_records_pages.proofs.pages.write_batch.Goals as goal
 
-pub returns-clause-joins : goal.returns-clause-joins
-returns-clause-joins g c = batch_joins (told_held c.args.entries.now) _ _ c.write_record_of.result (omega (arith, c.write_record_of.ensures.short, c.requires.most)) c.write_record_of.ensures.bytes
+pub returns-in-Err-clause-joins : goal.returns-in-Err-clause-joins
+returns-in-Err-clause-joins g c =
+    let xs = c.args.entries.now in let all = all_taken xs (length xs) refl in
+    let short : length (body_of (frames_held xs)) ≤ 2 ^ 27 = omega (arith, ap (λ (l : List Frame). length (body_of l)) all, c.in-Err.ensures.short, c.requires.most) in
+    batch_joins {X = Unit {0}} (told_held xs) _ _ (Err c.in-Err.failed) short (subst (λ (l : List Frame). AppendsPart (g.K.Sink.written c.args.sink.now) (g.K.Sink.written c.write_page_data.new.sink) (spelled 1 (body_of l))) all c.in-Err.ensures.bytes)

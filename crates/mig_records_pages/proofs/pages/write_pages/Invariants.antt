@@ -1,16 +1,16 @@
-use Rattle.std.proofs.Common.{◌≡◌, ◌≤◌, ◌-◌, length, take}
+use Rattle.std.proofs.Common.{◌≡◌, ◌≤◌, ◌-◌, length, take, drop}
 use Rattle.std.specs.Io.KnownBytes.{Appends}
 use Rattle.mig_records_pages.specs.PageData.{pages_of}
-use Rattle.mig_records_pages.proofs.Places.{frames_held}
 use Rattle.mig_records_pages.proofs.pages.write_pages.Given as goal
 
 abbrev pub invariant-loop-done : goal.invariant-loop-done
 invariant-loop-done g l = record {
-  bytes : Appends (g.K.Sink.written l.fn.sink) (g.K.Sink.written l.sink) (pages_of (take l.done (frames_held l.entries)));
-  within : l.done ≤ length l.entries;
+  at : g.F.FrameSequence.frames_from l.frames l.place ≡ drop l.done (g.F.FrameSequence.frames_from l.frames l.start);
+  bytes : Appends (g.K.Sink.written l.fn.sink) (g.K.Sink.written l.sink) (pages_of (take l.done (g.F.FrameSequence.frames_from l.frames l.start)));
+  within : l.done ≤ l.count;
   room : length l.buffer ≡ 16384;
   quiet : g.K.Sink.faults l.sink ≡ g.K.Sink.faults l.fn.sink;
 }
 
 abbrev pub decreases-loop-done : goal.decreases-loop-done
-decreases-loop-done g l = length l.entries - l.done
+decreases-loop-done g l = l.count - l.done
