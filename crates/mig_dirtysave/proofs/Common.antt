@@ -18,7 +18,7 @@ pub use Rattle.mig_canon.specs.Canon.{headers, info_records, p2m_records, static
 pub use Rattle.mig_canon.specs.CanonStream.{bare_guest, has_emulators, opening_text, wrapper_closing, wrapper_opening}
 pub use Rattle.mig_dirtysave.specs.Paused.{HasTypes, OnlyLooksUp, first_around, first_in_tables, standing_seen, types_seen, with_view}
 pub use Rattle.mig_dirtysave.specs.SaveAnswers.{IsLittleBehind, IsTrusted, SaveWritten}
-pub use Rattle.mig_dirtysave.specs.Saver.{IsFor, SaverOf}
+pub use Rattle.mig_dirtysave.specs.Saver.{PreparedFor, SaverOf}
 pub use Rattle.mig_dirtysave.specs.Unended.{AreRecords, HaveNoEnd, IsUnclosedImage, IsUnended, IsUnendedImage}
 pub use Rattle.mig_dirtysave.specs.Unread.{HasNoStream, WroteNoStream}
 pub use Rattle.mig_dirtysave_parts.proofs.Codes.{emulators_kept, emulators_seen, first_records, first_within, kept_formed}
@@ -27,8 +27,8 @@ pub use Rattle.mig_dirtysave_parts.specs.KeptParts.{HoldsParts, is_early, is_set
 pub use Rattle.mig_dirtysave_parts.specs.SaveTexts.{ClosesStream, text_before}
 pub use Rattle.mig_dirtysave_rounds.specs.Entries.{AreTold, meant}
 pub use Rattle.mig_dirtysave_rounds.specs.Forms.{form_of_print, form_page, is_lost, lost_in, lost_slot, superpage_in, superpage_slot}
-pub use Rattle.mig_dirtysave_rounds.specs.Live.{FramesSaved, IsUnsound, StaysSame, forms}
-pub use Rattle.mig_dirtysave_rounds.specs.Parts.{total}
+pub use Rattle.mig_dirtysave_rounds.specs.Live.{FramesSaved, IsUnsound, KeepsShape, forms}
+pub use Rattle.mig_dirtysave_rounds.specs.Parts.{entries_read}
 pub use Rattle.mig_guest.proofs.Longs.{length_longs}
 pub use Rattle.mig_guest.proofs.PartOrder.{part_exact, part_total}
 pub use Rattle.mig_guest.proofs.PartRows.{one_code}

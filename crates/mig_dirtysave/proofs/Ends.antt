@@ -1,5 +1,5 @@
 -- What a save has written where it stopped early.
-use Rattle.mig_dirtysave.proofs.Common.{◌≡◌, ℕ, ◌+◌, ◌≤◌, Bool, true, false, List, [], ◌∷◌, ◌++◌, length, take, map, Option, refl, sym, ap, subst, ◌∙◌, arith, append_assoc, append-nil, inl, inr, AllByRecursion, Appends, append_known, Appends-trans, AppendsPart, Kind, Unsound, IsFormed, GuestOf, PartMap, spelled, Record, text_of, headers, text_join, text_one, has_emulators, opening_text, wrapper_opening, wrapper_closing, FrameTold, telling_record, all_told, WroteAll, WroteSome, IsRecordWithin, AreRecordsWithin, History, MachineState, total, FramesSaved, text_before, ClosesStream, WroteNoStream, first_records, first_within, some_records, part_behind, IsLittleBehind}
+use Rattle.mig_dirtysave.proofs.Common.{◌≡◌, ℕ, ◌+◌, ◌≤◌, Bool, true, false, List, [], ◌∷◌, ◌++◌, length, take, map, Option, refl, sym, ap, subst, ◌∙◌, arith, append_assoc, append-nil, inl, inr, AllByRecursion, Appends, append_known, Appends-trans, AppendsPart, Kind, Unsound, IsFormed, GuestOf, PartMap, spelled, Record, text_of, headers, text_join, text_one, has_emulators, opening_text, wrapper_opening, wrapper_closing, FrameTold, telling_record, all_told, WroteAll, WroteSome, IsRecordWithin, AreRecordsWithin, History, MachineState, entries_read, FramesSaved, text_before, ClosesStream, WroteNoStream, first_records, first_within, some_records, part_behind, IsLittleBehind}
 use Rattle.mig_canon.specs.CanonStream.{is_of_converter}
 use Rattle.mig_libxl.proofs.Around.{opening_none, opening_some}
 use Rattle.mig_records_pages.specs.Batches.{IsBehind}
@@ -110,8 +110,8 @@ stopped_behind old new parts n (behind_image start ended rs a some w p) =
     inr (most old new parts start w.opened w.kind w.before w.batches w.behind n _ a w.heads (Appends-trans w.opened w.full new _ _ w.wrote.appended (Appends-trans w.full ended new _ _ w.last p.appended)) w.wrote.within w.few)
 
 -- nothing was read yet
-pub nothing_read : (width : ℕ) (h : History) → h ≡ no_history → total width h ≡ 0
-nothing_read width h is = omega (arith, ap (total width) is, size_none width)
+pub nothing_read : (width : ℕ) (h : History) → h ≡ no_history → entries_read width h ≡ 0
+nothing_read width h is = omega (arith, ap (entries_read width) is, size_none width)
 
 -- nothing was written but a part of what stands before the image
 pub stopped_opening : (old new : Option (List ℕ)) (parts held : PartMap) (n : ℕ) → wrapper_opening held ≡ wrapper_opening parts → n ≤ 1024 → AppendsPart old new (wrapper_opening held) → Stopped old new parts n
@@ -155,7 +155,7 @@ module _ (old start mid : Option (List ℕ)) (parts : PartMap) (begun : Appends 
           few = b.few;
         })
 
-    module _ (sent : Option (List ℕ)) (t : MachineState) (u : Option Unsound) (n : ℕ) (is : n ≡ total t.host.width t.history) (s : FramesSaved mid sent t u) where
+    module _ (sent : Option (List ℕ)) (t : MachineState) (u : Option Unsound) (n : ℕ) (is : n ≡ entries_read t.host.width t.history) (s : FramesSaved mid sent t u) where
       abbrev batched : List Record
       batched = map telling_record s.batches
 

@@ -1,6 +1,7 @@
 pub mod Common
 pub mod Wrappers
 pub mod Ends
+pub mod Endings
 pub mod Streams
 pub mod Settled
 pub mod HvmTables

@@ -1,13 +1,12 @@
 -- What stays of a paused machine while machine frames are looked up: its host, and what a history says of rounds and reads.
-use Rattle.mig_dirtysave.proofs.Common.{◌≡◌, ℕ, ◌+◌, ◌≤◌, List, [], ◌∷◌, ◌++◌, length, take, get_or, Option, Some, None, map, refl, sym, ap, subst, ◌∙◌, arith, ◌⊎◌, inl, inr, Result, Ok, Err, get_or_past, length-take, option_map, Kind, PageType, HostOf, HostFrame, IsValid, headers, text_of, telling_record, view, wrapper_opening, wrapper_closing, AcceptedStream, History, MachineState, total, OnlyLooksUp, HasTypes, Unsound, SaveWritten, IsTrusted}
+use Rattle.mig_dirtysave.proofs.Common.{◌≡◌, ℕ, ◌+◌, ◌≤◌, List, [], ◌∷◌, ◌++◌, length, take, get_or, Option, Some, None, map, refl, sym, ap, subst, ◌∙◌, arith, ◌⊎◌, inl, inr, Result, Ok, Err, get_or_past, length-take, option_map, Kind, PageType, HostOf, HostFrame, IsValid, headers, text_of, telling_record, view, wrapper_opening, wrapper_closing, AcceptedStream, History, MachineState, entries_read, OnlyLooksUp, HasTypes, Unsound, SaveWritten, IsTrusted}
 use Rattle.std.proofs.Common.{min}
-use Rattle.std.specs.Prelude.{IsErrAnd}
 use Rattle.std.proofs.lemmas.Bool.{cases_lt}
 use Rattle.std.proofs.lemmas.List.{get_or-take}
 use Rattle.mig_guest.specs.Pfns.{Pfns, members, size}
 use Rattle.mig_guest.specs.Rounds.{Rounds, Tight, all_read, rounds_read}
-use Rattle.mig_dirtysave_rounds.specs.Parts.{total_taken}
-use Rattle.mig_dirtysave_rounds.specs.Live.{IsTight, type_in}
+use Rattle.mig_dirtysave_rounds.specs.Parts.{entries_read_before}
+use Rattle.mig_dirtysave_rounds.specs.Live.{HasRounds, ReadsExactly, type_in}
 use Rattle.mig_dirtysave.specs.SaveAnswers.{IfUnsound}
 use Rattle.mig_dirtysave.specs.declared.answer.SaveAnswer.{SaveAnswer}
 use Rattle.std.specs.FinMap as maps
@@ -38,16 +37,20 @@ module _ (kind : Kind) (width : ℕ) (h k : History) (taken : k.taken ≡ h.take
 -- ---- machines
 
 module _ (t u : MachineState) (looks : OnlyLooksUp t u) where
-  pub tight_stay : IsTight t → IsTight u
+  pub tight_stay : ReadsExactly t → ReadsExactly u
   tight_stay r = λ honest.
       subst (λ (h : HostOf). Tight h.kind h.width u.history) (sym looks.host)
       (tight_kept t.host.kind t.host.width t.history u.history looks.taken looks.live looks.read looks.twice (r (sym looks.ran.honest ∙ honest)))
 
-  read_stays : all_read t.host.width t.history ≡ all_read u.host.width u.history
+  pub rounds_stay : HasRounds t → HasRounds u
+  rounds_stay r =
+      subst (λ (h : HostOf). Rounds h.kind h.width u.history) (sym looks.host) (rounds_kept t.host.kind t.host.width t.history u.history looks.taken looks.live looks.read looks.twice r)
+
+  pub read_stays : all_read t.host.width t.history ≡ all_read u.host.width u.history
   read_stays = let taken = sym looks.taken in let read = sym looks.read in let host = sym looks.host in λ i. rounds_read (host i).width (taken i) ++ members (host i).width (read i)
 
-  pub total_stays : (width : ℕ) → total width u.history ≡ total width t.history
-  total_stays width = let taken = looks.taken in let read = looks.read in λ i. total_taken width (taken i) + size width (read i)
+  pub total_stays : (width : ℕ) → entries_read width u.history ≡ entries_read width t.history
+  total_stays width = let taken = looks.taken in let read = looks.read in λ i. entries_read_before width (taken i) + size width (read i)
 
   pub trust_stays : IsTrusted u → IsTrusted t
   trust_stays (inl honest) = inl (sym looks.ran.honest ∙ honest)
@@ -98,10 +101,3 @@ unsound_then (Ok x) go is = tt
 unsound_then (Err (answers.Unsound u)) go is = go u is
 unsound_then (Err answers.MachineFault) go is = tt
 unsound_then (Err answers.WriteFault) go is = tt
-
--- the same of an answer that is passed on
-pub unsound_on : {Y : Type 0} {P Q : Unsound → Type 0} (r : Result Y SaveAnswer) (e : SaveAnswer) → IsErrAnd r (λ x. x ≡ e) → ((u : Unsound) → P u → Q u) → IfUnsound {X = Unit {0}} (Err e) P → IfUnsound r Q
-unsound_on (Ok y) e same go is = tt
-unsound_on {P = P} (Err (answers.Unsound u)) e same go is = go u (subst (λ (x : SaveAnswer). IfUnsound {X = Unit {0}} (Err x) P) (sym same) is)
-unsound_on (Err answers.MachineFault) e same go is = tt
-unsound_on (Err answers.WriteFault) e same go is = tt

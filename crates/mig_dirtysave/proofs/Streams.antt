@@ -1,5 +1,5 @@
 -- What a save wrote is a stream, and over an honest machine the stream of the host's view.
-use Rattle.mig_dirtysave.proofs.Common.{◌==◌, is_some, and_parts, ◌≡◌, ℕ, Bool, List, [], ◌∷◌, ◌++◌, map, true, Option, None, refl, sym, ap, subst, ◌∙◌, arith, append_assoc, Appends, Appends-trans, Kind, Unsound, IsFormed, GuestOf, IsValid, PartMap, PartKey, Record, text_of, headers, info_records, static_bodies, p2m_records, text_join, batch_records, batched, unsoundness, view, top_of, viewed_whole, bare_guest, wrapper_opening, wrapper_closing, AcceptedStream, opening_alike, closing_alike, MachineState, FrameTold, telling_frames, telling_record, Accepted, StaysSame, FramesSaved, text_before, ClosesStream, HoldsParts, is_early, emulators_seen, first_records, first_within, SaverOf, IsFor, SaveWritten}
+use Rattle.mig_dirtysave.proofs.Common.{◌==◌, is_some, and_parts, ◌≡◌, ℕ, Bool, List, [], ◌∷◌, ◌++◌, map, true, Option, None, refl, sym, ap, subst, ◌∙◌, arith, append_assoc, Appends, Appends-trans, Kind, Unsound, IsFormed, GuestOf, IsValid, PartMap, PartKey, Record, text_of, headers, info_records, static_bodies, p2m_records, text_join, batch_records, batched, unsoundness, view, top_of, viewed_whole, bare_guest, wrapper_opening, wrapper_closing, AcceptedStream, opening_alike, closing_alike, MachineState, FrameTold, telling_frames, telling_record, Accepted, KeepsShape, FramesSaved, text_before, ClosesStream, HoldsParts, is_early, emulators_seen, first_records, first_within, SaverOf, PreparedFor, SaveWritten}
 use Rattle.std.specs.Prelude.{not}
 use Rattle.mig_guest.specs.PartCodes.{is_fixed}
 use Rattle.mig_canon.specs.Canon.{last_records}
@@ -18,14 +18,14 @@ records_are (b ∷ batches) = ap (λ (l : List Record). telling_record b ∷ l) 
 -- ---- what stays of a machine
 
 -- its kind and its width are those of the saver
-pub kind_stays : (s t : MachineState) (saver : SaverOf) (g : GuestOf) → StaysSame s t → IsFor saver s.host → g.kind ≡ saver.kind → g.kind ≡ t.host.kind
+pub kind_stays : (s t : MachineState) (saver : SaverOf) (g : GuestOf) → KeepsShape s t → PreparedFor saver s.host → g.kind ≡ saver.kind → g.kind ≡ t.host.kind
 kind_stays s t saver g same made is = is ∙ sym made.kind ∙ sym same.shape.kind
 
-pub width_stays : (s t : MachineState) (saver : SaverOf) (room : ℕ) → StaysSame s t → IsFor saver s.host → room ≡ saver.width → room ≡ t.host.width
+pub width_stays : (s t : MachineState) (saver : SaverOf) (room : ℕ) → KeepsShape s t → PreparedFor saver s.host → room ≡ saver.width → room ≡ t.host.width
 width_stays s t saver room same made is = is ∙ sym made.width ∙ sym same.shape.width
 
 -- its early parts are those that the saver holds
-pub early_stays : (s t : MachineState) (saver : SaverOf) (g : GuestOf) → StaysSame s t → IsFor saver s.host → g.parts ≡ saver.early
+pub early_stays : (s t : MachineState) (saver : SaverOf) (g : GuestOf) → KeepsShape s t → PreparedFor saver s.host → g.parts ≡ saver.early
     → (key : PartKey) → is_early key.code ≡ true → maps.get t.host.parts key ≡ maps.get g.parts key
 early_stays s t saver g same made is key one =
     same.shape.fixed key (and_parts (is_fixed key.code) (not (key.code == 258)) one).0 ∙ made.early key one ∙ ap (λ (m : PartMap). maps.get m key) (sym is)

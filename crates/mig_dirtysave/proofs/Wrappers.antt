@@ -1,5 +1,5 @@
 -- What is written around the image where the write stops: whole records of emulators, and a part of one more.
-use Rattle.mig_dirtysave.proofs.Common.{◌≡◌, ℕ, ◌+◌, ◌-◌, ◌<◌, Bool, true, false, List, [], ◌∷◌, ◌++◌, length, map, take, Option, Some, None, refl, sym, ap, subst, ◌∙◌, arith, length-append, ◌⊎◌, inl, inr, ◌==◌, is_some, All, option_map, eqb-true, Appends, append_known, Appends-trans, AppendsPart, PartKey, IsFormed, GuestOf, HostOf, Part, PartMap, spelled, Record, text_of, text_one, has_emulators, wrapper_opening, wrapper_closing, opening_alike, IsRecordWithin, AreRecordsWithin, WroteSome, MachineState, StaysSame, part_behind, some_records, SaverOf, IsFor}
+use Rattle.mig_dirtysave.proofs.Common.{◌≡◌, ℕ, ◌+◌, ◌-◌, ◌<◌, Bool, true, false, List, [], ◌∷◌, ◌++◌, length, map, take, Option, Some, None, refl, sym, ap, subst, ◌∙◌, arith, length-append, ◌⊎◌, inl, inr, ◌==◌, is_some, All, option_map, eqb-true, Appends, append_known, Appends-trans, AppendsPart, PartKey, IsFormed, GuestOf, HostOf, Part, PartMap, spelled, Record, text_of, text_one, has_emulators, wrapper_opening, wrapper_closing, opening_alike, IsRecordWithin, AreRecordsWithin, WroteSome, MachineState, KeepsShape, part_behind, some_records, SaverOf, PreparedFor}
 use Rattle.std.proofs.lemmas.Bool.{or_cases}
 use Rattle.std.proofs.lemmas.List.Elements.{All-head, All-tail}
 use Rattle.byteorder.specs.Endian.{little_bytes}
@@ -92,14 +92,14 @@ len_some None (Some y) same = let no : ◌≡◌ {A = Option ℕ} None (Some (le
 len_some (Some x) None same = let no : ◌≡◌ {A = Option ℕ} (Some (length x)) None = same in cc
 
 -- the settings that a saver holds have the keys of emulators that the host has
-pub opens_as_host : (h : HostOf) (saver : SaverOf) (g : GuestOf) → IsFor saver h → g.parts ≡ saver.settings → wrapper_opening g.parts ≡ wrapper_opening h.parts
+pub opens_as_host : (h : HostOf) (saver : SaverOf) (g : GuestOf) → PreparedFor saver h → g.parts ≡ saver.settings → wrapper_opening g.parts ≡ wrapper_opening h.parts
 opens_as_host h saver g made is = opening_alike g.parts h.parts (λ q code.
     ap (λ (m : PartMap). is_some (maps.get m q)) is ∙ sym (len_some (maps.get h.parts q) (maps.get saver.settings q) (made.settings q (emulator_setting q.code code))))
 
-pub begun_as_host : (old start : Option (List ℕ)) (h : HostOf) (saver : SaverOf) (g : GuestOf) → IsFor saver h → g.parts ≡ saver.settings → Appends old start (wrapper_opening g.parts) → Appends old start (wrapper_opening h.parts)
+pub begun_as_host : (old start : Option (List ℕ)) (h : HostOf) (saver : SaverOf) (g : GuestOf) → PreparedFor saver h → g.parts ≡ saver.settings → Appends old start (wrapper_opening g.parts) → Appends old start (wrapper_opening h.parts)
 begun_as_host old start h saver g made is a = subst (Appends old start) (opens_as_host h saver g made is) a
 
-module _ (s t : MachineState) (same : StaysSame s t) where
+module _ (s t : MachineState) (same : KeepsShape s t) where
   keys_stay : (q : PartKey) → is_emulator_code q.code ≡ true → is_some (maps.get t.host.parts q) ≡ is_some (maps.get s.host.parts q)
   keys_stay q code = len_some (maps.get t.host.parts q) (maps.get s.host.parts q) (same.shape.lengths q)
 

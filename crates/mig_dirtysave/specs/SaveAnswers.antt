@@ -1,5 +1,5 @@
 -- What a save has written, and what it answers.
-use Rattle.std.specs.Prelude.{◌≡◌, ◌⊎◌, ℕ, ◌+◌, ◌≤◌, true, List, [], ◌∷◌, ◌++◌, length, map, Option, Result, Ok, Err}
+use Rattle.std.specs.Prelude.{◌≡◌, ◌⊎◌, ℕ, ◌+◌, ◌≤◌, true, List, [], ◌∷◌, ◌++◌, length, map, Option, None, Some, Result, Ok, Err}
 use Rattle.std.specs.List.{AllByRecursion}
 use Rattle.std.specs.Io.KnownBytes.{Appends}
 use Rattle.mig_headers.specs.declared.kind.Kind.{Kind}
@@ -10,23 +10,24 @@ use Rattle.mig_records.specs.Records.{Record, text_of}
 use Rattle.mig_canon.specs.Canon.{headers}
 use Rattle.mig_records_pages.specs.Told.{FrameTold, telling_record, all_told}
 use Rattle.mig_records_pages.specs.Written.{AreRecordsWithin}
+use Rattle.mig_host_view.specs.Sound.{unsoundness}
 use Rattle.mig_host_view.specs.View.{view}
+use Rattle.mig_host_laws.specs.Standing.{is_of_no_type}
+use Rattle.mig_host_laws.specs.Unsoundness.{UnsoundHas}
 use Rattle.mig_canon.specs.CanonStream.{wrapper_opening, wrapper_closing}
 use Rattle.mig_libxl_form.specs.Spelled.{AcceptedStream}
 use Rattle.mig_dirtysave_parts.specs.SaveTexts.{IsOtherRecord}
 use Rattle.mig_guest.specs.MachineStates.{MachineState}
 use Rattle.mig_guest.specs.Rounds.{all_read}
 use Rattle.mig_dirtysave_rounds.specs.Entries.{pfns_sent}
+use Rattle.mig_dirtysave_rounds.specs.Live.{HasRounds, KeepsShape, ReadsExactly}
+use Rattle.mig_dirtysave_rounds.specs.Parts.{entries_read}
+use Rattle.mig_dirtysave.specs.Unread.{WroteNoStream}
 use Rattle.mig_dirtysave.specs.declared.answer.SaveAnswer.{SaveAnswer}
+use Rattle.mig_dirtysave.specs.declared.answer.SaveReport.{SaveReport}
 use Rattle.mig_dirtysave.specs.declared.answer.SaveAnswer.TheVariants as answers
 
--- the machine was paused, and its host was judged
-abbrev pub OnEnd : {X : Type 0} → Result X SaveAnswer → Type 0 → Type 0
-OnEnd (Ok x) P = P
-OnEnd (Err (answers.Unsound u)) P = P
-OnEnd (Err answers.MachineFault) P = Unit {0}
-OnEnd (Err answers.WriteFault) P = Unit {0}
-
+-- what is answered as wrong with the host, where the answer says so
 abbrev pub IfUnsound : {X : Type 0} → Result X SaveAnswer → (Unsound → Type 0) → Type 0
 IfUnsound (Ok x) P = Unit {0}
 IfUnsound (Err (answers.Unsound u)) P = P u
@@ -67,3 +68,44 @@ pub record WroteMost (old new : Option (List ℕ)) (parts : PartMap) (n : ℕ) :
 -- of n entries at most 1024 stand in no record that was written from old to new
 abbrev pub IsLittleBehind : Option (List ℕ) → Option (List ℕ) → PartMap → ℕ → Type 0
 IsLittleBehind old new parts n = (n ≤ 1024) ⊎ WroteMost old new parts n
+
+-- ---- how a save ends
+
+-- The machine is paused, behind rounds that are those of the definition, and it is still the one that was asked first: what
+-- never changes of a host, and honesty, are as they were.
+pub record PausesMachine (s t : MachineState) : Type 0 where
+  pub paused : t.paused ≡ true
+  pub rounds : HasRounds t
+  pub kept : KeepsShape s t
+
+-- No front of what was written is an accepted stream, and at most 1024 of the frame numbers that were read stand in no whole
+-- record.
+pub record LeavesNoStream (s t : MachineState) (old new : Option (List ℕ)) : Type 0 where
+  pub no_stream : WroteNoStream old new
+  pub behind : IsLittleBehind old new s.host.parts (entries_read s.host.width t.history)
+
+-- With `Ok` the stream of the paused host was written. Over a machine that is trusted the host can be seen as a guest; over an
+-- honest one nothing was read after the pause but what the last two logs name. The report counts the logs that were taken
+-- before the pause, and an entry for each frame number that was read.
+pub record EndsSaved (s t : MachineState) (old new : Option (List ℕ)) (report : SaveReport) : Type 0 where
+  pub pause : PausesMachine s t
+  pub exact : ReadsExactly t
+  pub sound : IsTrusted t → unsoundness t.host ≡ None
+  pub stream : SaveWritten old new t
+  pub rounds : report.rounds ≡ t.history.live
+  pub entries : report.entries ≡ length (all_read t.host.width t.history)
+
+-- With `Unsound` the paused host can't be seen as a guest. Over a machine that is trusted the cause is the first one in the
+-- host; over any machine it stands in the host, unless it speaks of the types of frames.
+pub record EndsUnsound (s t : MachineState) (old new : Option (List ℕ)) (unsound : Unsound) : Type 0 where
+  pub pause : PausesMachine s t
+  pub first : IsTrusted t → unsoundness t.host ≡ Some unsound
+  pub stands : is_of_no_type unsound ≡ true → (place : ℕ) × UnsoundHas t.host place unsound
+  pub unwritten : LeavesNoStream s t old new
+
+-- How a save ends that takes a machine from s to t and writes from old to new, by its answer.
+abbrev pub SaveEnds : MachineState → MachineState → Option (List ℕ) → Option (List ℕ) → Result SaveReport SaveAnswer → Type 0
+SaveEnds s t old new (Ok report) = EndsSaved s t old new report
+SaveEnds s t old new (Err (answers.Unsound unsound)) = EndsUnsound s t old new unsound
+SaveEnds s t old new (Err answers.MachineFault) = LeavesNoStream s t old new
+SaveEnds s t old new (Err answers.WriteFault) = LeavesNoStream s t old new

@@ -22,7 +22,7 @@ saver_code =
     (λ s. (s.kind, (s.width, (s.early, s.settings)))) (λ p. record { kind = p.0; width = p.1.0; early = p.1.1.0; settings = p.1.1.1 }) (λ _. refl)
 
 -- the saver is for a host of its kind and width, its early parts, and settings with these keys and lengths
-pub record IsFor (s : SaverOf) (h : HostOf) : Type 0 where
+pub record PreparedFor (s : SaverOf) (h : HostOf) : Type 0 where
   pub kind : h.kind ≡ s.kind
   pub width : h.width ≡ s.width
   pub early : (key : PartKey) → is_early key.code ≡ true → maps.get h.parts key ≡ maps.get s.early key

@@ -1,10 +1,10 @@
 ghost use Rattle.std.specs.Prelude.{◌≡◌, ◌≤◌, ℕ, length, true, None, Some, OnOk, OnErr, IsErrOf};
-ghost use Rattle.mig_bytes.specs.Faults.{Rose};
 ghost use Rattle.mig_headers.specs.declared.kind.Kind.TheVariants.{Hvm, Pv};
 ghost use Rattle.mig_headers.specs.declared.unsound.Unsound.{Unsound as UnsoundCause};
 ghost use Rattle.mig_guest.specs.Formed.{IsFormed};
 ghost use Rattle.mig_guest.specs.Hosts.{IsValid};
 ghost use Rattle.mig_host_view.specs.Sound.{unsoundness};
+ghost use Rattle.mig_dirtysave_rounds.specs.Causes.{AnswerHasCause, FaultsHaveCauses};
 ghost use Rattle.mig_dirtysave_rounds.specs.Live.{AnswersTables, IsUnsound, SawTypes};
 ghost use Rattle.mig_host_laws.specs.Standing.{is_of_no_type};
 ghost use Rattle.mig_host_laws.specs.Unsoundness.{UnsoundHas};
@@ -36,7 +36,7 @@ fn close_hvm<M: Machine, K: Sink>(
     requires same { SameSettings (M.state machine.now).host.parts settings.old.parts }
     requires valid { IsValid (M.state machine.now).host }
     requires hvm { (M.state machine.now).host.kind ≡ Hvm }
-    requires named { (u : UnsoundCause) → tables ≡ Some u → IsUnsound (M.state machine.now).host.frames u }
+    requires stands { (u : UnsoundCause) → tables ≡ Some u → IsUnsound (M.state machine.now).host.frames u }
     ensures none { OnOk result (tables ≡ None) }
     ensures closed { OnOk result (ClosesStream (M.state machine.now).host (K.written sink.old) (K.written sink.new)) }
     ensures formed { OnOk result (IsFormed settings.new) }
@@ -44,9 +44,7 @@ fn close_hvm<M: Machine, K: Sink>(
     ensures sound { OnOk result (unsoundness (M.state machine.now).host ≡ None) }
     ensures first { IfUnsound result (λ u. unsoundness (M.state machine.now).host ≡ Some u) }
     ensures stops { OnErr result (StopsBehind (K.written sink.old) (K.written sink.new)) }
-    ensures sink_count { K.faults sink.old ≤ K.faults sink.new }
-    ensures sink_quiet { OnOk result (K.faults sink.new ≡ K.faults sink.old) }
-    ensures write_fault { IsErrOf result WriteFault → Rose (K.faults sink.old) (K.faults sink.new) }
+    ensures cause { AnswerHasCause WriteFault (K.faults sink.old) (K.faults sink.new) result }
     ensures no_call { ¬ IsErrOf result MachineFault }
 {
     let front = match judge(machine, tables) {
@@ -77,7 +75,7 @@ fn settle<M: Machine>(
     requires marks { length types.now ≤ length marks.old }
     requires types { (M.state machine.old).honest ≡ true → HasTypes (M.state machine.old).host types.now }
     requires tables { AnswersTables (M.state machine.old) tables }
-    requires named { (u : UnsoundCause) → tables ≡ Some u → IsUnsound (M.state machine.old).host.frames u }
+    requires stands { (u : UnsoundCause) → tables ≡ Some u → IsUnsound (M.state machine.old).host.frames u }
     ensures none { OnOk result (tables ≡ None) }
     ensures seen { OnOk result (settings.new ≡ settings_seen (M.state machine.old).host) }
     ensures formed { OnOk result (IsFormed settings.new) }
@@ -86,8 +84,7 @@ fn settle<M: Machine>(
     ensures stands { IfUnsound result (λ u. is_of_no_type u ≡ true → (place : ℕ) × UnsoundHas (M.state machine.old).host place u) }
     ensures looks { OnlyLooksUp (M.state machine.old) (M.state machine.new) }
     ensures later { M.Later machine.old machine.new }
-    ensures machine_count { M.faults machine.old ≤ M.faults machine.new }
-    ensures machine_fault { IsErrOf result MachineFault → Rose (M.faults machine.old) (M.faults machine.new) }
+    ensures cause { AnswerHasCause MachineFault (M.faults machine.old) (M.faults machine.new) result }
     ensures no_write { ¬ IsErrOf result WriteFault }
 {
     refresh(settings, machine);
@@ -116,7 +113,7 @@ fn close_pv<M: Machine, K: Sink>(
     requires marks { length marks.old ≡ (M.state machine.old).host.width }
     requires types { SawTypes types.now (M.state machine.old) }
     requires tables { AnswersTables (M.state machine.old) tables }
-    requires named { (u : UnsoundCause) → tables ≡ Some u → IsUnsound (M.state machine.old).host.frames u }
+    requires stands { (u : UnsoundCause) → tables ≡ Some u → IsUnsound (M.state machine.old).host.frames u }
     ensures none { OnOk result (tables ≡ None) }
     ensures closed { OnOk result (ClosesStream (M.state machine.old).host (K.written sink.old) (K.written sink.new)) }
     ensures formed { OnOk result (IsFormed settings.new) }
@@ -127,11 +124,7 @@ fn close_pv<M: Machine, K: Sink>(
     ensures stops { OnErr result (StopsBehind (K.written sink.old) (K.written sink.new)) }
     ensures looks { OnlyLooksUp (M.state machine.old) (M.state machine.new) }
     ensures later { M.Later machine.old machine.new }
-    ensures machine_count { M.faults machine.old ≤ M.faults machine.new }
-    ensures sink_count { K.faults sink.old ≤ K.faults sink.new }
-    ensures sink_quiet { OnOk result (K.faults sink.new ≡ K.faults sink.old) }
-    ensures machine_fault { IsErrOf result MachineFault → Rose (M.faults machine.old) (M.faults machine.new) }
-    ensures write_fault { IsErrOf result WriteFault → Rose (K.faults sink.old) (K.faults sink.new) }
+    ensures faults { FaultsHaveCauses MachineFault WriteFault (M.faults machine.old) (M.faults machine.new) (K.faults sink.old) (K.faults sink.new) result }
 {
     // What is beyond the marks is no frame number of the machine.
     let count = types.len().min(marks.len());
@@ -164,7 +157,7 @@ pub(crate) fn close<M: Machine, K: Sink>(
     requires marks { (M.state machine.old).host.kind ≡ Pv → length marks.old ≡ (M.state machine.old).host.width }
     requires types { SawTypes sent.now.types.items (M.state machine.old) }
     requires tables { AnswersTables (M.state machine.old) sent.now.unsound }
-    requires named { (u : UnsoundCause) → sent.now.unsound ≡ Some u → IsUnsound (M.state machine.old).host.frames u }
+    requires stands { (u : UnsoundCause) → sent.now.unsound ≡ Some u → IsUnsound (M.state machine.old).host.frames u }
     ensures none { OnOk result (sent.now.unsound ≡ None) }
     ensures closed { OnOk result (ClosesStream (M.state machine.old).host (K.written sink.old) (K.written sink.new)) }
     ensures formed { OnOk result (IsFormed settings.new) }
@@ -175,11 +168,7 @@ pub(crate) fn close<M: Machine, K: Sink>(
     ensures stops { OnErr result (StopsBehind (K.written sink.old) (K.written sink.new)) }
     ensures looks { OnlyLooksUp (M.state machine.old) (M.state machine.new) }
     ensures later { M.Later machine.old machine.new }
-    ensures machine_count { M.faults machine.old ≤ M.faults machine.new }
-    ensures sink_count { K.faults sink.old ≤ K.faults sink.new }
-    ensures sink_quiet { OnOk result (K.faults sink.new ≡ K.faults sink.old) }
-    ensures machine_fault { IsErrOf result MachineFault → Rose (M.faults machine.old) (M.faults machine.new) }
-    ensures write_fault { IsErrOf result WriteFault → Rose (K.faults sink.old) (K.faults sink.new) }
+    ensures faults { FaultsHaveCauses MachineFault WriteFault (M.faults machine.old) (M.faults machine.new) (K.faults sink.old) (K.faults sink.new) result }
 {
     match machine.kind() {
         Kind::Hvm => close_hvm(machine, sink, settings, sent.unsound),

@@ -1,18 +1,11 @@
-ghost use Rattle.std.specs.Prelude.{◌≡◌, ◌≤◌, length, true, false, None, Some, OnOk, OnErr, IfOk, IsErrOf, ℕ};
-ghost use Rattle.mig_bytes.specs.Faults.{Rose};
+ghost use Rattle.std.specs.Prelude.{◌≡◌, false, length, IfOk};
 ghost use Rattle.mig_headers.specs.declared.kind.Kind.TheVariants.{Pv};
 ghost use Rattle.mig_guest.specs.Formed.{IsFormed};
-ghost use Rattle.mig_host_view.specs.Sound.{unsoundness};
 ghost use Rattle.mig_guest.specs.History.{no_history};
-ghost use Rattle.mig_guest.specs.Rounds.{all_read};
-ghost use Rattle.mig_host_laws.specs.Standing.{is_of_no_type};
-ghost use Rattle.mig_host_laws.specs.Unsoundness.{UnsoundHas};
-ghost use Rattle.mig_dirtysave.specs.Unread.{WroteNoStream};
-ghost use Rattle.mig_dirtysave_rounds.specs.Parts.{total};
-ghost use Rattle.mig_dirtysave_rounds.specs.Live.{StaysSame, HasRounds, IsTight};
+ghost use Rattle.mig_dirtysave_rounds.specs.Causes.{FaultsHaveCauses};
 ghost use Rattle.mig_dirtysave_parts.specs.KeptParts.{HoldsParts, is_early, is_setting};
-ghost use Rattle.mig_dirtysave.specs.Saver.{IsFor};
-ghost use Rattle.mig_dirtysave.specs.SaveAnswers.{OnEnd, IfUnsound, IsTrusted, SaveWritten, IsLittleBehind};
+ghost use Rattle.mig_dirtysave.specs.Saver.{PreparedFor};
+ghost use Rattle.mig_dirtysave.specs.SaveAnswers.{SaveEnds};
 ghost use Rattle.mig_dirtysave.specs.declared.answer.SaveAnswer.TheVariants.{MachineFault, WriteFault};
 
 use crate::answer::{SaveAnswer, SaveReport};
@@ -55,7 +48,7 @@ impl Model for Saver {
 impl Saver {
     /// Makes all that `run` needs, for a machine as it is now.
     pub fn prepare<M: Machine>(alloc: Global, machine: &M) -> Result<Saver, Memory>
-        ensures { IfOk result (λ saver. IsFor saver (M.state machine.now).host) }
+        ensures { IfOk result (λ saver. PreparedFor saver (M.state machine.now).host) }
     {
         let room = Room::new(alloc, machine.width())?;
         let (early, settings) = copy_parts(alloc, machine)?;
@@ -75,27 +68,12 @@ impl Saver {
         machine: &mut M,
         sink: &mut K,
     ) -> Result<SaveReport, SaveAnswer>
-        requires made { IsFor self (M.state machine.old).host }
+        requires made { PreparedFor self (M.state machine.old).host }
         requires unpaused { (M.state machine.old).paused ≡ false }
         requires unread { (M.state machine.old).history ≡ no_history }
-        ensures paused { OnEnd result ((M.state machine.new).paused ≡ true) }
-        ensures rounds { OnEnd result (HasRounds (M.state machine.new)) }
-        ensures tight { OnOk result (IsTight (M.state machine.new)) }
-        ensures kept { OnEnd result (StaysSame (M.state machine.old) (M.state machine.new)) }
-        ensures report { IfOk result (λ report. report.rounds ≡ (M.state machine.new).history.live) }
-        ensures entries { IfOk result (λ report. report.entries ≡ length (all_read (M.state machine.new).host.width (M.state machine.new).history)) }
-        ensures stream { OnOk result (SaveWritten (K.written sink.old) (K.written sink.new) (M.state machine.new)) }
-        ensures sound { OnOk result (IsTrusted (M.state machine.new) → unsoundness (M.state machine.new).host ≡ None) }
-        ensures first { IfUnsound result (λ u. IsTrusted (M.state machine.new) → unsoundness (M.state machine.new).host ≡ Some u) }
-        ensures named { IfUnsound result (λ u. is_of_no_type u ≡ true → (place : ℕ) × UnsoundHas (M.state machine.new).host place u) }
-        ensures no_stream { OnErr result (WroteNoStream (K.written sink.old) (K.written sink.new)) }
-        ensures behind { OnErr result (IsLittleBehind (K.written sink.old) (K.written sink.new) (M.state machine.old).host.parts (total (M.state machine.old).host.width (M.state machine.new).history)) }
+        ensures ends { SaveEnds (M.state machine.old) (M.state machine.new) (K.written sink.old) (K.written sink.new) result }
         ensures later { M.Later machine.old machine.new }
-        ensures machine_count { M.faults machine.old ≤ M.faults machine.new }
-        ensures sink_count { K.faults sink.old ≤ K.faults sink.new }
-        ensures sink_quiet { OnOk result (K.faults sink.new ≡ K.faults sink.old) }
-        ensures machine_fault { IsErrOf result MachineFault → Rose (M.faults machine.old) (M.faults machine.new) }
-        ensures write_fault { IsErrOf result WriteFault → Rose (K.faults sink.old) (K.faults sink.new) }
+        ensures faults { FaultsHaveCauses MachineFault WriteFault (M.faults machine.old) (M.faults machine.new) (K.faults sink.old) (K.faults sink.new) result }
     {
         let Saver {
             early,
@@ -117,31 +95,16 @@ fn save<M: Machine, K: Sink>(
     marks: &mut [Option<bool>],
     room: Room,
 ) -> Result<SaveReport, SaveAnswer>
-    requires made { IsFor (record { kind = early.now.kind; width = room; early = early.now.parts; settings = settings.old.parts }) (M.state machine.old).host }
+    requires made { PreparedFor (record { kind = early.now.kind; width = room; early = early.now.parts; settings = settings.old.parts }) (M.state machine.old).host }
     requires formed { IsFormed early.now }
     requires early { HoldsParts is_early early.now.kind room early.now }
     requires settings { HoldsParts is_setting early.now.kind room settings.old }
     requires marks { early.now.kind ≡ Pv → length marks.old ≡ room }
     requires unpaused { (M.state machine.old).paused ≡ false }
     requires unread { (M.state machine.old).history ≡ no_history }
-    ensures paused { OnEnd result ((M.state machine.new).paused ≡ true) }
-    ensures rounds { OnEnd result (HasRounds (M.state machine.new)) }
-    ensures tight { OnOk result (IsTight (M.state machine.new)) }
-    ensures kept { OnEnd result (StaysSame (M.state machine.old) (M.state machine.new)) }
-    ensures report { IfOk result (λ report. report.rounds ≡ (M.state machine.new).history.live) }
-    ensures entries { IfOk result (λ report. report.entries ≡ length (all_read (M.state machine.new).host.width (M.state machine.new).history)) }
-    ensures stream { OnOk result (SaveWritten (K.written sink.old) (K.written sink.new) (M.state machine.new)) }
-    ensures sound { OnOk result (IsTrusted (M.state machine.new) → unsoundness (M.state machine.new).host ≡ None) }
-    ensures first { IfUnsound result (λ u. IsTrusted (M.state machine.new) → unsoundness (M.state machine.new).host ≡ Some u) }
-    ensures named { IfUnsound result (λ u. is_of_no_type u ≡ true → (place : ℕ) × UnsoundHas (M.state machine.new).host place u) }
-    ensures no_stream { OnErr result (WroteNoStream (K.written sink.old) (K.written sink.new)) }
-    ensures behind { OnErr result (IsLittleBehind (K.written sink.old) (K.written sink.new) (M.state machine.old).host.parts (total (M.state machine.old).host.width (M.state machine.new).history)) }
+    ensures ends { SaveEnds (M.state machine.old) (M.state machine.new) (K.written sink.old) (K.written sink.new) result }
     ensures later { M.Later machine.old machine.new }
-    ensures machine_count { M.faults machine.old ≤ M.faults machine.new }
-    ensures sink_count { K.faults sink.old ≤ K.faults sink.new }
-    ensures sink_quiet { OnOk result (K.faults sink.new ≡ K.faults sink.old) }
-    ensures machine_fault { IsErrOf result MachineFault → Rose (M.faults machine.old) (M.faults machine.new) }
-    ensures write_fault { IsErrOf result WriteFault → Rose (K.faults sink.old) (K.faults sink.new) }
+    ensures faults { FaultsHaveCauses MachineFault WriteFault (M.faults machine.old) (M.faults machine.new) (K.faults sink.old) (K.faults sink.new) result }
 {
     begin(sink, settings)?;
     open(sink, early)?;

@@ -1,15 +1,16 @@
-ghost use Rattle.std.specs.Prelude.{◌≡◌, ◌≤◌, true, false, None, Some, OnOk, OnErr, IfOk, IsErrOf};
+ghost use Rattle.std.specs.Prelude.{◌≡◌, true, false, None, Some, OnOk, OnErr, IfOk, IsErrOf};
 ghost use Rattle.std.specs.Io.KnownBytes.{Appends};
 ghost use Rattle.mig_bytes.specs.Bytes.{AppendsPart};
-ghost use Rattle.mig_bytes.specs.Faults.{Rose};
+ghost use Rattle.mig_bytes.specs.Faults.{HasCause};
 ghost use Rattle.mig_headers.specs.declared.unsound.Unsound.{Unsound as UnsoundCause};
 ghost use Rattle.mig_guest.specs.Formed.{IsFormed};
 ghost use Rattle.mig_guest.specs.Hosts.{IsValid};
 ghost use Rattle.mig_records_pages.specs.Batches.{IsBehind};
 ghost use Rattle.mig_guest.specs.History.{no_history};
 ghost use Rattle.mig_guest.specs.MachineStates.{IsValidState};
-ghost use Rattle.mig_dirtysave_rounds.specs.Parts.{total};
-ghost use Rattle.mig_dirtysave_rounds.specs.Live.{StaysSame, HasRounds, IsTight, FramesSaved, SawTypes, AnswersTables, IsUnsound};
+ghost use Rattle.mig_dirtysave_rounds.specs.Causes.{FaultsHaveCauses};
+ghost use Rattle.mig_dirtysave_rounds.specs.Parts.{entries_read};
+ghost use Rattle.mig_dirtysave_rounds.specs.Live.{KeepsShape, HasRounds, ReadsExactly, FramesSaved, SawTypes, AnswersTables, IsUnsound};
 ghost use Rattle.mig_canon.specs.CanonStream.{wrapper_opening, wrapper_closing};
 ghost use Rattle.mig_dirtysave_parts.specs.SaveTexts.{text_before};
 ghost use Rattle.mig_dirtysave.specs.SaveAnswers.{IfUnsound};
@@ -29,9 +30,8 @@ pub(crate) fn open<K: Sink>(sink: &mut K, early: &Guest) -> Result<(), SaveAnswe
     requires { IsFormed early.now }
     ensures opened { OnOk result (Appends (K.written sink.old) (K.written sink.new) (text_before early.now)) }
     ensures part { OnErr result (AppendsPart (K.written sink.old) (K.written sink.new) (text_before early.now)) }
-    ensures sink_count { K.faults sink.old ≤ K.faults sink.new }
-    ensures sink_quiet { OnOk result (K.faults sink.new ≡ K.faults sink.old) }
-    ensures write_fault { OnErr result (IsErrOf result WriteFault × Rose (K.faults sink.old) (K.faults sink.new)) }
+    ensures cause { HasCause (K.faults sink.old) (K.faults sink.new) result }
+    ensures which { OnErr result (IsErrOf result WriteFault) }
 {
     match write_before(sink, early) {
         Ok(()) => Ok(()),
@@ -43,9 +43,8 @@ pub(crate) fn open<K: Sink>(sink: &mut K, early: &Guest) -> Result<(), SaveAnswe
 pub(crate) fn begin<K: Sink>(sink: &mut K, settings: &Guest) -> Result<(), SaveAnswer>
     ensures begun { OnOk result (Appends (K.written sink.old) (K.written sink.new) (wrapper_opening settings.now.parts)) }
     ensures part { OnErr result (AppendsPart (K.written sink.old) (K.written sink.new) (wrapper_opening settings.now.parts)) }
-    ensures sink_count { K.faults sink.old ≤ K.faults sink.new }
-    ensures sink_quiet { OnOk result (K.faults sink.new ≡ K.faults sink.old) }
-    ensures write_fault { OnErr result (IsErrOf result WriteFault × Rose (K.faults sink.old) (K.faults sink.new)) }
+    ensures cause { HasCause (K.faults sink.old) (K.faults sink.new) result }
+    ensures which { OnErr result (IsErrOf result WriteFault) }
 {
     match write_opening(sink, settings) {
         Ok(()) => Ok(()),
@@ -58,9 +57,8 @@ pub(crate) fn end<K: Sink>(sink: &mut K, settings: &Guest) -> Result<(), SaveAns
     requires { IsFormed settings.now }
     ensures ended { OnOk result (Appends (K.written sink.old) (K.written sink.new) (wrapper_closing settings.now.parts)) }
     ensures part { OnErr result (AppendsPart (K.written sink.old) (K.written sink.new) (wrapper_closing settings.now.parts)) }
-    ensures sink_count { K.faults sink.old ≤ K.faults sink.new }
-    ensures sink_quiet { OnOk result (K.faults sink.new ≡ K.faults sink.old) }
-    ensures write_fault { OnErr result (IsErrOf result WriteFault × Rose (K.faults sink.old) (K.faults sink.new)) }
+    ensures cause { HasCause (K.faults sink.old) (K.faults sink.new) result }
+    ensures which { OnErr result (IsErrOf result WriteFault) }
 {
     match write_closing(sink, settings) {
         Ok(()) => Ok(()),
@@ -87,21 +85,17 @@ pub(crate) fn send<M: Machine, K: Sink>(
     ensures valid { IsValid (M.state machine.new).host }
     ensures paused { OnOk result ((M.state machine.new).paused ≡ true) }
     ensures rounds { OnOk result (HasRounds (M.state machine.new)) }
-    ensures tight { IfOk result (λ sent. sent.unsound ≡ None → IsTight (M.state machine.new)) }
+    ensures exact { IfOk result (λ sent. sent.unsound ≡ None → ReadsExactly (M.state machine.new)) }
     ensures report { IfOk result (λ sent. sent.rounds ≡ (M.state machine.new).history.live) }
-    ensures entries { IfOk result (λ sent. sent.entries ≡ total (M.state machine.new).host.width (M.state machine.new).history) }
+    ensures entries { IfOk result (λ sent. sent.entries ≡ entries_read (M.state machine.new).host.width (M.state machine.new).history) }
     ensures frames { IfOk result (λ sent. FramesSaved (K.written sink.old) (K.written sink.new) (M.state machine.new) sent.unsound) }
     ensures types { IfOk result (λ sent. SawTypes sent.types.items (M.state machine.new)) }
     ensures first { IfOk result (λ sent. AnswersTables (M.state machine.new) sent.unsound) }
-    ensures named { IfOk result (λ sent. (u : UnsoundCause) → sent.unsound ≡ Some u → IsUnsound (M.state machine.new).host.frames u) }
-    ensures behind { OnErr result (IsBehind (K.written sink.old) (K.written sink.new) (total (M.state machine.old).host.width (M.state machine.new).history)) }
-    ensures kept { StaysSame (M.state machine.old) (M.state machine.new) }
+    ensures stands { IfOk result (λ sent. (u : UnsoundCause) → sent.unsound ≡ Some u → IsUnsound (M.state machine.new).host.frames u) }
+    ensures behind { OnErr result (IsBehind (K.written sink.old) (K.written sink.new) (entries_read (M.state machine.old).host.width (M.state machine.new).history)) }
+    ensures kept { KeepsShape (M.state machine.old) (M.state machine.new) }
     ensures later { M.Later machine.old machine.new }
-    ensures machine_count { M.faults machine.old ≤ M.faults machine.new }
-    ensures sink_count { K.faults sink.old ≤ K.faults sink.new }
-    ensures sink_quiet { OnOk result (K.faults sink.new ≡ K.faults sink.old) }
-    ensures machine_fault { IsErrOf result MachineFault → Rose (M.faults machine.old) (M.faults machine.new) }
-    ensures write_fault { IsErrOf result WriteFault → Rose (K.faults sink.old) (K.faults sink.new) }
+    ensures faults { FaultsHaveCauses MachineFault WriteFault (M.faults machine.old) (M.faults machine.new) (K.faults sink.old) (K.faults sink.new) result }
     ensures unjudged { IfUnsound result (λ u. ⊥) }
 {
     host_is_valid(machine);

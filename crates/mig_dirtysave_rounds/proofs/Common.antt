@@ -12,8 +12,8 @@ pub use Rattle.mig_dirtysave_rounds.specs.Entries.{AreTold, meant}
 pub use Rattle.mig_dirtysave_rounds.specs.Findings.{CanBeTold, Finding, NamesWithin, found_as, frame_sent, is_deferred, judge, judged, type_found}
 pub use Rattle.mig_dirtysave_rounds.specs.Findings.Finding.{Shows}
 pub use Rattle.mig_dirtysave_rounds.specs.Forms.{form_of_print, form_page, is_lost, lost_at, lost_in, lost_slot, superpage_in, superpage_slot, table_of, type_of_print}
-pub use Rattle.mig_dirtysave_rounds.specs.Live.{FramesSaved, Live, LiveSent, SavedSent, SendsRounds, StaysSame, table_fault, worst_fault}
-pub use Rattle.mig_dirtysave_rounds.specs.Parts.{front, rest, total, total_taken}
+pub use Rattle.mig_dirtysave_rounds.specs.Live.{FramesSaved, Live, LiveSent, SavedSent, SendsRounds, KeepsShape, table_fault, worst_fault}
+pub use Rattle.mig_dirtysave_rounds.specs.Parts.{front, rest, entries_read, entries_read_before}
 pub use Rattle.mig_dirtysave_rounds.specs.Sends.{IsWorst, ReadsFront, SendsFront, lost_of, or_first, place, super_of, within_set}
 pub use Rattle.mig_dirtysave_rounds.specs.Step.{IsRaw, IsRenamed, IsRight, Looks, ReadsOne, Strays, most_calls, put_slot}
 pub use Rattle.mig_dirtysave_rounds.specs.Unused.{IsUnused}

@@ -1,5 +1,5 @@
 -- From the pause to the end, and the start.
-use Rattle.mig_dirtysave_rounds.proofs.Common.{arith, ◌≡◌, ℕ, ◌+◌, ◌<◌, ◌≤◌, List, [], ◌∷◌, ◌++◌, length, Bool, true, false, cond, Option, Some, None, refl, sym, ap, subst, ◌∙◌, inl, inr, append-nil, ◌||◌, ◌⊎◌, option_map, nat_cmp_total, cases_lt, nat_tests, fun_ext, HostOf, HostFrame, HostFrames, FrameTold, Pfns, no_pfns, joined, members, size, all_below, footprint, footprint_of, Since, History, nothing_asked, no_history, one_more, and_call, MachineState, IsValidState, LogTaken, Rounds, to_read, rounds_read, all_read, Worst, form_of_print, type_of_print, superpage_slot, lost_slot, judged, frame_sent, is_deferred, IsBelow, rest, total, total_taken, meant, Notes, no_notes, Current, ReadsFront, SendsFront, IsWorst, within_set, super_of, lost_of, LiveSent, SavedSent, table_fault, worst_fault}
+use Rattle.mig_dirtysave_rounds.proofs.Common.{arith, ◌≡◌, ℕ, ◌+◌, ◌<◌, ◌≤◌, List, [], ◌∷◌, ◌++◌, length, Bool, true, false, cond, Option, Some, None, refl, sym, ap, subst, ◌∙◌, inl, inr, append-nil, ◌||◌, ◌⊎◌, option_map, nat_cmp_total, cases_lt, nat_tests, fun_ext, HostOf, HostFrame, HostFrames, FrameTold, Pfns, no_pfns, joined, members, size, all_below, footprint, footprint_of, Since, History, nothing_asked, no_history, one_more, and_call, MachineState, IsValidState, LogTaken, Rounds, to_read, rounds_read, all_read, Worst, form_of_print, type_of_print, superpage_slot, lost_slot, judged, frame_sent, is_deferred, IsBelow, rest, entries_read, entries_read_before, meant, Notes, no_notes, Current, ReadsFront, SendsFront, IsWorst, within_set, super_of, lost_of, LiveSent, SavedSent, table_fault, worst_fault}
 use Rattle.std.specs.Ordering.{nat_cmp}
 use Rattle.std.specs.FinMap.{nat_cmp-IsAntisymmetric}
 use Rattle.mig_pvtables.proofs.EachValue.{get_each}
@@ -37,14 +37,14 @@ neither false b h = (refl, h)
 
 -- how many PFNs were read before the last ones
 pub even_last : (s t u : MachineState) (set log : Pfns) (sent : List FrameTold) (notes : Notes) → s.history.since ≡ nothing_asked → Paused s t → LogTaken log t u → LiveSent s set sent notes
-    → length sent ≡ total_taken u.host.width u.history.taken
+    → length sent ≡ entries_read_before u.host.width u.history.taken
 even_last s t u set log sent notes fresh paused took live =
-    even s set sent notes live ∙ last_total ∙ ap (λ w. total_taken w u.history.taken) (sym (took.ran.shape.width ∙ paused.ran.shape.width))
+    even s set sent notes live ∙ last_total ∙ ap (λ w. entries_read_before w u.history.taken) (sym (took.ran.shape.width ∙ paused.ran.shape.width))
   where
-    last_total : total_taken s.host.width s.history.taken ≡ total_taken s.host.width u.history.taken
+    last_total : entries_read_before s.host.width s.history.taken ≡ entries_read_before s.host.width u.history.taken
     last_total = omega (
       arith,
-      ap (total_taken s.host.width) (ap (λ (h : History). h.taken) took.history ∙ ap (λ (h : History). taken_after t log ∷ h.taken) paused.history),
+      ap (entries_read_before s.host.width) (ap (λ (h : History). h.taken) took.history ∙ ap (λ (h : History). taken_after t log ∷ h.taken) paused.history),
       ap (λ (a : Since). size s.host.width a.read) (ap (λ (h : History). h.since) paused.history ∙ ap and_call fresh),
       size_none s.host.width,
     )
@@ -117,17 +117,17 @@ module _ (rounds : ℕ) (s t u v : MachineState) (set log : Pfns) (notes : Notes
   }
 
   -- how many PFNs were read in all
-  pub counted_last : total v.host.width v.history ≡ total_taken s.host.width s.history.taken + size v.host.width both
+  pub counted_last : entries_read v.host.width v.history ≡ entries_read_before s.host.width s.history.taken + size v.host.width both
   counted_last =
-      ap (λ w. total w v.history) last_width
+      ap (λ w. entries_read w v.history) last_width
       ∙ omega (
         arith,
-        ap (total_taken s.host.width) taken,
+        ap (entries_read_before s.host.width) taken,
         ap (λ (a : Since). size s.host.width a.read) asked,
         size_none s.host.width,
         ap (λ (r : Pfns). size s.host.width r) (l.reads.read ∙ front_all s.host.width both l.below),
       )
-      ∙ ap (λ n. total_taken s.host.width s.history.taken + size n both) (sym last_width)
+      ∙ ap (λ n. entries_read_before s.host.width s.history.taken + size n both) (sym last_width)
 
   earlier : rounds_read s.host.width s.history.taken ≡ rounds_read s.host.width v.history.taken
   earlier = sym (ap (rounds_read s.host.width) taken ∙ ap (λ (r : Pfns). rounds_read s.host.width s.history.taken ++ members s.host.width r) (ap (λ (a : Since). a.read) asked)

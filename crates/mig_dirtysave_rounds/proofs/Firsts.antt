@@ -119,9 +119,9 @@ some_of : (b : Bool) (x : Option ℕ) (s : ℕ) → cond b x None ≡ Some s →
 some_of true x s e = e
 some_of false x s e = absurd (not_none s e)
 
--- over any machine: what is named is so
-pub named : (n : ℕ) (set : Pfns) (frames : HostFrames) (worst : Worst) (u : Unsound) → IsWorst n set frames worst → worst_fault worst ≡ Some u → IsUnsound frames u
-named n set frames worst u h is = go worst.superpage worst.lost refl refl is
+-- over any machine: what is answered as the worst stands there
+pub worst_stands : (n : ℕ) (set : Pfns) (frames : HostFrames) (worst : Worst) (u : Unsound) → IsWorst n set frames worst → worst_fault worst ≡ Some u → IsUnsound frames u
+worst_stands n set frames worst u h is = go worst.superpage worst.lost refl refl is
   where
     at_super : (p s : ℕ) → worst.superpage ≡ Some (p, s) → superpage_slot (footprint frames p) ≡ Some s
     at_super p s e =

@@ -1,5 +1,5 @@
 -- From round to round, and to the pause.
-use Rattle.mig_dirtysave_rounds.proofs.Common.{arith, ◌≡◌, ℕ, ◌+◌, ◌*◌, ◌^◌, ◌≤◌, ◌<◌, List, [], ◌∷◌, ◌++◌, length, Bool, true, false, cond, Option, Result, Ok, Err, refl, sym, ap, subst, ◌∙◌, length-append, ◌&&◌, OnErr, IfOk, nat_tests, length-map, fun_ext, Kind, Pv, Hvm, FrameTold, IsSent, IsBehind, behind_anyway, Pfns, no_pfns, members, size, LogTook, History, one_more, and_call, MachineState, LogTaken, GoesOn, to_read, rounds_read, most_calls, IsBelow, front, rest, total, total_taken, Notes, ReadsFront, SendsFront, StaysSame, Live, LiveSent, size-le}
+use Rattle.mig_dirtysave_rounds.proofs.Common.{arith, ◌≡◌, ℕ, ◌+◌, ◌*◌, ◌^◌, ◌≤◌, ◌<◌, List, [], ◌∷◌, ◌++◌, length, Bool, true, false, cond, Option, Result, Ok, Err, refl, sym, ap, subst, ◌∙◌, length-append, ◌&&◌, OnErr, IfOk, nat_tests, length-map, fun_ext, Kind, Pv, Hvm, FrameTold, IsSent, IsBehind, behind_anyway, Pfns, no_pfns, members, size, LogTook, History, one_more, and_call, MachineState, LogTaken, GoesOn, to_read, rounds_read, most_calls, IsBelow, front, rest, entries_read, entries_read_before, Notes, ReadsFront, SendsFront, KeepsShape, Live, LiveSent, size-le}
 use Rattle.std.proofs.Common.{filter}
 use Rattle.std.specs.Prelude.{nat_lt, OnOk}
 use Rattle.std.specs.List.{range_with_len}
@@ -99,7 +99,7 @@ sent_round s t u set log before after notes now below reads took sent sends = re
     taken : u.history.taken ≡ taken_after t log ∷ s.history.taken
     taken = ap (λ (h : History). h.taken) took.history ∙ ap (λ l. taken_after t log ∷ l) reads.taken
 
-pub round_keeps : (s t u : MachineState) (i : ℕ) (set log : Pfns) → ReadsFront i set s t → LogTaken log t u → StaysSame s u
+pub round_keeps : (s t u : MachineState) (i : ℕ) (set log : Pfns) → ReadsFront i set s t → LogTaken log t u → KeepsShape s u
 round_keeps s t u i set log reads took = stays_on s t u (reads_stay i set s t reads) (ran_stays t u log took.ran)
 
 pub longer : (s t u : MachineState) (i : ℕ) (set log : Pfns) → ReadsFront i set s t → LogTaken log t u → length u.history.taken ≡ length s.history.taken + 1
@@ -110,11 +110,11 @@ longer s t u i set log reads took = ap (λ (h : History). length h.taken) took.h
 
 -- and so many PFNs more were read
 pub counted_more : (s t u : MachineState) (set log : Pfns) → IsBelow s.host.width set → ReadsFront s.host.width set s t → LogTaken log t u
-    → total_taken u.host.width u.history.taken ≡ total_taken s.host.width s.history.taken + size s.host.width set
+    → entries_read_before u.host.width u.history.taken ≡ entries_read_before s.host.width s.history.taken + size s.host.width set
 counted_more s t u set log below reads took =
-    ap (λ w. total_taken w u.history.taken) (took.ran.shape.width ∙ reads.shape.width)
-    ∙ ap (total_taken s.host.width) (ap (λ (h : History). h.taken) took.history ∙ ap (λ l. taken_after t log ∷ l) reads.taken)
-    ∙ ap (λ (r : Pfns). total_taken s.host.width s.history.taken + size s.host.width r) (reads.read ∙ front_all s.host.width set below)
+    ap (λ w. entries_read_before w u.history.taken) (took.ran.shape.width ∙ reads.shape.width)
+    ∙ ap (entries_read_before s.host.width) (ap (λ (h : History). h.taken) took.history ∙ ap (λ l. taken_after t log ∷ l) reads.taken)
+    ∙ ap (λ (r : Pfns). entries_read_before s.host.width s.history.taken + size s.host.width r) (reads.read ∙ front_all s.host.width set below)
 
 pub goes_on : (u : MachineState) (set : Pfns) → Live u set → 50 ≤ size u.host.width set → GoesOn u.host.width u.history.taken
 goes_on u set live many = go u.history.taken refl
@@ -125,11 +125,11 @@ goes_on u set live many = go u.history.taken refl
 
 -- ---- how much isn't written
 
-pub length_rounds : (width : ℕ) (l : List LogTook) → length (rounds_read width l) ≡ total_taken width l
+pub length_rounds : (width : ℕ) (l : List LogTook) → length (rounds_read width l) ≡ entries_read_before width l
 length_rounds width [] = refl
 length_rounds width (last ∷ before) = length-append (rounds_read width before) (members width last.asked.read) ∙ ap (λ n. n + size width last.asked.read) (length_rounds width before)
 
-pub even : (s : MachineState) (set : Pfns) (sent : List FrameTold) (notes : Notes) → LiveSent s set sent notes → length sent ≡ total_taken s.host.width s.history.taken
+pub even : (s : MachineState) (set : Pfns) (sent : List FrameTold) (notes : Notes) → LiveSent s set sent notes → length sent ≡ entries_read_before s.host.width s.history.taken
 even s set sent notes l = sym (length-map sent (λ (e : FrameTold). e.pfn)) ∙ ap length l.order ∙ length_rounds s.host.width s.history.taken
 
 pub behind_now : (start now : Option (List ℕ)) (flushes n : ℕ) (sent : List FrameTold) → n ≤ length sent + 1 → IsSent start now flushes [] sent → IsBehind start now n
@@ -138,10 +138,10 @@ behind_now start now flushes n sent le s =
 
 pub behind_taken : (start now : Option (List ℕ)) (flushes : ℕ) (s t : MachineState) (k : History) (set : Pfns) (before after : List FrameTold) (notes later : Notes)
     → IsBelow s.host.width set → LiveSent s set before notes → ReadsFront s.host.width set s t
-    → SendsFront s.host.width set s t before after notes later → k ≡ t.history → IsSent start now flushes [] after → IsBehind start now (total s.host.width k)
+    → SendsFront s.host.width set s t before after notes later → k ≡ t.history → IsSent start now flushes [] after → IsBehind start now (entries_read s.host.width k)
 behind_taken start now flushes s t k set before after notes later below sent reads sends stays out =
-    behind_now start now flushes (total s.host.width k) after
-    (omega (arith, ap (total s.host.width) stays, total_even s.host.width s.host.width set s t before after notes later (omega arith) reads sends (even s set before notes sent))) out
+    behind_now start now flushes (entries_read s.host.width k) after
+    (omega (arith, ap (entries_read s.host.width) stays, total_even s.host.width s.host.width set s t before after notes later (omega arith) reads sends (even s set before notes sent))) out
 
 none_pass : (xs : List ℕ) → filter no_pfns xs ≡ []
 none_pass [] = refl
@@ -155,10 +155,10 @@ size_none w = ap length (no_members w)
 
 -- nothing was read since the last log
 pub behind_unread : (start now : Option (List ℕ)) (flushes : ℕ) (s : MachineState) (k : History) (set : Pfns) (before : List FrameTold) (notes : Notes)
-    → LiveSent s set before notes → k.taken ≡ s.history.taken → k.since.read ≡ no_pfns → IsSent start now flushes [] before → IsBehind start now (total s.host.width k)
+    → LiveSent s set before notes → k.taken ≡ s.history.taken → k.since.read ≡ no_pfns → IsSent start now flushes [] before → IsBehind start now (entries_read s.host.width k)
 behind_unread start now flushes s k set before notes sent taken read out =
-    behind_now start now flushes (total s.host.width k) before
-    (omega (arith, ap (total_taken s.host.width) taken, ap (λ (r : Pfns). size s.host.width r) read, size_none s.host.width, even s set before notes sent)) out
+    behind_now start now flushes (entries_read s.host.width k) before
+    (omega (arith, ap (entries_read_before s.host.width) taken, ap (λ (r : Pfns). size s.host.width r) read, size_none s.host.width, even s set before notes sent)) out
 
 -- ---- results
 

@@ -1,5 +1,5 @@
 -- What stays the same of a machine, from call to call.
-use Rattle.mig_dirtysave_rounds.proofs.Common.{◌∙◌, ℕ, HostOf, Pfns, MachineState, Ran, ReadsFront, StaysSame}
+use Rattle.mig_dirtysave_rounds.proofs.Common.{◌∙◌, ℕ, HostOf, Pfns, MachineState, Ran, ReadsFront, KeepsShape}
 use Rattle.mig_guest.specs.MachineStates.{IsSameShape}
 
 shape_on : (g h k : HostOf) → IsSameShape g h → IsSameShape h k → IsSameShape g k
@@ -10,11 +10,11 @@ shape_on g h k a b = record {
   fixed = λ key is. b.fixed key is ∙ a.fixed key is;
 }
 
-pub stays_on : (s t u : MachineState) → StaysSame s t → StaysSame t u → StaysSame s u
+pub stays_on : (s t u : MachineState) → KeepsShape s t → KeepsShape t u → KeepsShape s u
 stays_on s t u a b = record { shape = shape_on s.host t.host u.host a.shape b.shape; honest = b.honest ∙ a.honest }
 
-pub ran_stays : (s t : MachineState) (log : Pfns) → Ran s t log → StaysSame s t
+pub ran_stays : (s t : MachineState) (log : Pfns) → Ran s t log → KeepsShape s t
 ran_stays s t log ran = record { shape = ran.shape; honest = ran.honest }
 
-pub reads_stay : (i : ℕ) (set : Pfns) (s t : MachineState) → ReadsFront i set s t → StaysSame s t
+pub reads_stay : (i : ℕ) (set : Pfns) (s t : MachineState) → ReadsFront i set s t → KeepsShape s t
 reads_stay i set s t reads = record { shape = reads.shape; honest = reads.honest }

@@ -1,5 +1,5 @@
 -- What one more number does to the saver's invariant, and to a round.
-use Rattle.mig_dirtysave_rounds.proofs.Common.{arith, ◌≡◌, ℕ, suc, ◌+◌, ◌*◌, ◌^◌, ◌≤◌, ◌<◌, List, [], ◌∷◌, ◌++◌, length, Bool, true, false, cond, Option, Some, None, Result, Ok, Err, refl, sym, ap, subst, ◌∙◌, inl, inr, ⊎_elim, length-append, append-nil, ◌||◌, ◌==◌, ◌⊎◌, OnErr, nat_cmp_total, eqb-true, nat_tests, length-map, Kind, Pv, Hvm, FrameOf, HostOf, HostFrames, Pfns, no_pfns, members, size, with_pfn, Footprint, footprint, History, Since, nothing_asked, MachineState, Ran, table_of, superpage_in, lost_in, form_of_print, type_of_print, Worst, Finding, judge, judged, found_as, frame_sent, is_deferred, type_found, CanBeTold, ReadsOne, Strays, most_calls, rest, total, total_taken, meant, AreTold, IsBehind, FrameTold, Notes, Current, noted, behind_anyway, ReadsFront, SendsFront, IsWorst, or_first, within_set, place, super_of, lost_of, size-le, size_more, size_stays}
+use Rattle.mig_dirtysave_rounds.proofs.Common.{arith, ◌≡◌, ℕ, suc, ◌+◌, ◌*◌, ◌^◌, ◌≤◌, ◌<◌, List, [], ◌∷◌, ◌++◌, length, Bool, true, false, cond, Option, Some, None, Result, Ok, Err, refl, sym, ap, subst, ◌∙◌, inl, inr, ⊎_elim, length-append, append-nil, ◌||◌, ◌==◌, ◌⊎◌, OnErr, nat_cmp_total, eqb-true, nat_tests, length-map, Kind, Pv, Hvm, FrameOf, HostOf, HostFrames, Pfns, no_pfns, members, size, with_pfn, Footprint, footprint, History, Since, nothing_asked, MachineState, Ran, table_of, superpage_in, lost_in, form_of_print, type_of_print, Worst, Finding, judge, judged, found_as, frame_sent, is_deferred, type_found, CanBeTold, ReadsOne, Strays, most_calls, rest, entries_read, entries_read_before, meant, AreTold, IsBehind, FrameTold, Notes, Current, noted, behind_anyway, ReadsFront, SendsFront, IsWorst, or_first, within_set, place, super_of, lost_of, size-le, size_more, size_stays}
 use Rattle.std.proofs.Common.{map, append_assoc}
 use Rattle.std.specs.Cmp.{unsigned_tied}
 use Rattle.std.proofs.lemmas.List.{map-append}
@@ -252,15 +252,15 @@ sent_length i set s t before mid notes now f =
     sym (length-map mid (λ (e : FrameTold). e.pfn)) ∙ ap length f.names ∙ length-append (map (λ (e : FrameTold). e.pfn) before) (members i set) ∙ ap (λ n. n + size i set) (length-map before (λ (e : FrameTold). e.pfn))
 
 pub total_even : (i width : ℕ) (set : Pfns) (s t : MachineState) (before mid : List FrameTold) (notes now : Notes) → i ≤ width → ReadsFront i set s t → SendsFront i set s t before mid notes now
-    → length before ≡ total_taken width s.history.taken → total width t.history ≡ length mid
+    → length before ≡ entries_read_before width s.history.taken → entries_read width t.history ≡ length mid
 total_even i width set s t before mid notes now le r f even =
-    omega (arith, ap (total_taken width) r.taken, ap (λ (x : Pfns). size width x) r.read, size_front set i width le, sent_length i set s t before mid notes now f)
+    omega (arith, ap (entries_read_before width) r.taken, ap (λ (x : Pfns). size width x) r.read, size_front set i width le, sent_length i set s t before mid notes now f)
 
 -- one number more was read, perhaps, than what was sent
 pub total_strays : (i width : ℕ) (set : Pfns) (s t : MachineState) (k : History) (before mid : List FrameTold) (notes now : Notes) → i ≤ width → ReadsFront i set s t → SendsFront i set s t before mid notes now
-    → length before ≡ total_taken width s.history.taken → (p : ℕ) → Strays p t.history k → total width k ≤ length mid + 1
+    → length before ≡ entries_read_before width s.history.taken → (p : ℕ) → Strays p t.history k → entries_read width k ≤ length mid + 1
 total_strays i width set s t k before mid notes now le r f even p strays =
-    omega (arith, total_even i width set s t before mid notes now le r f even, ap (total_taken width) strays.taken, one_more_at_most t.history.since.read k.since.read p strays.read width)
+    omega (arith, total_even i width set s t before mid notes now le r f even, ap (entries_read_before width) strays.taken, one_more_at_most t.history.since.read k.since.read p strays.read width)
 
 pub worst_step : (i : ℕ) (set : Pfns) (s t u : MachineState) (w v : Worst) (f : Found) (page : List ℕ) → s.paused ≡ true → set i ≡ true → ReadsFront i set s t → ReadsOne i t u (found_as f page)
     → v.superpage ≡ or_first w.superpage (place i (found_super f)) → v.lost ≡ or_first w.lost (place i (found_lost f)) → IsWorst i set t.host.frames w → IsWorst (i + 1) set u.host.frames v

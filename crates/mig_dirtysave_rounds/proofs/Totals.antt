@@ -1,5 +1,5 @@
 -- How much is read in all, and how many records that makes.
-use Rattle.mig_dirtysave_rounds.proofs.Common.{arith, ◌≡◌, ℕ, zero, suc, ◌+◌, ◌*◌, ◌≤◌, ◌^◌, List, [], ◌∷◌, length, Option, false, sym, ap, subst, ◌∙◌, append-nil, length-append, nat_tests, length-map, Kind, PageType, FrameTold, IsSent, nothing_sent, Pfns, size, members, all_below, pfns_of_words, History, LogTook, no_history, MachineState, IsValidState, Rounds, rounds_read, all_read, Worst, IsBelow, total, total_taken, AreTold, meant, Notes, notes_of, LiveSent, SendsRounds, SavedSent, worst_fault, FramesSaved, IsUnused, size-le}
+use Rattle.mig_dirtysave_rounds.proofs.Common.{arith, ◌≡◌, ℕ, zero, suc, ◌+◌, ◌*◌, ◌≤◌, ◌^◌, List, [], ◌∷◌, length, Option, false, sym, ap, subst, ◌∙◌, append-nil, length-append, nat_tests, length-map, Kind, PageType, FrameTold, IsSent, nothing_sent, Pfns, size, members, all_below, pfns_of_words, History, LogTook, no_history, MachineState, IsValidState, Rounds, rounds_read, all_read, Worst, IsBelow, entries_read, entries_read_before, AreTold, meant, Notes, notes_of, LiveSent, SendsRounds, SavedSent, worst_fault, FramesSaved, IsUnused, size-le}
 use Rattle.std.proofs.Math.Nat.{suc-mul}
 use Rattle.mig_records_pages.specs.Told.{all_told}
 use Rattle.mig_records_pages.specs.Batches.{AreSized, AreFull}
@@ -8,7 +8,7 @@ use Rattle.mig_dirtysave_rounds.specs.Entries.{pfns_sent}
 use Rattle.mig_dirtysave_rounds.proofs.Ends.{sent_start}
 use Rattle.mig_dirtysave_rounds.proofs.Saves.{length_rounds, size_none}
 
-taken_small : (width : ℕ) (l : List LogTook) → total_taken width l ≤ length l * width
+taken_small : (width : ℕ) (l : List LogTook) → entries_read_before width l ≤ length l * width
 taken_small width [] = omega arith
 taken_small width (last ∷ before) = omega (arith, taken_small width before, size-le last.asked.read width, suc-mul (length before) width)
 
@@ -22,11 +22,11 @@ five_times (suc (suc (suc (suc (suc zero))))) width le = omega arith
 five_times (suc (suc (suc (suc (suc (suc n)))))) width le = absurd (omega arith)
 
 -- at most six sets are read
-total_small : (kind : Kind) (width : ℕ) (h : History) → Rounds kind width h → total width h ≤ 6 * width
+total_small : (kind : Kind) (width : ℕ) (h : History) → Rounds kind width h → entries_read width h ≤ 6 * width
 total_small kind width h r =
-    omega (arith, ap (total_taken width) r.logs, ap (λ (s : Pfns). size width s) r.stopped.0, size_none width, taken_small width r.live, five_times (length r.live) width r.number.1, size-le h.since.read width)
+    omega (arith, ap (entries_read_before width) r.logs, ap (λ (s : Pfns). size width s) r.stopped.0, size_none width, taken_small width r.live, five_times (length r.live) width r.number.1, size-le h.since.read width)
 
-pub all_read_is : (width : ℕ) (h : History) (ts : List FrameTold) → pfns_sent ts ≡ all_read width h → length ts ≡ total width h
+pub all_read_is : (width : ℕ) (h : History) (ts : List FrameTold) → pfns_sent ts ≡ all_read width h → length ts ≡ entries_read width h
 all_read_is width h ts order =
     omega (arith, sym (length-map ts (λ (e : FrameTold). e.pfn)) ∙ ap length order, length-append (rounds_read width h.taken) (members width h.since.read), length_rounds width h.taken)
 

@@ -1,3 +1,4 @@
+pub mod Causes
 pub mod Forms
 pub mod Findings
 pub mod Step

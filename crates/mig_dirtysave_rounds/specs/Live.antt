@@ -18,13 +18,13 @@ use Rattle.mig_guest.specs.MachineStates.{MachineState, IsSameShape}
 use Rattle.mig_guest.specs.Rounds.{OfEachLog, GoesOn, AreCalls, Rounds, Tight, to_read, rounds_read, all_read}
 use Rattle.mig_dirtysave_rounds.specs.declared.found.Worst.{Worst}
 use Rattle.mig_dirtysave_rounds.specs.Forms.{form_of_print, superpage_slot, lost_slot}
-use Rattle.mig_dirtysave_rounds.specs.Parts.{total}
+use Rattle.mig_dirtysave_rounds.specs.Parts.{entries_read}
 use Rattle.mig_dirtysave_rounds.specs.Entries.{meant, pfns_sent, AreTold}
 use Rattle.mig_dirtysave_rounds.specs.Current.{Notes, Current}
 use Rattle.mig_dirtysave_rounds.specs.Sends.{first_pfn}
 
 -- what of a machine is the same at both times
-pub record StaysSame (s t : MachineState) : Type 0 where
+pub record KeepsShape (s t : MachineState) : Type 0 where
   pub shape : IsSameShape s.host t.host
   pub honest : t.honest ≡ s.honest
 
@@ -67,7 +67,7 @@ SendsRounds rounds s t set next old new notes later = (start : Option (List ℕ)
 -- where all that was read at s had been sent, at most 1024 of what was read at t stand in no whole record
 abbrev pub RoundsLeaveBehind : ℕ → MachineState → MachineState → Pfns → Option (List ℕ) → Option (List ℕ) → Notes → Type 0
 RoundsLeaveBehind flushes s t set old new notes = (start : Option (List ℕ)) (before : List FrameTold) → IsSent start old flushes [] before → LiveSent s set before notes
-    → IsBehind start new (total s.host.width t.history)
+    → IsBehind start new (entries_read s.host.width t.history)
 
 -- ---- the end
 
@@ -106,8 +106,8 @@ abbrev pub HasRounds : MachineState → Type 0
 HasRounds t = Rounds t.host.kind t.host.width t.history
 
 -- over an honest machine nothing was read after the pause but what the last two logs name
-abbrev pub IsTight : MachineState → Type 0
-IsTight t = t.honest ≡ true → Tight t.host.kind t.host.width t.history
+abbrev pub ReadsExactly : MachineState → Type 0
+ReadsExactly t = t.honest ≡ true → Tight t.host.kind t.host.width t.history
 
 -- the machine is paused, and the history is one of so many rounds
 pub record Saved (rounds : ℕ) (t : MachineState) : Type 0 where
@@ -138,7 +138,7 @@ pub record FramesSaved (old new : Option (List ℕ)) (t : MachineState) (unsound
   pub written : BatchesWritten old new batches
   pub sized : AreSized batches
   pub few : length batches ≤ 6 * 2 ^ 18 + 6
-  pub count : length (all_told batches) ≡ total t.host.width t.history
+  pub count : length (all_told batches) ≡ entries_read t.host.width t.history
   pub order : pfns_sent (all_told batches) ≡ all_read t.host.width t.history
   pub told : AreTold t.host.kind t.host.width (all_told batches)
   pub means : t.honest ≡ true → unsound ≡ None → meant (all_told batches) ≡ forms t.host.frames

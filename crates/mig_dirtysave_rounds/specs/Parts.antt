@@ -12,10 +12,10 @@ abbrev pub rest : ℕ → Pfns → Pfns
 rest i set p = nat_le i p && set p
 
 -- how many PFNs were read before these logs, each log's counted apart
-abbrev pub total_taken : ℕ → List LogTook → ℕ
-total_taken width [] = 0
-total_taken width (last ∷ before) = total_taken width before + size width last.asked.read
+abbrev pub entries_read_before : ℕ → List LogTook → ℕ
+entries_read_before width [] = 0
+entries_read_before width (last ∷ before) = entries_read_before width before + size width last.asked.read
 
 -- and with those read since the last log
-abbrev pub total : ℕ → History → ℕ
-total width h = total_taken width h.taken + size width h.since.read
+abbrev pub entries_read : ℕ → History → ℕ
+entries_read width h = entries_read_before width h.taken + size width h.since.read

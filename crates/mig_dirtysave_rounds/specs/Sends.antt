@@ -13,7 +13,7 @@ use Rattle.mig_dirtysave_rounds.specs.declared.found.Worst.{Worst}
 use Rattle.mig_dirtysave_rounds.specs.Findings.{Finding, judged}
 use Rattle.mig_dirtysave_rounds.specs.Findings.Finding.{Gone, Shows, HasSuperpage, LacksFrame}
 use Rattle.mig_dirtysave_rounds.specs.Step.{most_calls}
-use Rattle.mig_dirtysave_rounds.specs.Parts.{front, rest, total, total_taken}
+use Rattle.mig_dirtysave_rounds.specs.Parts.{front, rest, entries_read, entries_read_before}
 use Rattle.mig_dirtysave_rounds.specs.Entries.{pfns_sent, AreTold}
 use Rattle.mig_dirtysave_rounds.specs.Current.{Notes, Current}
 
@@ -99,4 +99,4 @@ SendsSet width set s t old new notes later = (start : Option (List ℕ)) (flushe
 -- where all that was read at s had been sent, at most 1024 of what was read at t stand in no whole record
 abbrev pub SetLeavesBehind : MachineState → MachineState → Option (List ℕ) → Option (List ℕ) → Type 0
 SetLeavesBehind s t old new = (start : Option (List ℕ)) (flushes : ℕ) (before : List FrameTold) → IsSent start old flushes [] before
-    → length before ≡ total_taken s.host.width s.history.taken → IsBehind start new (total s.host.width t.history)
+    → length before ≡ entries_read_before s.host.width s.history.taken → IsBehind start new (entries_read s.host.width t.history)

@@ -1,12 +1,12 @@
-ghost use Rattle.std.specs.Prelude.{◌≡◌, ◌+◌, ◌/◌, ◌≤◌, [], length, true, OnOk, OnErr, IfOk, IsErrOf};
-ghost use Rattle.mig_bytes.specs.Faults.{Rose};
+ghost use Rattle.std.specs.Prelude.{◌≡◌, ◌+◌, ◌/◌, ◌≤◌, [], length, true, OnOk, OnErr, IfOk};
 ghost use Rattle.mig_guest.specs.Hosts.{most_saved_width};
 ghost use Rattle.mig_guest.specs.Pfns.{pfns_of_words};
 ghost use Rattle.mig_guest.specs.History.{nothing_asked};
 ghost use Rattle.mig_guest.specs.Changes.{IsBelow};
+ghost use Rattle.mig_dirtysave_rounds.specs.Causes.{FaultsHaveCauses};
 ghost use Rattle.mig_dirtysave_rounds.specs.Current.{notes_of};
 ghost use Rattle.mig_dirtysave_rounds.specs.Sends.{ReadsFront, SendsSet, SetLeavesBehind, IsWorst};
-ghost use Rattle.mig_dirtysave_rounds.specs.Live.{StaysSame};
+ghost use Rattle.mig_dirtysave_rounds.specs.Live.{KeepsShape};
 ghost use Rattle.mig_dirtysave_rounds.specs.declared.found.SendFault.TheVariants.{MachineFault, WriteFault};
 
 use crate::found::{SendFault, Worst};
@@ -42,13 +42,9 @@ pub(crate) fn send_all<M: Machine, K: Sink>(
     ensures noted { OnOk result (IsBelow (M.state machine.old).host.width (pfns_of_words deferred.new)) }
     ensures empty { OnOk result (batch.new ≡ []) }
     ensures behind { OnErr result (SetLeavesBehind (M.state machine.old) (M.state machine.new) (K.written sink.old) (K.written sink.new)) }
-    ensures kept { StaysSame (M.state machine.old) (M.state machine.new) }
+    ensures kept { KeepsShape (M.state machine.old) (M.state machine.new) }
     ensures later { M.Later machine.old machine.new }
-    ensures machine_count { M.faults machine.old ≤ M.faults machine.new }
-    ensures sink_count { K.faults sink.old ≤ K.faults sink.new }
-    ensures sink_quiet { OnOk result (K.faults sink.new ≡ K.faults sink.old) }
-    ensures machine_fault { IsErrOf result MachineFault → Rose (M.faults machine.old) (M.faults machine.new) }
-    ensures write_fault { IsErrOf result WriteFault → Rose (K.faults sink.old) (K.faults sink.new) }
+    ensures faults { FaultsHaveCauses MachineFault WriteFault (M.faults machine.old) (M.faults machine.new) (K.faults sink.old) (K.faults sink.new) result }
 {
     let mut worst = Worst {
         superpage: None,

@@ -1,5 +1,5 @@
 ghost use Rattle.std.specs.Prelude.{◌≡◌, ◌+◌, ◌*◌, ◌/◌, ◌^◌, ◌≤◌, [], length, true, false, OnOk, OnErr, IfOk, IsErrOf, Some, None};
-ghost use Rattle.mig_bytes.specs.Faults.{Rose};
+ghost use Rattle.mig_bytes.specs.Faults.{HasCause};
 ghost use Rattle.mig_guest.specs.Hosts.{most_saved_width};
 ghost use Rattle.mig_headers.specs.declared.unsound.Unsound.{Unsound};
 ghost use Rattle.mig_records_pages.specs.Batches.{IsBehind};
@@ -8,9 +8,10 @@ ghost use Rattle.mig_guest.specs.History.{no_history};
 ghost use Rattle.mig_guest.specs.MachineCalls.{Paused};
 ghost use Rattle.mig_guest.specs.MachineStates.{IsValidState, Stays};
 ghost use Rattle.mig_guest.specs.Changes.{IsBelow};
-ghost use Rattle.mig_dirtysave_rounds.specs.Parts.{total, total_taken};
+ghost use Rattle.mig_dirtysave_rounds.specs.Causes.{FaultsHaveCauses};
+ghost use Rattle.mig_dirtysave_rounds.specs.Parts.{entries_read, entries_read_before};
 ghost use Rattle.mig_dirtysave_rounds.specs.Current.{notes_of};
-ghost use Rattle.mig_dirtysave_rounds.specs.Live.{StaysSame, Live, Ended, SendsRounds, RoundsLeaveBehind, Saved, SendsLast, worst_fault, IsUnsound, AnswersTables, HasRounds, IsTight, FramesSaved, SawTypes};
+ghost use Rattle.mig_dirtysave_rounds.specs.Live.{KeepsShape, Live, Ended, SendsRounds, RoundsLeaveBehind, Saved, SendsLast, worst_fault, IsUnsound, AnswersTables, HasRounds, ReadsExactly, FramesSaved, SawTypes};
 ghost use Rattle.mig_dirtysave_rounds.specs.declared.found.SendFault.TheVariants.{MachineFault, WriteFault};
 
 use crate::found::{SendFault, Worst};
@@ -72,22 +73,18 @@ fn run_rounds<M: Machine, K: Sink>(
     requires live { Live (M.state machine.old) (pfns_of_words set.old) }
     requires first { (M.state machine.old).history ≡ no_history }
     ensures ended { IfOk result (λ sent. Ended sent.rounds (M.state machine.new) (pfns_of_words set.new)) }
-    ensures entries { IfOk result (λ sent. sent.entries ≡ total_taken (M.state machine.new).host.width (M.state machine.new).history.taken) }
+    ensures entries { IfOk result (λ sent. sent.entries ≡ entries_read_before (M.state machine.new).host.width (M.state machine.new).history.taken) }
     ensures few { IfOk result (λ sent. sent.entries ≤ 5 * 2 ^ 28) }
     ensures sent { IfOk result (λ sent. SendsRounds sent.rounds (M.state machine.old) (M.state machine.new) (pfns_of_words set.old) (pfns_of_words set.new) (K.written sink.old) (K.written sink.new)
         (notes_of deferred.old types.old) (notes_of deferred.new types.new)) }
     ensures behind { OnErr result (RoundsLeaveBehind 0 (M.state machine.old) (M.state machine.new) (pfns_of_words set.old) (K.written sink.old) (K.written sink.new) (notes_of deferred.old types.old)) }
-    ensures kept { StaysSame (M.state machine.old) (M.state machine.new) }
+    ensures kept { KeepsShape (M.state machine.old) (M.state machine.new) }
     ensures below { OnOk result (IsBelow (M.state machine.new).host.width (pfns_of_words set.new)) }
     ensures noted { OnOk result (IsBelow (M.state machine.new).host.width (pfns_of_words deferred.new)) }
     ensures sized { length set.new ≡ length set.old }
     ensures empty { OnOk result (batch.new ≡ []) }
     ensures later { M.Later machine.old machine.new }
-    ensures machine_count { M.faults machine.old ≤ M.faults machine.new }
-    ensures sink_count { K.faults sink.old ≤ K.faults sink.new }
-    ensures sink_quiet { OnOk result (K.faults sink.new ≡ K.faults sink.old) }
-    ensures machine_fault { IsErrOf result MachineFault → Rose (M.faults machine.old) (M.faults machine.new) }
-    ensures write_fault { IsErrOf result WriteFault → Rose (K.faults sink.old) (K.faults sink.new) }
+    ensures faults { FaultsHaveCauses MachineFault WriteFault (M.faults machine.old) (M.faults machine.new) (K.faults sink.old) (K.faults sink.new) result }
 {
     let mut rounds = 0;
     let mut entries = 0;
@@ -106,8 +103,7 @@ fn run_rounds<M: Machine, K: Sink>(
 fn stop<M: Machine>(machine: &mut M) -> Result<(), SendFault>
     ensures ok { OnOk result (Paused (M.state machine.old) (M.state machine.new)) }
     ensures later { M.Later machine.old machine.new }
-    ensures count { M.faults machine.old ≤ M.faults machine.new }
-    ensures fault { OnErr result (Rose (M.faults machine.old) (M.faults machine.new)) }
+    ensures cause { HasCause (M.faults machine.old) (M.faults machine.new) result }
     ensures stays { OnErr result (Stays (M.state machine.old) (M.state machine.new)) }
     ensures which { ¬ IsErrOf result WriteFault }
 {
@@ -139,20 +135,16 @@ fn finish<M: Machine, K: Sink>(
     requires empty { batch.old ≡ [] }
     requires ended { Ended rounds (M.state machine.old) (pfns_of_words set.old) }
     ensures saved { OnOk result (Saved rounds (M.state machine.new)) }
-    ensures read { OnOk result (total (M.state machine.new).host.width (M.state machine.new).history ≡ total_taken (M.state machine.old).host.width (M.state machine.old).history.taken + size (M.state machine.new).host.width (pfns_of_words set.new)) }
+    ensures read { OnOk result (entries_read (M.state machine.new).host.width (M.state machine.new).history ≡ entries_read_before (M.state machine.old).host.width (M.state machine.old).history.taken + size (M.state machine.new).host.width (pfns_of_words set.new)) }
     ensures below { OnOk result (IsBelow (M.state machine.new).host.width (pfns_of_words set.new)) }
     ensures sized { length set.new ≡ length set.old }
     ensures sent { IfOk result (SendsLast rounds (M.state machine.old) (M.state machine.new) (pfns_of_words set.old) (K.written sink.old) (K.written sink.new)
         (notes_of deferred.old types.old) (notes_of deferred.new types.new)) }
-    ensures named { IfOk result (λ worst. (u : Unsound) → worst_fault worst ≡ Some u → IsUnsound (M.state machine.new).host.frames u) }
+    ensures stands { IfOk result (λ worst. (u : Unsound) → worst_fault worst ≡ Some u → IsUnsound (M.state machine.new).host.frames u) }
     ensures behind { OnErr result (RoundsLeaveBehind rounds (M.state machine.old) (M.state machine.new) (pfns_of_words set.old) (K.written sink.old) (K.written sink.new) (notes_of deferred.old types.old)) }
-    ensures kept { StaysSame (M.state machine.old) (M.state machine.new) }
+    ensures kept { KeepsShape (M.state machine.old) (M.state machine.new) }
     ensures later { M.Later machine.old machine.new }
-    ensures machine_count { M.faults machine.old ≤ M.faults machine.new }
-    ensures sink_count { K.faults sink.old ≤ K.faults sink.new }
-    ensures sink_quiet { OnOk result (K.faults sink.new ≡ K.faults sink.old) }
-    ensures machine_fault { IsErrOf result MachineFault → Rose (M.faults machine.old) (M.faults machine.new) }
-    ensures write_fault { IsErrOf result WriteFault → Rose (K.faults sink.old) (K.faults sink.new) }
+    ensures faults { FaultsHaveCauses MachineFault WriteFault (M.faults machine.old) (M.faults machine.new) (K.faults sink.old) (K.faults sink.new) result }
 {
     stop(machine)?;
     take_more(machine, log, set)?;
@@ -187,22 +179,18 @@ pub fn send_frames<M: Machine, K: Sink>(
     requires unread { (M.state machine.old).history ≡ no_history }
     ensures paused { OnOk result ((M.state machine.new).paused ≡ true) }
     ensures rounds { OnOk result (HasRounds (M.state machine.new)) }
-    ensures tight { IfOk result (λ sent. sent.unsound ≡ None → IsTight (M.state machine.new)) }
+    ensures exact { IfOk result (λ sent. sent.unsound ≡ None → ReadsExactly (M.state machine.new)) }
     ensures report { IfOk result (λ sent. sent.rounds ≡ (M.state machine.new).history.live) }
-    ensures entries { IfOk result (λ sent. sent.entries ≡ total (M.state machine.new).host.width (M.state machine.new).history) }
+    ensures entries { IfOk result (λ sent. sent.entries ≡ entries_read (M.state machine.new).host.width (M.state machine.new).history) }
     ensures frames { IfOk result (λ sent. FramesSaved (K.written sink.old) (K.written sink.new) (M.state machine.new) sent.unsound) }
     ensures types { IfOk result (λ sent. SawTypes sent.types.items (M.state machine.new)) }
     ensures whole { IfOk result (λ sent. length sent.types.items ≡ (M.state machine.new).host.width) }
     ensures first { IfOk result (λ sent. AnswersTables (M.state machine.new) sent.unsound) }
-    ensures named { IfOk result (λ sent. (u : Unsound) → sent.unsound ≡ Some u → IsUnsound (M.state machine.new).host.frames u) }
-    ensures behind { OnErr result (IsBehind (K.written sink.old) (K.written sink.new) (total (M.state machine.old).host.width (M.state machine.new).history)) }
-    ensures kept { StaysSame (M.state machine.old) (M.state machine.new) }
+    ensures stands { IfOk result (λ sent. (u : Unsound) → sent.unsound ≡ Some u → IsUnsound (M.state machine.new).host.frames u) }
+    ensures behind { OnErr result (IsBehind (K.written sink.old) (K.written sink.new) (entries_read (M.state machine.old).host.width (M.state machine.new).history)) }
+    ensures kept { KeepsShape (M.state machine.old) (M.state machine.new) }
     ensures later { M.Later machine.old machine.new }
-    ensures machine_count { M.faults machine.old ≤ M.faults machine.new }
-    ensures sink_count { K.faults sink.old ≤ K.faults sink.new }
-    ensures sink_quiet { OnOk result (K.faults sink.new ≡ K.faults sink.old) }
-    ensures machine_fault { IsErrOf result MachineFault → Rose (M.faults machine.old) (M.faults machine.new) }
-    ensures write_fault { IsErrOf result WriteFault → Rose (K.faults sink.old) (K.faults sink.new) }
+    ensures faults { FaultsHaveCauses MachineFault WriteFault (M.faults machine.old) (M.faults machine.new) (K.faults sink.old) (K.faults sink.new) result }
 {
     let Room {
         mut batch,

@@ -1,14 +1,15 @@
-ghost use Rattle.std.specs.Prelude.{◌≡◌, ℕ, ◌+◌, ◌/◌, ◌<◌, ◌≤◌, List, length, Option, Some, None, OnOk, OnErr, IfOk, IsErrOf, if◌then◌else◌};
+ghost use Rattle.std.specs.Prelude.{◌≡◌, ℕ, ◌+◌, ◌/◌, ◌<◌, List, length, Option, Some, None, OnOk, OnErr, IfOk, IsErrOf, if◌then◌else◌};
 ghost use Rattle.std.specs.Option.{option_map};
-ghost use Rattle.mig_bytes.specs.Faults.{Rose};
+ghost use Rattle.mig_bytes.specs.Faults.{HasCause};
 ghost use Rattle.mig_pagetypes.specs.Limits.{pfn_limit};
 ghost use Rattle.mig_pagetypes.specs.PageTypes.{type_has_data};
 ghost use Rattle.mig_records_pages.specs.Batches.{SendsOn, FallsBehind};
+ghost use Rattle.mig_dirtysave_rounds.specs.Causes.{FaultsHaveCauses};
 ghost use Rattle.mig_dirtysave_rounds.specs.Findings.{found_as, frame_sent, is_deferred, type_found};
 ghost use Rattle.mig_dirtysave_rounds.specs.Step.{ReadsOne, Strays};
 ghost use Rattle.mig_dirtysave_rounds.specs.Entries.{entry_for};
 ghost use Rattle.mig_dirtysave_rounds.specs.Current.{notes_of, noted};
-ghost use Rattle.mig_dirtysave_rounds.specs.Live.{StaysSame};
+ghost use Rattle.mig_dirtysave_rounds.specs.Live.{KeepsShape};
 ghost use Rattle.mig_dirtysave_rounds.specs.declared.found.SendFault.TheVariants.{MachineFault, WriteFault};
 
 use crate::found::{Found, SendFault};
@@ -68,9 +69,7 @@ fn send_found<K: Sink>(
     ensures sent { OnOk result (SendsOn (entry_for pfn (found_as found page.now)) (K.written sink.old) (K.written sink.new) batch.old batch.new) }
     ensures behind { OnErr result (FallsBehind 1 (K.written sink.old) (K.written sink.new) batch.old) }
     ensures few { length batch.new < 1024 }
-    ensures count { K.faults sink.old ≤ K.faults sink.new }
-    ensures sink_quiet { OnOk result (K.faults sink.new ≡ K.faults sink.old) }
-    ensures fault { OnErr result (Rose (K.faults sink.old) (K.faults sink.new)) }
+    ensures cause { HasCause (K.faults sink.old) (K.faults sink.new) result }
     ensures which { ¬ IsErrOf result MachineFault }
 {
     let entry = HeldFrame {
@@ -105,13 +104,9 @@ pub(crate) fn send_one<M: Machine, K: Sink>(
     ensures few { length batch.new < 1024 }
     ensures asked { Strays pfn (M.state machine.old).history (M.state machine.new).history }
     ensures behind { OnErr result (FallsBehind 1 (K.written sink.old) (K.written sink.new) batch.old) }
-    ensures kept { StaysSame (M.state machine.old) (M.state machine.new) }
+    ensures kept { KeepsShape (M.state machine.old) (M.state machine.new) }
     ensures later { M.Later machine.old machine.new }
-    ensures machine_count { M.faults machine.old ≤ M.faults machine.new }
-    ensures sink_count { K.faults sink.old ≤ K.faults sink.new }
-    ensures sink_quiet { OnOk result (K.faults sink.new ≡ K.faults sink.old) }
-    ensures machine_fault { IsErrOf result MachineFault → Rose (M.faults machine.old) (M.faults machine.new) }
-    ensures write_fault { IsErrOf result WriteFault → Rose (K.faults sink.old) (K.faults sink.new) }
+    ensures faults { FaultsHaveCauses MachineFault WriteFault (M.faults machine.old) (M.faults machine.new) (K.faults sink.old) (K.faults sink.new) result }
 {
     let found = read_one(machine, pfn, page)?;
     note(deferred, types, pfn, found);

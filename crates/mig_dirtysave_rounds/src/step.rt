@@ -1,8 +1,8 @@
-ghost use Rattle.std.specs.Prelude.{◌<◌, ◌≤◌, OnErr, IfOk, IsErrOf};
-ghost use Rattle.mig_bytes.specs.Faults.{Rose};
+ghost use Rattle.std.specs.Prelude.{◌<◌, IfOk, IsErrOf};
+ghost use Rattle.mig_bytes.specs.Faults.{HasCause};
 ghost use Rattle.mig_dirtysave_rounds.specs.Findings.{found_as};
 ghost use Rattle.mig_dirtysave_rounds.specs.Step.{ReadsOne, Strays};
-ghost use Rattle.mig_dirtysave_rounds.specs.Live.{StaysSame};
+ghost use Rattle.mig_dirtysave_rounds.specs.Live.{KeepsShape};
 ghost use Rattle.mig_dirtysave_rounds.specs.declared.found.SendFault.TheVariants.{WriteFault};
 
 use crate::found::{Found, SendFault};
@@ -18,10 +18,9 @@ pub(crate) fn read_one<M: Machine>(
     requires { pfn < (M.state machine.old).host.width }
     ensures reads { IfOk result (λ found. ReadsOne pfn (M.state machine.old) (M.state machine.new) (found_as found page.new)) }
     ensures asked { Strays pfn (M.state machine.old).history (M.state machine.new).history }
-    ensures kept { StaysSame (M.state machine.old) (M.state machine.new) }
+    ensures kept { KeepsShape (M.state machine.old) (M.state machine.new) }
     ensures later { M.Later machine.old machine.new }
-    ensures count { M.faults machine.old ≤ M.faults machine.new }
-    ensures fault { OnErr result (Rose (M.faults machine.old) (M.faults machine.new)) }
+    ensures cause { HasCause (M.faults machine.old) (M.faults machine.new) result }
     ensures which { ¬ IsErrOf result WriteFault }
 {
     match machine.peek(pfn, page) {

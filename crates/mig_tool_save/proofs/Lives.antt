@@ -6,12 +6,13 @@ use Rattle.std.specs.Prelude.{◌∷◌, map}
 use Rattle.mig_records.specs.Records.{text_of}
 use Rattle.mig_records_pages.specs.Told.{telling_record}
 use Rattle.mig_canon.specs.CanonStream.{wrapper_opening, wrapper_closing}
-use Rattle.mig_guest.specs.MachineStates.{IsSameShape}
+use Rattle.mig_guest.specs.MachineStates.{IsSameShape, MachineState}
 use Rattle.mig_guest.specs.Rounds.{Rounds, Tight, all_read}
 use Rattle.mig_machine.specs.MachineSeen.{MachineSeen}
 use Rattle.mig_machine.specs.Exact.{IsExactFrom}
 use Rattle.mig_machine.specs.Paced.{HasPaces, pfns_paced}
-use Rattle.mig_dirtysave.specs.SaveAnswers.{IfUnsound, OnEnd, SaveWritten}
+use Rattle.mig_dirtysave.specs.SaveAnswers.{EndsUnsound, PausesMachine, SaveEnds, SaveWritten}
+use Rattle.mig_dirtysave.specs.Unread.{WroteNoStream}
 use Rattle.mig_tool_report.specs.declared.outcome.Refusal.TheVariants as refusals
 use Rattle.mig_dirtysave.specs.declared.answer.SaveAnswer.TheVariants as answers
 use Rattle.mig_tool_report.specs.declared.outcome.Outcome.TheVariants as outcomes
@@ -77,10 +78,10 @@ pub record PausesSo (h : HostOf) (lines : List LineOf) (calls : ℕ) : Type 0 wh
 pub pauses_so : (h : HostOf) (now : MachineSeen) → ((r : Rounds h.kind h.width (history_of now)) → HasPaces h now r) → IsSameShape h now.host → HasRounds (machine_state now) → PausesSo h now.lines now.runs
 pauses_so h now law shape r = let p = law (rounds_of h now shape r) in record { rounds = (history_of now).live; again = p.entries; paced = p.paced }
 
-pub at_end : (X P Q R Z : Type 0) (answer : SaveAnswer) → (P → Q → R → Z) → OnEnd {X = X} (Err answer) P → OnEnd {X = X} (Err answer) Q → OnEnd {X = X} (Err answer) R → OnEnd {X = X} (Err answer) Z
-at_end X P Q R Z (answers.Unsound u) f p q r = f p q r
-at_end X P Q R Z answers.WriteFault f p q r = tt
-at_end X P Q R Z answers.MachineFault f p q r = tt
+pub left_no_stream : (s t : MachineState) (old new : Option (List ℕ)) (answer : SaveAnswer) → SaveEnds s t old new (Err answer) → WroteNoStream old new
+left_no_stream s t old new (answers.Unsound u) ends = ends.unwritten.no_stream
+left_no_stream s t old new answers.MachineFault ends = ends.no_stream
+left_no_stream s t old new answers.WriteFault ends = ends.no_stream
 
 -- ---- what an answer of a saver comes to
 
@@ -90,16 +91,17 @@ never_fails X answer h is = let rose = h (ap (λ (a : SaveAnswer). Err a) is) in
 
 module _ (answer : SaveAnswer) (outcome : Outcome) (fault : answer ≡ answers.MachineFault → ⊥) (unsound : (u : Unsound) → answer ≡ answers.Unsound u → outcome ≡ outcomes.Refused (refusals.Pause u)) (write : answer ≡ answers.WriteFault → outcome ≡ outcomes.WriteFault) where
   -- no stream was written
-  pub ends : (X Trusted : Type 0) (host now : HostOf) (lines : List LineOf) (calls : ℕ) → now ≡ paused_host host lines calls → OnEnd {X = X} (Err answer) (PausesSo host lines calls) → Trusted → IfUnsound {X = X} (Err answer) (λ u. Trusted → unsoundness now ≡ Some u)
-      → ComesToNone host lines outcome
-  ends X Trusted host now lines calls at paced trusted first = by answer refl
+  pub ends : (first now : MachineSeen) (old new : Option (List ℕ)) → now.host ≡ paused_host first.host now.lines now.runs → (PausesMachine (machine_state first) (machine_state now) → PausesSo first.host now.lines now.runs)
+      → SaveEnds (machine_state first) (machine_state now) old new (Err answer) → ComesToNone first.host now.lines outcome
+  ends first now old new at paced save = by answer refl
     where
-      by : (a : SaveAnswer) → answer ≡ a → ComesToNone host lines outcome
+      by : (a : SaveAnswer) → answer ≡ a → ComesToNone first.host now.lines outcome
       by (answers.Unsound u) is =
-          let here : unsoundness now ≡ Some u = subst (λ (b : SaveAnswer). IfUnsound {X = X} (Err b) (λ (v : Unsound). Trusted → unsoundness now ≡ Some v)) is first trusted in
-          let so : PausesSo host lines calls = subst (λ (b : SaveAnswer). OnEnd {X = X} (Err b) (PausesSo host lines calls)) is paced in
-          subst (ComesToNone host lines) (sym (unsound u is)) (record { rounds = so.rounds; calls = calls; again = so.again; paced = so.paced; first = subst (λ h. unsoundness h ≡ Some u) at here })
-      by answers.WriteFault is = subst (ComesToNone host lines) (sym (write is)) tt
+          let e : EndsUnsound (machine_state first) (machine_state now) old new u = subst (λ (b : SaveAnswer). SaveEnds (machine_state first) (machine_state now) old new (Err b)) is save in
+          let so = paced e.pause in
+          subst (ComesToNone first.host now.lines) (sym (unsound u is))
+          (record { rounds = so.rounds; calls = now.runs; again = so.again; paced = so.paced; first = subst (λ h. unsoundness h ≡ Some u) at (e.first (honest now)) })
+      by answers.WriteFault is = subst (ComesToNone first.host now.lines) (sym (write is)) tt
       by answers.MachineFault is = absurd (fault is)
 
   -- there was memory

@@ -9,7 +9,7 @@ use Rattle.mig_dirtysave.proofs.closing.close_hvm.Goals as goal
 pub returns-in-Err-clause-first : goal.returns-in-Err-clause-first
 returns-in-Err-clause-first g c =
     let h = (g.M.Machine.state c.args.machine.now).host in
-    hvm_judged h c.requires.valid c.requires.hvm c.args.tables (no_table_fault h c.requires.valid c.requires.hvm c.args.tables c.requires.named) ∙ sym c.in-Err.ensures.first
+    hvm_judged h c.requires.valid c.requires.hvm c.args.tables (no_table_fault h c.requires.valid c.requires.hvm c.args.tables c.requires.stands) ∙ sym c.in-Err.ensures.first
 
 pub returns-in-Err-clause-stops : goal.returns-in-Err-clause-stops
 returns-in-Err-clause-stops g c = nothing_stops (g.K.Sink.written c.args.sink.now)
@@ -20,7 +20,7 @@ write_last-requires-clause-formed g c =
     subst IsFormed (sym c.refresh.ensures) (kept_formed h c.requires.valid is_setting refl (no_pv h is_setting c.requires.hvm))
 
 pub returns-in-Ok-write_last-clause-none : goal.returns-in-Ok-write_last-clause-none
-returns-in-Ok-write_last-clause-none g c = no_table_fault (g.M.Machine.state c.args.machine.now).host c.requires.valid c.requires.hvm c.args.tables c.requires.named
+returns-in-Ok-write_last-clause-none g c = no_table_fault (g.M.Machine.state c.args.machine.now).host c.requires.valid c.requires.hvm c.args.tables c.requires.stands
 
 pub returns-in-Ok-write_last-clause-closed : goal.returns-in-Ok-write_last-clause-closed
 returns-in-Ok-write_last-clause-closed g c =
@@ -29,7 +29,7 @@ returns-in-Ok-write_last-clause-closed g c =
 pub returns-in-Ok-write_last-clause-sound : goal.returns-in-Ok-write_last-clause-sound
 returns-in-Ok-write_last-clause-sound g c =
     let h = (g.M.Machine.state c.args.machine.now).host in
-    hvm_judged h c.requires.valid c.requires.hvm c.args.tables (no_table_fault h c.requires.valid c.requires.hvm c.args.tables c.requires.named) ∙ sym c.in-Ok.ensures.first
+    hvm_judged h c.requires.valid c.requires.hvm c.args.tables (no_table_fault h c.requires.valid c.requires.hvm c.args.tables c.requires.stands) ∙ sym c.in-Ok.ensures.first
 
 pub returns-in-Ok-write_last-clause-formed : goal.returns-in-Ok-write_last-clause-formed
 returns-in-Ok-write_last-clause-formed g c =

@@ -36,4 +36,4 @@ pub returns-in-Ok-Some-clause-stands : goal.returns-in-Ok-Some-clause-stands
 returns-in-Ok-Some-clause-stands g c =
     let h = (g.M.Machine.state c.args.machine.now).host in
     let some : ◌≡◌ {A = Option Unsound} c.in-Ok-Some.field-0 (Some c.in-Ok-Some.unsound) = cc in
-    λ of. found_stands h c.requires.valid c.requires.pv c.args.types.now c.args.tables c.requires.named c.in-Ok-Some.unsound (sym c.in-Ok-Some.ensures.first ∙ some) of
+    λ of. found_stands h c.requires.valid c.requires.pv c.args.types.now c.args.tables c.requires.stands c.in-Ok-Some.unsound (sym c.in-Ok-Some.ensures.first ∙ some) of

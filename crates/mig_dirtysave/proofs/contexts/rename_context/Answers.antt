@@ -13,7 +13,7 @@ loop-field-init g c = record {
   none = misses_start;
   looks = looks_none _;
   later = g.met.M.Machine.later_self _;
-  count = omega arith;
+  quiet = refl;
 }
 
 pub returns-in-None-clause-found : goal.returns-in-None-clause-found
@@ -27,21 +27,21 @@ loop-field-preserved g c = elim c.match-host_frame.branch [
   | in-Some+in_ok-pfn+in-Some-2 w ↦ record {
     renamed = field_put c.loop-field.invariant.renamed c.loop-field-test.true w.in-Some.ensures
         (subst (λ (h : HostOf). pfn_in h.frames w.in-Some.mfn ≡ Some w.in-Some-2.pfn) c.loop-field.invariant.looks.host
-        (subst (λ o. IfSome o (λ p. pfn_in (g.M.Machine.state c.loop-field.machine).host.frames w.in-Some.mfn ≡ Some p)) w.in-Some-2.is w.in_ok-pfn.ensures.named))
+        (subst (λ o. IfSome o (λ p. pfn_in (g.M.Machine.state c.loop-field.machine).host.frames w.in-Some.mfn ≡ Some p)) w.in-Some-2.is w.in_ok-pfn.ensures.found))
         (w.context-is ∙ w.put_vcpu_frame.ensures);
     none = field_fits c.loop-field.invariant.none (w.in-Some.ensures ∙ same_says c.loop-field.invariant.renamed c.loop-field-test.true) refl
         (w.in_ok-pfn.ensures.fits ∙ ap (λ (h : HostOf). fits_field c.loop-field.field (option_and_then (types_seen c.args.types.now) (pfn_in h.frames w.in-Some.mfn))) c.loop-field.invariant.looks.host)
         (ap is_some w.in-Some-2.is);
     looks = subst (λ (m : g.row.M.Denot). OnlyLooksUp (g.M.Machine.state c.args.machine.now) (g.M.Machine.state m)) (sym w.machine-is) (looks_on c.loop-field.invariant.looks w.pfn_for_field.ensures.looks);
     later = subst (λ (m : g.row.M.Denot). g.M.Machine.Later c.args.machine.now m) (sym w.machine-is) (g.met.M.Machine.later_on _ _ _ c.loop-field.invariant.later w.pfn_for_field.ensures.later);
-    count = omega (arith, c.loop-field.invariant.count, w.pfn_for_field.ensures.count, ap g.M.Machine.faults w.machine-is);
+    quiet = ap g.M.Machine.faults w.machine-is ∙ w.in_ok-pfn.ensures.cause.quiet ∙ c.loop-field.invariant.quiet;
   }
   | in_default w ↦ record {
     renamed = field_unused c.loop-field.invariant.renamed c.loop-field-test.true w.in_default.ensures w.context-is;
     none = walks.field_unused c.loop-field.invariant.none (w.in_default.ensures ∙ same_says c.loop-field.invariant.renamed c.loop-field-test.true);
     looks = subst (λ (m : g.row.M.Denot). OnlyLooksUp (g.M.Machine.state c.args.machine.now) (g.M.Machine.state m)) (sym w.machine-is) c.loop-field.invariant.looks;
     later = subst (λ (m : g.row.M.Denot). g.M.Machine.Later c.args.machine.now m) (sym w.machine-is) c.loop-field.invariant.later;
-    count = omega (arith, c.loop-field.invariant.count, ap g.M.Machine.faults w.machine-is);
+    quiet = ap g.M.Machine.faults w.machine-is ∙ c.loop-field.invariant.quiet;
   }
 ]
 

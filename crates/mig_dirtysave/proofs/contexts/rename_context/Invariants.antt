@@ -1,4 +1,4 @@
-use Rattle.mig_dirtysave.proofs.Common.{◌≤◌, option_and_then, pfn_in, is_used_somewhere, FieldsRenamed, types_seen, OnlyLooksUp}
+use Rattle.mig_dirtysave.proofs.Common.{◌≡◌, option_and_then, pfn_in, is_used_somewhere, FieldsRenamed, types_seen, OnlyLooksUp}
 use Rattle.mig_pvtables.proofs.Walks.{NoneMisses}
 use Rattle.mig_dirtysave.proofs.contexts.rename_context.Given as goal
 
@@ -8,5 +8,5 @@ invariant-loop-field g l = record {
   none : NoneMisses is_used_somewhere (λ mfn. option_and_then (types_seen l.types) (pfn_in (g.M.Machine.state l.fn.machine).host.frames mfn)) l.id l.fn.context l.field;
   looks : OnlyLooksUp (g.M.Machine.state l.fn.machine) (g.M.Machine.state l.machine);
   later : g.M.Machine.Later l.fn.machine l.machine;
-  count : g.M.Machine.faults l.fn.machine ≤ g.M.Machine.faults l.machine;
+  quiet : g.M.Machine.faults l.machine ≡ g.M.Machine.faults l.fn.machine;
 }

@@ -1,4 +1,4 @@
-use Rattle.mig_dirtysave.proofs.Common.{arith, ◌≡◌, ℕ, List, Some, Bool, ap, subst, ◌∙◌, IfSome, find, option_map, VcpuFrame, GuestOf, HostOf, pfn_in, Part, parts_after, length_longs, field_numbers, first_some, is_used_somewhere, in_fields, contexts_start, renamed_context, names_ill, standing_seen}
+use Rattle.mig_dirtysave.proofs.Common.{◌≡◌, ℕ, List, Some, Bool, refl, ap, subst, ◌∙◌, IfSome, find, option_map, VcpuFrame, GuestOf, HostOf, pfn_in, Part, parts_after, length_longs, field_numbers, first_some, is_used_somewhere, in_fields, contexts_start, renamed_context, names_ill, standing_seen}
 use Rattle.mig_pvtables.proofs.BlankCodes.{code_start, code_next, code_long, code_fewer, code_end}
 use Rattle.mig_pvtables.proofs.BlankParts.{OnlyPart}
 use Rattle.mig_dirtysave.proofs.Looks.{looks_none, looks_on}
@@ -12,7 +12,7 @@ loop-key-init g c = record {
   so = contexts_start (in_fields (names_ill (standing_seen (g.M.Machine.state c.args.machine.now).host c.args.types.now))) c.args.guest.now.parts;
   looks = looks_none _;
   later = g.met.M.Machine.later_self _;
-  count = omega arith;
+  quiet = refl;
 }
 
 pub rename_vcpu-requires-clause-long : goal.rename_vcpu-requires-clause-long
@@ -53,7 +53,7 @@ loop-key-preserved g c =
           (found_in_next bad c.loop-key.guest.parts c.loop-key.after e c.in-Some.ensures.next c.in_ok-field.field-0 found ∙ ap (option_map (λ (field : ℕ). (e.0.key1, field))) c.in_default-2.is);
       looks = looks_on c.loop-key.invariant.looks c.rename_vcpu.ensures.looks;
       later = g.met.M.Machine.later_on _ _ _ c.loop-key.invariant.later c.rename_vcpu.ensures.later;
-      count = omega (arith, c.loop-key.invariant.count, c.rename_vcpu.ensures.count);
+      quiet = c.in_ok-field.ensures.cause.quiet ∙ c.loop-key.invariant.quiet;
     }
 
 pub returns-clause-renamed : goal.returns-clause-renamed

@@ -1,4 +1,4 @@
-use Rattle.mig_dirtysave.proofs.Common.{◌≡◌, ◌≤◌, length, pfn_in, parts_after, first_some, is_used_somewhere, in_fields, in_contexts, renamed_context, names_ill, standing_seen, OnlyLooksUp}
+use Rattle.mig_dirtysave.proofs.Common.{◌≡◌, length, pfn_in, parts_after, first_some, is_used_somewhere, in_fields, in_contexts, renamed_context, names_ill, standing_seen, OnlyLooksUp}
 use Rattle.mig_pvtables.proofs.BlankCodes.{ChangedUpTo}
 use Rattle.std.specs.FinMap as maps
 use Rattle.mig_dirtysave.proofs.contexts.rename_contexts.Given as goal
@@ -10,7 +10,7 @@ invariant-loop-key g l = record {
       ≡ in_contexts (in_fields (names_ill (standing_seen (g.M.Machine.state l.fn.machine).host l.types))) l.fn.guest.parts;
   looks : OnlyLooksUp (g.M.Machine.state l.fn.machine) (g.M.Machine.state l.machine);
   later : g.M.Machine.Later l.fn.machine l.machine;
-  count : g.M.Machine.faults l.fn.machine ≤ g.M.Machine.faults l.machine;
+  quiet : g.M.Machine.faults l.machine ≡ g.M.Machine.faults l.fn.machine;
 }
 
 abbrev pub decreases-loop-key : goal.decreases-loop-key

@@ -16,8 +16,7 @@ members-init g c = record {
   noted = c.requires.noted;
   few = let none : length c.args.batch.now ≡ 0 = ap length c.requires.empty in omega arith;
   later = g.met.M.Machine.later_self _;
-  machine_count = omega arith;
-  sink_count = omega arith;
+  machine_quiet = refl;
   sink_quiet = refl;
 }
 
@@ -72,7 +71,6 @@ members-preserved g c =
       noted = noted_below _ _ _ (notes_of c.members.deferred c.members.types) (notes_of c.send_one.new.deferred c.send_one.new.types) one.notes below i.noted;
       few = c.send_one.ensures.few;
       later = g.met.M.Machine.later_on _ _ _ i.later c.send_one.ensures.later;
-      machine_count = omega (arith, c.send_one.ensures.machine_count);
-      sink_count = omega (arith, c.send_one.ensures.sink_count);
-      sink_quiet = one.sink_quiet ∙ i.sink_quiet;
+      machine_quiet = one.faults.machine.quiet ∙ i.machine_quiet;
+      sink_quiet = one.faults.sink.quiet ∙ i.sink_quiet;
     }

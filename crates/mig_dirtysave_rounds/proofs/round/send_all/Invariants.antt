@@ -17,8 +17,7 @@ invariant-members g l =
       noted : IsBelow s.host.width (pfns_of_words l.deferred);
       few : length l.batch < 1024;
       later : g.M.Machine.Later l.fn.machine l.machine;
-      machine_count : g.M.Machine.faults l.fn.machine ≤ g.M.Machine.faults l.machine;
-      sink_count : g.K.Sink.faults l.fn.sink ≤ g.K.Sink.faults l.sink;
+      machine_quiet : g.M.Machine.faults l.machine ≡ g.M.Machine.faults l.fn.machine;
       sink_quiet : g.K.Sink.faults l.sink ≡ g.K.Sink.faults l.fn.sink;
     }
 

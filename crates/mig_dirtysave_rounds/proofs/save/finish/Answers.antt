@@ -1,9 +1,9 @@
-use Rattle.mig_dirtysave_rounds.proofs.Common.{◌≡◌, ℕ, sym, ap, subst, ◌∙◌, IsBehind, Pfns, joined, pfns_of_words, History, Since, notes_of, IsBelow, total, ReadsFront, SendsFront, IsWorst}
+use Rattle.mig_dirtysave_rounds.proofs.Common.{◌≡◌, ℕ, sym, ap, subst, ◌∙◌, IsBehind, Pfns, joined, pfns_of_words, History, Since, notes_of, IsBelow, entries_read, ReadsFront, SendsFront, IsWorst}
 use Rattle.mig_dirtysave_rounds.specs.Live.{SendsLast}
 use Rattle.mig_dirtysave_rounds.proofs.Shapes.{stays_on, ran_stays}
 use Rattle.mig_dirtysave_rounds.proofs.Steps.{on_err}
 use Rattle.mig_dirtysave_rounds.proofs.Saves.{behind_unread, on_ok, if_both, if_three, err_on}
-use Rattle.mig_dirtysave_rounds.proofs.Firsts.{named}
+use Rattle.mig_dirtysave_rounds.proofs.Firsts.{worst_stands}
 use Rattle.mig_dirtysave_rounds.proofs.Ends.{both_below, saved, saved_sent, counted_last, even_last}
 use Rattle.mig_dirtysave_rounds.proofs.save.finish.Goals as goal
 
@@ -81,15 +81,15 @@ returns-clause-sent g c =
           (subst Worst width (bad (c.in_ok-take_more.ensures.ok.paused ∙ c.in_ok-stop.ensures.ok.paused))),
     )) c.send_all.ensures.reads c.send_all.ensures.sends c.send_all.ensures.worst
 
-pub returns-clause-named : goal.returns-clause-named
-returns-clause-named g c =
-    if_both c.send_all.result (λ worst reads bad. λ u is. named _ _ _ worst u (bad (c.in_ok-take_more.ensures.ok.paused ∙ c.in_ok-stop.ensures.ok.paused)) is) c.send_all.ensures.reads c.send_all.ensures.worst
+pub returns-clause-stands : goal.returns-clause-stands
+returns-clause-stands g c =
+    if_both c.send_all.result (λ worst reads bad. λ u is. worst_stands _ _ _ worst u (bad (c.in_ok-take_more.ensures.ok.paused ∙ c.in_ok-stop.ensures.ok.paused)) is) c.send_all.ensures.reads c.send_all.ensures.worst
 
 pub returns-clause-behind : goal.returns-clause-behind
 returns-clause-behind g c =
     let width = c.in_ok-take_more.ensures.ok.ran.shape.width ∙ c.in_ok-stop.ensures.ok.ran.shape.width in
     err_on c.send_all.result (λ behind. λ start before out sent.
-    subst (λ w. IsBehind start (g.K.Sink.written c.send_all.new.sink) (total w (g.M.Machine.state c.send_all.new.machine).history)) width
+    subst (λ w. IsBehind start (g.K.Sink.written c.send_all.new.sink) (entries_read w (g.M.Machine.state c.send_all.new.machine).history)) width
     (behind start c.args.rounds before out (even_last _ _ _ _ _ _ _ c.requires.ended.live.since c.in_ok-stop.ensures.ok c.in_ok-take_more.ensures.ok sent))) c.send_all.ensures.behind
 
 pub returns-in_err-stop-clause-kept : goal.returns-in_err-stop-clause-kept

@@ -1,4 +1,4 @@
-use Rattle.mig_dirtysave_rounds.proofs.Common.{rules, arith, ℕ, ◌+◌, ◌/◌, ◌<◌, ◌≤◌, ◌^◌, ap, sym, subst, ◌∙◌, IsBehind, size, pfns_of_words, IsBelow, size-le, notes_of, total}
+use Rattle.mig_dirtysave_rounds.proofs.Common.{rules, arith, ℕ, ◌+◌, ◌/◌, ◌<◌, ◌≤◌, ◌^◌, ap, sym, subst, ◌∙◌, IsBehind, size, pfns_of_words, IsBelow, size-le, notes_of, entries_read}
 use Rattle.mig_dirtysave_rounds.proofs.Shapes.{stays_on, ran_stays}
 use Rattle.mig_dirtysave_rounds.proofs.Steps.{on_err}
 use Rattle.mig_dirtysave_rounds.proofs.Saves.{live_round, sent_round, longer, counted_more, goes_on, round_keeps, even, behind_taken}
@@ -10,7 +10,7 @@ returns-in_err-send_all-clause-behind g c =
     let i = c.loop-machine.invariant in
     on_err c.from_residual.result (λ start before out sent.
     let (mid, now, live) = i.sent start before out sent in
-    subst (λ w. IsBehind start (g.K.Sink.written c.send_all.new.sink) (total w (g.M.Machine.state c.send_all.new.machine).history)) i.kept.shape.width
+    subst (λ w. IsBehind start (g.K.Sink.written c.send_all.new.sink) (entries_read w (g.M.Machine.state c.send_all.new.machine).history)) i.kept.shape.width
     (c.in_err-send_all.ensures.behind start c.loop-machine.rounds mid now (even _ _ _ _ live)))
 
 pub returns-in_err-take_set-clause-behind : goal.returns-in_err-take_set-clause-behind
@@ -19,7 +19,7 @@ returns-in_err-take_set-clause-behind g c =
     on_err c.from_residual-in_err-take_set.result (λ start before out sent.
     let (mid, now, live) = i.sent start before out sent in
     let (after, then, sends) = c.in_ok-send_all.ensures.sends start c.loop-machine.rounds mid now in
-    subst (λ w. IsBehind start (g.K.Sink.written c.send_all.new.sink) (total w (g.M.Machine.state c.take_set.new.machine).history)) i.kept.shape.width
+    subst (λ w. IsBehind start (g.K.Sink.written c.send_all.new.sink) (entries_read w (g.M.Machine.state c.take_set.new.machine).history)) i.kept.shape.width
     (behind_taken _ _ _ _ _ _ _ _ _ _ (notes_of c.send_all.new.deferred c.send_all.new.types) i.below live c.in_ok-send_all.ensures.reads sends c.in_err-take_set.ensures.stays.history then))
 
 pub returns-then-rounds-eq-MOST_ROUNDS-clause-ended : goal.returns-then-rounds-eq-MOST_ROUNDS-clause-ended
@@ -109,7 +109,6 @@ loop-machine-preserved g c =
       sized = search rules;
       empty = c.in_ok-send_all.ensures.empty;
       later = g.met.M.Machine.later_on _ _ _ (g.met.M.Machine.later_on _ _ _ i.later c.send_all.ensures.later) c.take_set.ensures.later;
-      machine_count = omega (arith, c.send_all.ensures.machine_count, c.take_set.ensures.count);
-      sink_count = omega (arith, c.send_all.ensures.sink_count);
-      sink_quiet = c.in_ok-send_all.ensures.sink_quiet ∙ i.sink_quiet;
+      machine_quiet = c.in_ok-take_set.ensures.cause.quiet ∙ c.in_ok-send_all.ensures.faults.machine.quiet ∙ i.machine_quiet;
+      sink_quiet = c.in_ok-send_all.ensures.faults.sink.quiet ∙ i.sink_quiet;
     }

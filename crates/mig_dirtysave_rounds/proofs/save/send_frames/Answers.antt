@@ -1,4 +1,4 @@
-use Rattle.mig_dirtysave_rounds.proofs.Common.{arith, ◌≡◌, ℕ, ◌+◌, ◌≤◌, ◌^◌, List, [], None, get_or, sym, ap, subst, ◌∙◌, FrameTold, IsSent, IsBehind, nothing_sent, size, pfns_of_words, IsBelow, size-le, total, notes_of, FramesSaved, SavedSent}
+use Rattle.mig_dirtysave_rounds.proofs.Common.{arith, ◌≡◌, ℕ, ◌+◌, ◌≤◌, ◌^◌, List, [], None, get_or, sym, ap, subst, ◌∙◌, FrameTold, IsSent, IsBehind, nothing_sent, size, pfns_of_words, IsBelow, size-le, entries_read, notes_of, FramesSaved, SavedSent}
 use Rattle.std.specs.Vec.{with_items}
 use Rattle.std.proofs.lemmas.List.{with_items_is}
 use Rattle.mig_dirtysave_rounds.proofs.Steps.{on_err}
@@ -52,7 +52,7 @@ returns-in_err-worst-clause-behind g c =
     let types : c.deref_mut-6.result.now ≡ c.run_rounds.new.types = c.deref_mut-6.ensures.value ∙ with_items_is c.room.inside.types c.run_rounds.new.types (omega (arith, c.deref_mut-3.ensures.len)) in
     let (between, out, live) = sent_before _ _ _ _ _ _ _ _ _ _ _ _ _ set deferred types start c.in_ok-before.ensures.sent in
     on_err c.from_residual-in_err-worst.result
-    (subst (λ w. IsBehind (g.K.Sink.written c.args.sink.now) (g.K.Sink.written c.finish.new.sink) (total w (g.M.Machine.state c.finish.new.machine).history)) c.run_rounds.ensures.kept.shape.width
+    (subst (λ w. IsBehind (g.K.Sink.written c.args.sink.now) (g.K.Sink.written c.finish.new.sink) (entries_read w (g.M.Machine.state c.finish.new.machine).history)) c.run_rounds.ensures.kept.shape.width
     (c.in_err-worst.ensures.behind (g.K.Sink.written c.args.sink.now) between out live))
 
 -- what was sent in all
@@ -66,8 +66,8 @@ all_sent g c =
     let (between, out, live) = sent_before _ _ _ _ _ _ _ _ _ _ _ _ _ set deferred types start c.in_ok-before.ensures.sent in
     c.in_ok-worst.ensures.sent (g.K.Sink.written c.args.sink.now) between out live
 
-pub returns-clause-tight : goal.returns-clause-tight
-returns-clause-tight g c = let (after, then, saved) = all_sent g c in λ none h. saved.tight h (sym c.unsound_of.ensures ∙ none)
+pub returns-clause-exact : goal.returns-clause-exact
+returns-clause-exact g c = let (after, then, saved) = all_sent g c in λ none h. saved.tight h (sym c.unsound_of.ensures ∙ none)
 
 pub returns-clause-first : goal.returns-clause-first
 returns-clause-first g c = let (after, then, saved) = all_sent g c in λ h. sym (saved.first h) ∙ sym c.unsound_of.ensures

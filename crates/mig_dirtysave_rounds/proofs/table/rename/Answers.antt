@@ -1,9 +1,9 @@
-use Rattle.mig_dirtysave_rounds.proofs.Common.{arith, ◌≡◌, ◌+◌, sym, subst, ◌∙◌}
+use Rattle.mig_dirtysave_rounds.proofs.Common.{arith, ◌≡◌, ◌+◌, refl, sym, subst, ◌∙◌}
 use Rattle.mig_dirtysave_rounds.proofs.Tables.{Front, looks_on, looks_at_most, front_none, front_more, front_lost, front_whole}
 use Rattle.mig_dirtysave_rounds.proofs.table.rename.Goals as goal
 
 pub loop-slot-init : goal.loop-slot-init
-loop-slot-init g c = record { front = front_none _ _ _ _ _ c.requires.raw c.fits-page c.told-page; later = g.met.M.Machine.later_self _; count = omega arith }
+loop-slot-init g c = record { front = front_none _ _ _ _ _ c.requires.raw c.fits-page c.told-page; later = g.met.M.Machine.later_self _; quiet = refl }
 
 pub returns-in_err-rename_slot-clause-looks : goal.returns-in_err-rename_slot-clause-looks
 returns-in_err-rename_slot-clause-looks g c =
@@ -24,7 +24,7 @@ loop-slot-preserved g c =
       front = front_more _ _ _ _ _ _ _ _ _ _ c.requires.level c.loop-slot.invariant.front c.rename_slot.ensures.looks c.in_ok-rename_slot.ensures.inside c.in_ok-rename_slot.ensures.page c.loop-slot-test.true
           (sym c.if-branch.false ∙ c.in_ok-rename_slot.ensures.lost);
       later = g.met.M.Machine.later_on _ _ _ c.loop-slot.invariant.later c.rename_slot.ensures.later;
-      count = omega (arith, c.rename_slot.ensures.count);
+      quiet = c.in_ok-rename_slot.ensures.cause.quiet ∙ c.loop-slot.invariant.quiet;
     }
 
 pub returns-clause-page : goal.returns-clause-page
