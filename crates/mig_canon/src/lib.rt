@@ -13,7 +13,7 @@
 //! canonical image of a bare guest is accepted with this guest, whatever follows it, and so is one with its frames in other
 //! records. It takes no memory. A writer of frames that come from elsewhere takes the pieces: `write_headers` appends the
 //! headers alone; `write_codes` the records of the parts of some codes, of a guest that need only be well formed;
-//! `write_info`, `write_p2m_frames` and `write_vcpus` what a PV guest alone has.
+//! `write_static` the policies; `write_info`, `write_p2m_frames` and `write_vcpus` what a PV guest alone has.
 //!
 //! The steps of these proofs serve for any image with a canonical front: `State` of proofs/CanonSteps says that so many
 //! records are accepted and what they mean, `more` and the lemmas behind it that with the next ones they still are;
@@ -29,4 +29,4 @@ mod writer;
 
 pub use law::{canonical_image_is_accepted, frames_may_come_in_any_records};
 pub use pv::{write_info, write_p2m_frames, write_vcpus};
-pub use writer::{write_canon, write_codes, write_headers};
+pub use writer::{write_canon, write_codes, write_headers, write_static};

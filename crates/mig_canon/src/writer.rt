@@ -62,7 +62,7 @@ pub fn write_codes<K: Sink>(
 
 /// Appends the policies, where they have entries, and STATIC_DATA_END.
 #[tactic(auto, using(mig_bytes::proofs::Texts::puts_then, mig_bytes::proofs::Texts::puts_stop, mig_bytes::proofs::Texts::puts_same, crate::proofs::Spelling::codes_text))]
-fn write_static<K: Sink>(sink: &mut K, guest: &Guest) -> Result<(), WriteFailed>
+pub fn write_static<K: Sink>(sink: &mut K, guest: &Guest) -> Result<(), WriteFailed>
     requires { IsFormed guest.now }
     ensures bytes { Puts (text_of (static_bodies guest.now)) (K.written sink.old) (K.written sink.new) result }
     ensures cause { HasCause (K.faults sink.old) (K.faults sink.new) result }

@@ -6,30 +6,19 @@ ghost use Rattle.mig_headers.specs.RecordTypes.{most_body};
 ghost use Rattle.mig_guest.specs.Formed.{IsFormed};
 ghost use Rattle.mig_records.specs.Records.{spelled, text_of};
 ghost use Rattle.mig_headers.specs.declared.kind.Kind.TheVariants.{Pv};
-ghost use Rattle.mig_canon.specs.Canon.{static_bodies, last_records};
+ghost use Rattle.mig_canon.specs.Canon.{last_records};
 ghost use Rattle.mig_dirtysave_parts.specs.SaveTexts.{text_before, context_record, closing_records, StopsBehind};
 
 use mig_bytes::{Sink, WriteFailed, put_all};
-use mig_canon::{write_codes, write_headers, write_info, write_p2m_frames, write_vcpus};
+use mig_canon::{
+    write_codes, write_headers, write_info, write_p2m_frames, write_static, write_vcpus,
+};
 use mig_guest::{Guest, PartCode};
-use mig_records::{write_head, write_padding, write_record};
+use mig_records::{write_head, write_padding};
 use mig_records_pages::write_end;
-
-/// The type of STATIC_DATA_END.
-const STATIC_DATA_END: u32 = 0x10;
 
 /// The type of HVM_CONTEXT, which is the number of its part too.
 pub(crate) const HVM_CONTEXT: u32 = 9;
-
-/// Appends the policies and STATIC_DATA_END.
-fn write_policies<K: Sink>(sink: &mut K, early: &Guest) -> Result<(), WriteFailed>
-    requires { IsFormed early.now }
-    ensures bytes { Puts (text_of (static_bodies early.now)) (K.written sink.old) (K.written sink.new) result }
-    ensures cause { HasCause (K.faults sink.old) (K.faults sink.new) result }
-{
-    write_codes(sink, early, &[PartCode::CpuidLeaf, PartCode::Msr])?;
-    write_record(sink, STATIC_DATA_END, &[])
-}
 
 /// Appends what stands before the frames: the headers, the policies, and of a PV guest its P2M frames.
 pub fn write_before<K: Sink>(sink: &mut K, early: &Guest) -> Result<(), WriteFailed>
@@ -39,7 +28,7 @@ pub fn write_before<K: Sink>(sink: &mut K, early: &Guest) -> Result<(), WriteFai
 {
     write_headers(sink, early.kind())?;
     write_info(sink, early)?;
-    write_policies(sink, early)?;
+    write_static(sink, early)?;
     write_p2m_frames(sink, early)
 }
 
