@@ -14,7 +14,7 @@ ghost use Rattle.mig_image.specs.ImageParts.{head_version};
 use crate::version::ImageVersion;
 use mig_bytes::{Source, Stop, take_part, u32_le, u64_be, u64_le};
 use mig_headers::{ImageCause, Kind};
-use mig_pagetypes::MOST_FRAMES;
+use mig_pagetypes::{MOST_FRAMES, TOP_LIMIT};
 
 /// "XGIMAGE1" and "XGIMAGE2", the lowest byte last.
 const NAME_ONE: u64 = 0x5847_494D_4147_4531;
@@ -26,9 +26,6 @@ const MOST_WIDTH_ONE: u64 = 1 << 28;
 
 /// The greatest width of a host that version 2 holds.
 const MOST_WIDTH_TWO: u64 = 1 << 52;
-
-/// The greatest width of a PV host.
-const MOST_PV_WIDTH: u64 = 1 << 32;
 
 /// The version of an image with this head.
 pub(crate) fn version_in(head: &[u8; 32]) -> ImageVersion
@@ -78,7 +75,7 @@ fn head_fault(widest: u64, head: &[u8; 32]) -> Option<ImageCause>
     let (width, frames) = (u64_le(head, 16), u64_le(head, 24));
     if width > widest
         || is_above_version(version_in(head), width)
-        || (kind == 1 && (width == 0 || width > MOST_PV_WIDTH))
+        || (kind == 1 && (width == 0 || width > TOP_LIMIT))
     {
         return Some(ImageCause::Width(width));
     }

@@ -23,6 +23,9 @@ pub use page_type::PageType;
 /// Frame numbers (PFN) are below this: a frame word has 52 bits for one.
 pub const PFN_LIMIT: u64 = 1 << 52;
 
+/// The last frame number of a PV guest is below this: X86_PV_P2M_FRAMES has 32 bits for it.
+pub const TOP_LIMIT: u64 = 1 << 32;
+
 /// The most frames that a guest or a host may have.
 pub const MOST_FRAMES: u64 = 1 << 24;
 
