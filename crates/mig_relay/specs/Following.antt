@@ -4,8 +4,10 @@ use Rattle.std.specs.Prelude.{◌≡◌, ◌≢◌, ◌≤◌, ◌+◌, ◌-◌,
 use Rattle.mig_bytes.specs.Bytes.{padding_len}
 use Rattle.mig_bytes.specs.Fields.{le32}
 use Rattle.mig_libxl_form.specs.Content.{LibxlRecord}
+use Rattle.mig_headers.specs.RecordTypes.{type_number}
 use Rattle.mig_headers.specs.declared.fault.Place.{Place}
 use Rattle.mig_headers.specs.declared.fault.Place.TheVariants.{ImageHeader, DomainHeader, Record, LibxlHeader, LibxlRecord as AtRecord}
+use Rattle.mig_headers.specs.declared.record_type.RecordType.TheVariants.{End, PageData}
 use Rattle.mig_libxl_form.specs.Among.{image_among, image_in}
 use Rattle.mig_libxl_form.specs.Stream.{StreamOf}
 use Rattle.mig_pagetypes.specs.FrameWords.{word_has_data}
@@ -124,9 +126,9 @@ pub data ComesBehind : Spot → ℕ → Spot → Type 0 where
   libxl_next : (records : List LibxlRecord) (r : LibxlRecord) (type : ℕ) → type ≢ 0 → type ≢ 1 → image_in r.content ≡ None → ComesBehind (AtLibxlHead records) type (AtLibxlHead (records ++ r ∷ []))
   libxl_context : (records : List LibxlRecord) (type : ℕ) → type ≡ 1 → image_among records ≡ None → ComesBehind (AtLibxlHead records) type (InImage (Behind records) AtMarker)
   libxl_end : (records : List LibxlRecord) (type : ℕ) (s : StreamOf) → type ≡ 0 → ComesBehind (AtLibxlHead records) type (AtEnd s)
-  image_next : (outer : Outer) (o : Opening) (records : List StreamRecord) (r : StreamRecord) (type : ℕ) → type ≢ 0 → ComesBehind (InImage outer (AtHead o records)) type (InImage outer (AtHead o (records ++ r ∷ [])))
-  image_end : (o : Opening) (records : List StreamRecord) (type : ℕ) (s : StreamOf) → type ≡ 0 → ComesBehind (InImage Alone (AtHead o records)) type (AtEnd s)
-  inner_end : (around : List LibxlRecord) (o : Opening) (records : List StreamRecord) (type : ℕ) (image : ImageOf) → type ≡ 0 → ComesBehind (InImage (Behind around) (AtHead o records)) type (AtLibxlHead (around ++ image_record image ∷ []))
+  image_next : (outer : Outer) (o : Opening) (records : List StreamRecord) (r : StreamRecord) (type : ℕ) → type ≢ type_number End → ComesBehind (InImage outer (AtHead o records)) type (InImage outer (AtHead o (records ++ r ∷ [])))
+  image_end : (o : Opening) (records : List StreamRecord) (type : ℕ) (s : StreamOf) → type ≡ type_number End → ComesBehind (InImage Alone (AtHead o records)) type (AtEnd s)
+  inner_end : (around : List LibxlRecord) (o : Opening) (records : List StreamRecord) (type : ℕ) (image : ImageOf) → type ≡ type_number End → ComesBehind (InImage (Behind around) (AtHead o records)) type (AtLibxlHead (around ++ image_record image ∷ []))
 
 -- Where this comes next, and these first bytes of it were taken, a piece is passed on; and then that comes next, and these
 -- first bytes of it were taken.
@@ -140,9 +142,9 @@ pub data ComesNext : Spot → List ℕ → List ℕ → Spot → List ℕ → Ty
   -- a head, and its record is in hand; or that is whole
   libxl_begins : (records : List LibxlRecord) (piece : List ℕ) → length piece ≡ 8 → ComesNext (AtLibxlHead records) [] piece (AtLibxlBody records (head_in piece)) []
   libxl_whole : (records : List LibxlRecord) (piece : List ℕ) (next : Spot) → length piece ≡ 8 → (head_in piece).len ≡ 0 → ComesBehind (AtLibxlHead records) (head_in piece).kind next → ComesNext (AtLibxlHead records) [] piece next []
-  image_begins : (outer : Outer) (o : Opening) (records : List StreamRecord) (piece : List ℕ) → length piece ≡ 8 → (head_in piece).kind ≢ 1 → ComesNext (InImage outer (AtHead o records)) [] piece (InImage outer (AtBody o records (head_in piece))) []
-  pages_begin : (outer : Outer) (o : Opening) (records : List StreamRecord) (piece : List ℕ) → length piece ≡ 8 → (head_in piece).kind ≡ 1 → ComesNext (InImage outer (AtHead o records)) [] piece (InImage outer (AtFront o records (head_in piece))) []
-  image_whole : (outer : Outer) (o : Opening) (records : List StreamRecord) (piece : List ℕ) (next : Spot) → length piece ≡ 8 → (head_in piece).len ≡ 0 → (head_in piece).kind ≢ 1 → ComesBehind (InImage outer (AtHead o records)) (head_in piece).kind next → ComesNext (InImage outer (AtHead o records)) [] piece next []
+  image_begins : (outer : Outer) (o : Opening) (records : List StreamRecord) (piece : List ℕ) → length piece ≡ 8 → (head_in piece).kind ≢ type_number PageData → ComesNext (InImage outer (AtHead o records)) [] piece (InImage outer (AtBody o records (head_in piece))) []
+  pages_begin : (outer : Outer) (o : Opening) (records : List StreamRecord) (piece : List ℕ) → length piece ≡ 8 → (head_in piece).kind ≡ type_number PageData → ComesNext (InImage outer (AtHead o records)) [] piece (InImage outer (AtFront o records (head_in piece))) []
+  image_whole : (outer : Outer) (o : Opening) (records : List StreamRecord) (piece : List ℕ) (next : Spot) → length piece ≡ 8 → (head_in piece).len ≡ 0 → (head_in piece).kind ≢ type_number PageData → ComesBehind (InImage outer (AtHead o records)) (head_in piece).kind next → ComesNext (InImage outer (AtHead o records)) [] piece next []
   -- more of the record in hand, first the count of a PAGE_DATA's words
   count : (outer : Outer) (o : Opening) (records : List StreamRecord) (head : RecordHead) (piece : List ℕ) → length piece ≡ 8 → 8 + 8 * le32 piece 0 ≤ head.len → ComesNext (InImage outer (AtFront o records head)) [] piece (InImage outer (AtWords o records head (le32 piece 0))) []
   more : (here next : Spot) (begun piece front : List ℕ) (head : RecordHead) → in_hand here ≡ Some head → in_hand next ≡ Some head → head_spot next ≡ head_spot here → due here ≢ CountDue → due next ≡ NothingDue → FillsBody (due here) piece head

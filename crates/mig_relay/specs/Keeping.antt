@@ -4,7 +4,8 @@ use Rattle.mig_records.specs.PvBodies.{greater}
 use Rattle.mig_bytes.specs.Bytes.{padding_len}
 use Rattle.mig_bytes.specs.Fields.{le32}
 use Rattle.mig_libxl_form.specs.Content.{LibxlRecord}
-use Rattle.mig_headers.specs.RecordTypes.{most_body}
+use Rattle.mig_headers.specs.RecordTypes.{most_body, type_number}
+use Rattle.mig_headers.specs.declared.record_type.RecordType.TheVariants.{End, PageData}
 use Rattle.mig_headers.specs.declared.fault.Cause.{Cause}
 use Rattle.mig_libxl_form.specs.Among.{is_libxl_ended, image_in, image_among}
 use Rattle.mig_libxl_form.specs.Behind.{AreBehind}
@@ -54,11 +55,11 @@ top_with type (b ∷ bytes) top = if type == 3 then greater top (le32 (b ∷ byt
 -- a head without fault, which isn't that of a PAGE_DATA
 pub record IsOther (o : Opening) (records : List StreamRecord) (head : RecordHead) : Type 0 where
   pub fine : fault_of_fields (before o records) head.kind head.len ≡ None
-  pub other : head.kind ≢ 1
+  pub other : head.kind ≢ type_number PageData
 
 -- what is wrong with the body behind this head of an image's record, where it is empty
 abbrev pub fault_of_empty : RecordHead → Option Cause
-fault_of_empty head = if (head.len == 0) && not (head.kind == 1) then fault_of_record_body head.kind [] else None
+fault_of_empty head = if (head.len == 0) && not (head.kind == type_number PageData) then fault_of_record_body head.kind [] else None
 
 -- both frame numbers of a list of P2M frames come in its first piece
 pub record KeepsFirst (r : Relay) (head : RecordHead) (begun : List ℕ) : Type 0 where
@@ -67,7 +68,7 @@ pub record KeepsFirst (r : Relay) (head : RecordHead) (begun : List ℕ) : Type 
 
 -- the head of a PAGE_DATA, of a length that is allowed
 pub record IsPages (head : RecordHead) : Type 0 where
-  pub kind : head.kind ≡ 1
+  pub kind : head.kind ≡ type_number PageData
   pub small : head.len ≤ most_body
 
 -- the words of a PAGE_DATA, of which this one has the next page, behind the entries of the others
@@ -88,7 +89,7 @@ KeepsNext r (AtBody o records head) begun = (r.coming ≡ comes.Body head) × Ke
 KeepsNext r (AtFront o records head) begun = (r.coming ≡ comes.Front head) × KeepsHead r o records head (before o records).top × IsPages head × (begun ≡ [])
 KeepsNext r (AtWords o records head n) begun = (r.coming ≡ comes.Words head n) × KeepsHead r o records head (before o records).top × IsPages head × ((0 < n) × (8 + 8 * n ≤ head.len)) × (begun ≡ [])
 KeepsNext r (AtPages o records head coming stood) begun = (r.coming ≡ comes.Page head) × KeepsHead r o records head (before o records).top × IsPages head × (padding_len head.len ≡ 0) × KeepsWords r coming stood × (begun ≡ [])
-KeepsNext r (AtPadding o records head content) begun = (r.coming ≡ comes.Padding head) × KeepsHead r o records head (before o (records ++ record_with records head content ∷ [])).top × (0 < padding_len head.len) × (head.kind ≢ 0) × (begun ≡ [])
+KeepsNext r (AtPadding o records head content) begun = (r.coming ≡ comes.Padding head) × KeepsHead r o records head (before o (records ++ record_with records head content ∷ [])).top × (0 < padding_len head.len) × (head.kind ≢ type_number End) × (begun ≡ [])
 
 -- ---- around an image
 
