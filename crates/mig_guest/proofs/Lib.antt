@@ -9,6 +9,7 @@ pub mod Counts
 pub mod Kept
 pub mod Found
 pub mod NextEntries
+pub mod PageRuns
 pub mod PartRows
 pub mod CodeParts
 pub mod Longs

@@ -39,7 +39,7 @@ module _ {X : Type 0} (m : FinMap nat_cmp X) (from : ℕ) where
       let found = first_passes nat_cmp_total nat_cmp-IsAntisymmetric m (nat_le from) e rest is in
       let no : None ≡ Some e.1 = sym (none e.0 (leb-true from e.0 found.0)) ∙ found.1 in cc
 
-  first_from : (q : ℕ) (v : X) → maps.get m q ≡ Some v → from ≤ q → ((k : ℕ) → from ≤ k → k < q → maps.get m k ≡ None)
+  pub first_from : (q : ℕ) (v : X) → maps.get m q ≡ Some v → from ≤ q → ((k : ℕ) → from ≤ k → k < q → maps.get m k ≡ None)
       → (l : List (ℕ × X)) → entries_from from es ≡ l → entries_from from es ≡ (q, v) ∷ entries_from (q + 1) es
   first_from q v got le none [] is = let no : None ≡ Some v = sym (none_passes nat_cmp_total nat_cmp-IsAntisymmetric m (nat_le from) is q (le-leb from q le)) ∙ got in cc
   first_from q v got le none (e ∷ rest) is =

@@ -1,5 +1,5 @@
-ghost use Rattle.std.specs.Prelude.{◌≡◌, ◌==◌, ℕ, ◌+◌, ◌<◌, ◌≤◌, ◌⊎◌, List, length, not, IsOk, OnOk, OnErr, IfSome, IfNone, IsSome, None, Some, Err, true, is_some, option_and_then};
-ghost use Rattle.std.specs.Option.{option_copied, option_copied_mut, option_map};
+ghost use Rattle.std.specs.Prelude.{◌≡◌, ◌==◌, ℕ, ◌+◌, ◌<◌, ◌≤◌, ◌⊎◌, List, [], length, take, drop, flat_map, not, IsOk, OnOk, OnErr, IfSome, IfNone, IsSome, None, Some, Err, true, is_some, option_and_then};
+ghost use Rattle.std.specs.Option.{option_copied, option_copied_mut, option_map, unwrap_or};
 ghost use Rattle.std.specs.FinMap as maps;
 ghost use Rattle.std.specs.Borrow.{sem};
 ghost use Rattle.mig_bytes.specs.declared.stop.Stop.TheVariants as stops;
@@ -8,7 +8,7 @@ ghost use Rattle.mig_pagetypes.specs.Limits.{pfn_limit};
 ghost use Rattle.mig_pagetypes.specs.declared.page_type.PageType.TheVariants.{Xtab};
 ghost use Rattle.mig_pagestore.specs.Pages.{spliced};
 ghost use Rattle.mig_guest.specs.declared.part_key.PartKey.{PartKey};
-ghost use Rattle.mig_guest.specs.Frames.{framed, IsSized, NextEntry};
+ghost use Rattle.mig_guest.specs.Frames.{framed, IsSized, entries_from, NextEntry};
 ghost use Rattle.mig_guest.specs.Parts.{NextPart, NextBehind, NextKey};
 
 use crate::part_key::PartKey;
@@ -158,6 +158,22 @@ impl Guest {
         ensures paged { IfSome result (λ e. is_some e.2 ≡ type_has_data e.1) }
     {
         self.frames.next(from)
+    }
+
+    /// The pages of the frames from this number on, where they lie one behind another, at most so many: the number behind
+    /// them, how many they are, and their bytes. None need lie so.
+    pub fn page_run(&self, from: u64, most: u32) -> (u64, u32, &[u8])
+        ensures bytes { result.2.now ≡ flat_map (λ e. unwrap_or e.1.page []) (take result.1 (entries_from from (maps.entries self.now.frames))) }
+        ensures next { entries_from result.0 (maps.entries self.now.frames) ≡ drop result.1 (entries_from from (maps.entries self.now.frames)) }
+        ensures most { result.1 ≤ most }
+    {
+        match self.frames.next(from) {
+            Some((pfn, _, _)) => {
+                let (count, bytes) = self.frames.page_run(pfn, most);
+                (pfn + u64::from(count), count, bytes)
+            }
+            None => (from, 0, &[]),
+        }
     }
 
     /// The number of frames.

@@ -6,6 +6,7 @@ pub mod Places
 pub mod Led
 pub mod FilledPages
 pub mod Seen
+pub mod Runs
 pub mod Loans
 pub mod PagesSeen
 pub mod SlabCommon

@@ -1,5 +1,5 @@
 -- What edits in one slab do to all pages.
-use Rattle.mig_pagestore.proofs.Common.{◌≡◌, ℕ, zero, suc, ◌+◌, ◌-◌, ◌*◌, ◌/◌, ◌%◌, ◌<◌, ◌≤◌, List, [], ◌∷◌, ◌++◌, length, get_or, set, slice_get, refl, sym, ap, ◌∙◌, subst, arith, length-append, length-set, append-nil, append_assoc, IsArena}
+use Rattle.mig_pagestore.proofs.Common.{◌≡◌, ℕ, zero, suc, ◌+◌, ◌-◌, ◌*◌, ◌/◌, ◌%◌, ◌<◌, ◌≤◌, List, [], ◌∷◌, ◌++◌, length, take, drop, get_or, set, slice_get, refl, sym, ap, ◌∙◌, subst, arith, length-append, length-set, append-nil, append_assoc, IsArena}
 use Rattle.mig_pagestore.specs.Slab.{Pages}
 use Rattle.mig_pagestore.specs.Packed.{IsPacked, all_pages}
 
@@ -23,6 +23,19 @@ module _ {X : Type 0} where
   set_right [] ys i k w e = let same : i ≡ k = omega arith in ap (λ m. set ys m w) same
   set_right (x ∷ xs) ys zero k w e = absurd (omega arith)
   set_right (x ∷ xs) ys (suc i) k w e = ap (λ l. x ∷ l) (set_right xs ys i k w (omega arith))
+
+  part_left : (xs ys : List X) (r c : ℕ) → r + c ≤ length xs → take c (drop r (xs ++ ys)) ≡ take c (drop r xs)
+  part_left [] ys zero zero le = refl
+  part_left [] ys zero (suc c) le = absurd (omega (arith, le))
+  part_left [] ys (suc r) c le = absurd (omega (arith, le))
+  part_left (x ∷ xs) ys zero zero le = refl
+  part_left (x ∷ xs) ys zero (suc c) le = ap (λ l. x ∷ l) (part_left xs ys zero c (omega (arith, le)))
+  part_left (x ∷ xs) ys (suc r) c le = part_left xs ys r c (omega (arith, le))
+
+  part_right : (xs ys : List X) (i k c : ℕ) → i ≡ length xs + k → take c (drop i (xs ++ ys)) ≡ take c (drop k ys)
+  part_right [] ys i k c e = let same : i ≡ k = omega arith in ap (λ m. take c (drop m ys)) same
+  part_right (x ∷ xs) ys zero k c e = absurd (omega arith)
+  part_right (x ∷ xs) ys (suc i) k c e = part_right xs ys i k c (omega arith)
 
 zeroth : (r : ℕ) → 0 * 64 + r ≡ r
 zeroth r = omega arith
@@ -56,6 +69,19 @@ at_place (t ∷ ss) n (suc j) r s p small lt e =
     let on = at_place ss (n - 64) j r s p.3 small (omega (arith, lt)) e in
     let full : length t.pages ≡ 64 = p.1 (omega (arith, lt)) in
     (omega (arith, on.0), on.1, get_right t.pages (all_pages ss) (suc j * 64 + r) (j * 64 + r) (omega (arith, full)) ∙ on.2)
+
+-- pages one behind another in one slab
+run_place : (ss : List Pages) (n j r c : ℕ) (s : Pages) → IsPacked ss n → r + c ≤ 64 → 0 < c → j * 64 + r + c ≤ n → s ≡ get_or ss j s
+    → (r + c ≤ length s.pages) × (take c (drop (j * 64 + r) (all_pages ss)) ≡ take c (drop r s.pages))
+unfolding IsPacked all_pages
+run_place [] n j r c s p small some le e = absurd (omega (arith, p, le, some))
+run_place (t ∷ ss) n zero r c s p small some le e =
+    let within : r + c ≤ length t.pages = grind (arith, p.1, p.2, le, small) in
+    (subst (λ (u : Pages). r + c ≤ length u.pages) (sym e) within, ap (λ k. take c (drop k (t.pages ++ all_pages ss))) (zeroth r) ∙ part_left t.pages (all_pages ss) r c within ∙ ap (λ (u : Pages). take c (drop r u.pages)) (sym e))
+run_place (t ∷ ss) n (suc j) r c s p small some le e =
+    let on = run_place ss (n - 64) j r c s p.3 small some (omega (arith, le)) e in
+    let full : length t.pages ≡ 64 = p.1 (omega (arith, le)) in
+    (on.0, part_right t.pages (all_pages ss) (suc j * 64 + r) (j * 64 + r) c (omega (arith, full)) ∙ on.1)
 
 pub set_place : (ss : List Pages) (n j r : ℕ) (s : Pages) (w : List ℕ) → IsPacked ss n → r < 64 → j * 64 + r < n → s ≡ get_or ss j s
     → IsPacked (set ss j (with_pages (set s.pages r w))) n × (all_pages (set ss j (with_pages (set s.pages r w))) ≡ set (all_pages ss) (j * 64 + r) w)
@@ -156,6 +182,16 @@ module _ (ss : List Pages) (n : ℕ) (arena : IsArena ss n) where
 
       pub page_in_slab : slice_get (all_pages ss) place ≡ slice_get s.pages (place % 64)
       page_in_slab = ap (slice_get (all_pages ss)) (sym (whole place)) ∙ at.2
+
+      module _ (c : ℕ) (some : 0 < c) (fits : place + c ≤ length (all_pages ss)) (one : place % 64 + c ≤ 64) where
+        ran : (place % 64 + c ≤ length s.pages) × (take c (drop (place / 64 * 64 + place % 64) (all_pages ss)) ≡ take c (drop (place % 64) s.pages))
+        ran = run_place ss n (place / 64) (place % 64) c s arena.packed one some (omega (arith, whole place, fits, arena_len)) e
+
+        pub run_within : place % 64 + c ≤ length s.pages
+        run_within = ran.0
+
+        pub run_in_slab : take c (drop place (all_pages ss)) ≡ take c (drop (place % 64) s.pages)
+        run_in_slab = ap (λ k. take c (drop k (all_pages ss))) (sym (whole place)) ∙ ran.1
 
       module _ (w : List ℕ) where
         did : IsPacked (set ss (place / 64) (with_pages (set s.pages (place % 64) w))) n × (all_pages (set ss (place / 64) (with_pages (set s.pages (place % 64) w))) ≡ set (all_pages ss) (place / 64 * 64 + place % 64) w)

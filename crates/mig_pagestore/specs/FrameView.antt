@@ -53,6 +53,10 @@ place_or_0 (Some c) = cell_place c
 abbrev pub place_of_page : ValueMap → ℕ → ℕ
 place_of_page cells q = place_or_0 (maps.get cells q)
 
+-- the pages of so many PFNs, from this one on, are at so many places, from this one on
+abbrev pub LieInRun : ValueMap → List (List ℕ) → ℕ → ℕ → ℕ → Type 0
+LieInRun cells pages pfn place n = (i : ℕ) → i < n → (place_of_page cells (pfn + i) ≡ place + i) × (length (slice_index_or pages (place + i - 1) []) ≡ 4096)
+
 -- F leads from each PFN to its place, and from no other number to a place
 pub record Leads (F : ℕ → ℕ) (pfns : List ℕ) : Type 0 where
   pub there : (i : ℕ) → i < length pfns → F (slice_index pfns i) ≡ i + 1

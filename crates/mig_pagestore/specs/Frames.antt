@@ -1,5 +1,5 @@
 -- What a store of frames is: a finite map from PFN to a type, and a page or none, and a number of spare pages.
-use Rattle.std.specs.Prelude.{◌≡◌, ◌≢◌, ℕ, ◌<◌, List, length, Option, Some, is_some, refl}
+use Rattle.std.specs.Prelude.{◌≡◌, ◌≢◌, ⊤, ℕ, ◌+◌, ◌<◌, List, [], ◌∷◌, length, Option, Some, is_some, refl}
 use Rattle.std.specs.Ordering.{nat_cmp}
 use Rattle.std.specs.Option.{option_and_then}
 use Rattle.std.specs.FinMap as maps
@@ -27,6 +27,11 @@ pub record Framed : Type 0 where
 -- the page of this PFN's frame; none where it has no frame, or its frame no page
 abbrev pub frame_page : FrameMap → ℕ → Option (List ℕ)
 frame_page m pfn = option_and_then (λ f. f.page) (maps.get m pfn)
+
+-- these are the pages of the frames from a number on, one by one
+abbrev pub IsRun : FrameMap → ℕ → List (List ℕ) → Type 0
+IsRun m pfn [] = ⊤
+IsRun m pfn (page ∷ pages) = (frame_page m pfn ≡ Some page) × IsRun m (pfn + 1) pages
 
 -- the frame isn't absent, and has a page of 4096 bytes exactly where its type has data
 pub record IsFrame (frame : FrameOf) : Type 0 where

@@ -1,5 +1,5 @@
 //! Pages one behind another, in slabs.
-ghost use Rattle.std.specs.Prelude.{◌≡◌, ◌<◌, ◌≤◌, ◌+◌, ◌*◌, ◌^◌, [], ◌∷◌, ◌++◌, length, slice_get, slice_set, OnOk, OnErr, Some};
+ghost use Rattle.std.specs.Prelude.{◌≡◌, ◌<◌, ◌≤◌, ◌+◌, ◌*◌, ◌%◌, ◌^◌, [], ◌∷◌, ◌++◌, length, take, drop, flat_map, slice_get, slice_set, OnOk, OnErr, Some};
 ghost use Rattle.std.specs.Borrow.{sem};
 
 use crate::slab::{PLACES, Slab};
@@ -78,6 +78,17 @@ impl Arena {
         ensures { slice_get self.now.pages place ≡ Some result.now }
     {
         self.slabs[place / PLACES].get(place % PLACES)
+    }
+
+    /// So many pages from this place on, all in one slab, as one piece of bytes.
+    #[tactic(auto, using(crate::proofs::Packing::slab_there, crate::proofs::Packing::run_within, crate::proofs::Packing::run_in_slab))]
+    pub(crate) fn page_run(&self, place: usize, count: usize) -> &[u8]
+        requires some { 0 < count }
+        requires within { place + count ≤ length self.now.pages }
+        requires one_slab { place % 64 + count ≤ 64 }
+        ensures { result.now ≡ flat_map (λ page. page) (take count (drop place self.now.pages)) }
+    {
+        self.slabs[place / PLACES].page_run(place % PLACES, count)
     }
 
     /// Lends the page at this place for writing.

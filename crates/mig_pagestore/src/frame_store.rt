@@ -1,18 +1,19 @@
-ghost use Rattle.std.specs.Prelude.{◌≡◌, ◌≢◌, ℕ, ◌+◌, ◌-◌, ◌^◌, ◌<◌, ◌≤◌, ◌⊎◌, List, [], ◌∷◌, ◌++◌, length, vec_capacity, IsSome, IsOk, OnOk, OnErr, IfSome, IfNone, Some, None, Err, true, is_some};
+ghost use Rattle.std.specs.Prelude.{◌≡◌, ◌≢◌, ℕ, ◌+◌, ◌-◌, ◌%◌, ◌^◌, ◌<◌, ◌≤◌, ◌⊎◌, List, [], ◌∷◌, ◌++◌, length, flat_map, slice_index_or, vec_capacity, IsTrue, IsSome, IsOk, OnOk, OnErr, IfSome, IfNone, Some, None, Err, true, is_some};
 ghost use Rattle.std.specs.Option.{option_copied, option_copied_mut, option_map};
 ghost use Rattle.std.specs.FinMap as maps;
 ghost use Rattle.std.specs.Borrow.{sem};
 ghost use Rattle.mig_pagetypes.specs.PageTypes.{type_has_data};
 ghost use Rattle.mig_pagetypes.specs.Limits.{pfn_limit};
 ghost use Rattle.mig_pagetypes.specs.declared.page_type.PageType.TheVariants.{Xtab};
-ghost use Rattle.mig_pagestore.specs.Frames.{FrameOf, frame_page, IsSized, framed};
-ghost use Rattle.mig_pagestore.specs.FrameView.{cell_type, cell_place, IsCell, AreCells, page_at_place, frame_at, place_of_page, IsLed, SameBut, Moved};
+ghost use Rattle.mig_pagestore.specs.Frames.{FrameOf, frame_page, IsRun, IsSized, framed};
+ghost use Rattle.mig_pagestore.specs.FrameView.{cell_type, cell_place, IsCell, AreCells, page_at_place, frame_at, place_of_page, IsLed, LieInRun, SameBut, Moved};
 ghost use Rattle.mig_pagestore.specs.FrameLending.{LendsFramePage};
 ghost use Rattle.mig_pagestore.specs.Filling.{PushesFilled, PlacesLast, PutsFilled};
 ghost use Rattle.mig_bytes.specs.declared.stop.Stop.TheVariants as stops;
 
 use crate::arena::Arena;
 use crate::fill::Fill;
+use crate::slab::PLACES;
 use mig_bytes::{Memory, Stop};
 use mig_pagestore_index::Index;
 use mig_pagetypes::{FrameWord, PageType, decode_word, encode_word};
@@ -137,6 +138,46 @@ fn page_of(arena: &Arena, place: u64) -> Option<&[u8; 4096]>
         return None;
     }
     Some(whole(arena.get(place as usize - 1)))
+}
+
+/// Whether the page of this PFN is at this place.
+fn is_at(index: &Index, arena: &Arena, pfn: u64, place: u64) -> bool
+    requires typed { AreCells index.now.values }
+    requires within { (q : ℕ) → place_of_page index.now.values q ≤ length arena.now.pages }
+    requires some { 0 < place }
+    ensures { IsTrue result → (place_of_page index.now.values pfn ≡ place) × (length (slice_index_or arena.now.pages (place - 1) []) ≡ 4096) }
+{
+    if place_of(index, pfn) != place {
+        return false;
+    }
+    // To the proof a page that is read tells its size.
+    let _page = whole(arena.get(place as usize - 1));
+    true
+}
+
+/// For how many PFNs from this one on, at most so many, the pages lie one behind another in one slab from this place on.
+fn run_len(index: &Index, arena: &Arena, pfn: u64, place: u64, most: u32) -> u32
+    requires typed { AreCells index.now.values }
+    requires within { (q : ℕ) → place_of_page index.now.values q ≤ length arena.now.pages }
+    requires some { 0 < place }
+    requires small { (pfn < 2 ^ 52) × (place < 2 ^ 52) }
+    ensures lie { LieInRun index.now.values arena.now.pages pfn place result }
+    ensures one_slab { (place - 1) % 64 + result ≤ 64 }
+    ensures most { result ≤ most }
+{
+    let most = most.min(PLACES as u32 - ((place - 1) % 64) as u32);
+    let mut count = 0;
+    while count < most
+        && is_at(
+            index,
+            arena,
+            pfn + u64::from(count),
+            place + u64::from(count),
+        )
+    {
+        count += 1;
+    }
+    count
 }
 
 /// The frame that a cell tells of.
@@ -310,6 +351,27 @@ impl FrameStore {
     {
         let cell = self.index.get(pfn)?;
         Some(frame_of(&self.arena, cell))
+    }
+
+    /// The pages of the frames from this PFN on that lie one behind another, at most so many: how many they are, and their
+    /// bytes. None need lie so.
+    pub fn page_run(&self, pfn: u64, most: u32) -> (u32, &[u8])
+        requires { pfn < pfn_limit }
+        ensures run { (pages : List (List ℕ)) × (length pages ≡ result.0) × (result.1.now ≡ flat_map (λ page. page) pages) × IsRun self.now.frames pfn pages }
+        ensures most { result.0 ≤ most }
+    {
+        let place = place_of(&self.index, pfn);
+        if place == 0 {
+            return (0, &[]);
+        }
+        let count = run_len(&self.index, &self.arena, pfn, place, most);
+        if count == 0 {
+            return (0, &[]);
+        }
+        (
+            count,
+            self.arena.page_run(place as usize - 1, count as usize),
+        )
     }
 
     /// Lends the page of this PFN for writing; none where there is no frame, or its type has no data.

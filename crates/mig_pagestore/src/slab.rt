@@ -1,4 +1,4 @@
-ghost use Rattle.std.specs.Prelude.{◌≡◌, ◌<◌, ◌≤◌, [], ◌∷◌, ◌++◌, length, slice_get, IfOk, Some};
+ghost use Rattle.std.specs.Prelude.{◌≡◌, ◌+◌, ◌<◌, ◌≤◌, [], ◌∷◌, ◌++◌, length, take, drop, flat_map, slice_get, IfOk, Some};
 ghost use Rattle.std.specs.Borrow.{sem};
 
 use crate::cells::{Base, Cells, Deed, allocate, deallocate};
@@ -79,6 +79,14 @@ impl Slab {
         ensures { slice_get self.now.pages at ≡ Some result.now }
     {
         &self.cells.pages(self.base, self.len)[at]
+    }
+
+    /// So many pages from this place on, as one piece of bytes.
+    pub fn page_run(&self, at: usize, count: usize) -> &[u8]
+        requires { at + count ≤ length self.now.pages }
+        ensures { result.now ≡ flat_map (λ page. page) (take count (drop at self.now.pages)) }
+    {
+        self.cells.pages(self.base, self.len)[at..at + count].as_flattened()
     }
 
     /// Lends the page at this place for writing.

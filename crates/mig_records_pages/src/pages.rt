@@ -1,5 +1,6 @@
-ghost use Rattle.std.specs.Prelude.{◌≡◌, ◌*◌, ◌+◌, ◌<◌, ◌≤◌, All, IfOk, length, take, drop};
-ghost use Rattle.mig_bytes.specs.Bytes.{Puts};
+ghost use Rattle.std.specs.Prelude.{◌≡◌, ◌*◌, ◌+◌, ◌<◌, ◌≤◌, All, IfOk, OnErr, length, take, drop};
+ghost use Rattle.std.specs.Io.KnownBytes.{Appends};
+ghost use Rattle.mig_bytes.specs.Bytes.{AppendsPart, Puts};
 ghost use Rattle.mig_bytes.specs.Faults.{HasCause};
 ghost use Rattle.mig_records.specs.Records.{spelled};
 ghost use Rattle.mig_records_pages.specs.PageData.{most_entries, words_of, pages_of, body_of};
@@ -72,7 +73,37 @@ fn fill_pages<F: FrameSequence>(buffer: &mut [u8], frames: &F, start: u64, count
     (place, pages)
 }
 
-/// Appends the pages of so many frames, from this place on, four at a time; answers the place behind the frames.
+/// Appends the pages of some frames, at most so many, from this place on: those that lie one behind another, or up to four
+/// that are gathered. Answers the place behind the frames, and how many they are.
+fn write_some<K: Sink, F: FrameSequence>(
+    sink: &mut K,
+    frames: &F,
+    buffer: &mut [u8],
+    place: u64,
+    most: u32,
+) -> Result<(u64, u32), WriteFailed>
+    requires room { length buffer.old ≡ 16384 }
+    requires some { 0 < most }
+    requires has { most ≤ length (F.frames_from frames.now place) }
+    ensures ok { IfOk result (λ r. Appends (K.written sink.old) (K.written sink.new) (pages_of (take r.1 (F.frames_from frames.now place)))) }
+    ensures err { OnErr result (AppendsPart (K.written sink.old) (K.written sink.new) (pages_of (take most (F.frames_from frames.now place)))) }
+    ensures behind { IfOk result (λ r. F.frames_from frames.now r.0 ≡ drop r.1 (F.frames_from frames.now place)) }
+    ensures few { IfOk result (λ r. (0 < r.1) × (r.1 ≤ most)) }
+    ensures room { length buffer.new ≡ length buffer.old }
+    ensures cause { HasCause (K.faults sink.old) (K.faults sink.new) result }
+{
+    let (behind, count, run) = frames.run_from(place, most);
+    if count >= GATHERED {
+        put_all(sink, run)?;
+        return Ok((behind, count));
+    }
+    let some = most.min(GATHERED);
+    let (next, pages) = fill_pages(buffer, frames, place, some);
+    put_all(sink, &buffer[..4096 * pages as usize])?;
+    Ok((next, some))
+}
+
+/// Appends the pages of so many frames, from this place on; answers the place behind the frames.
 fn write_pages<K: Sink, F: FrameSequence>(
     sink: &mut K,
     frames: &F,
@@ -88,9 +119,7 @@ fn write_pages<K: Sink, F: FrameSequence>(
     let mut place = start;
     let mut done = 0;
     while done < count {
-        let some = (count - done).min(GATHERED);
-        let (behind, pages) = fill_pages(&mut buffer, frames, place, some);
-        put_all(sink, &buffer[..4096 * pages as usize])?;
+        let (behind, some) = write_some(sink, frames, &mut buffer, place, count - done)?;
         place = behind;
         done += some;
     }

@@ -1,9 +1,9 @@
-ghost use Rattle.std.specs.Prelude.{◌≡◌, ◌<◌, ℕ, List, [], ◌∷◌, All, IfNone, IfSome, drop, option_and_then};
+ghost use Rattle.std.specs.Prelude.{◌≡◌, ◌<◌, ◌≤◌, ℕ, List, [], ◌∷◌, All, IfNone, IfSome, take, drop};
 ghost use Rattle.std.specs.Option.{option_copied};
 ghost use Rattle.std.specs.FinMap as maps;
 ghost use Rattle.mig_pagetypes.specs.Limits.{pfn_limit};
 ghost use Rattle.mig_guest.specs.Frames.{entries_from};
-ghost use Rattle.mig_records_pages.specs.PageData.{Frame};
+ghost use Rattle.mig_records_pages.specs.PageData.{Frame, pages_of};
 ghost use Rattle.mig_records_pages.specs.Told.{told_of, told_held, telling_frame, telling_frames, HasPfn};
 
 use crate::HeldFrame;
@@ -20,6 +20,13 @@ pub trait FrameSequence {
         ensures none { IfNone result (frames_from self.now place ≡ []) }
         ensures some { IfSome result (λ e. frames_from self.now place ≡ (e.0.pfn, record { type = e.0.kind; page = option_copied e.1 }) ∷ frames_from self.now e.2) }
         ensures small { IfSome result (λ e. e.0.pfn < pfn_limit) };
+
+    /// The pages of the frames from a place on, where they lie one behind another, at most so many: the place behind them,
+    /// how many frames they are, and their bytes. None need lie so.
+    fn run_from(&self, place: u64, most: u32) -> (u64, u32, &[u8])
+        ensures bytes { result.2.now ≡ pages_of (take result.1 (frames_from self.now place)) }
+        ensures behind { frames_from self.now result.0 ≡ drop result.1 (frames_from self.now place) }
+        ensures most { result.1 ≤ most };
 }
 
 /// The frames of a guest in the order of their numbers; a place is a frame number.
@@ -29,6 +36,10 @@ impl FrameSequence for Guest {
     fn frame_from(&self, place: u64) -> Option<(FrameWord, Option<&[u8; 4096]>, u64)> {
         let (pfn, kind, page) = self.next_entry(place)?;
         Some((FrameWord { pfn, kind }, page, pfn + 1))
+    }
+
+    fn run_from(&self, place: u64, most: u32) -> (u64, u32, &[u8]) {
+        self.page_run(place, most)
     }
 }
 
@@ -69,5 +80,9 @@ impl FrameSequence for HeldFrames<'_> {
             kind: type_told(entry),
         };
         Some((word, page_told(entry), place + 1))
+    }
+
+    fn run_from(&self, place: u64, _most: u32) -> (u64, u32, &[u8]) {
+        (place, 0, &[])
     }
 }
