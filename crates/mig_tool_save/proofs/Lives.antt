@@ -18,7 +18,7 @@ use Rattle.mig_dirtysave.specs.declared.answer.SaveAnswer.TheVariants as answers
 use Rattle.mig_tool_report.specs.declared.outcome.Outcome.TheVariants as outcomes
 
 -- the machine shows the types as they are
-pub honest : (m : MachineSeen) → IsTrusted (machine_state m)
+honest : (m : MachineSeen) → IsTrusted (machine_state m)
 honest m = inl refl
 
 -- a tight history of a machine of the same kind and width

@@ -2,7 +2,7 @@ use Rattle.mig_tool_save.proofs.Common.{Err, ap, ◌≡◌, ℕ, List, refl, sub
 use Rattle.std.proofs.Common.{rules}
 use Rattle.mig_dirtysave.specs.declared.answer.SaveReport.{SaveReport}
 use Rattle.mig_tool_save.proofs.SaveOutcomes.{unwritten}
-use Rattle.mig_tool_save.proofs.Lives.{wrote_live, wrote_live_to, honest, tight_of, never_fails, pauses_so, left_no_stream, ends, had_memory, no_write}
+use Rattle.mig_tool_save.proofs.Lives.{wrote_live, wrote_live_to, tight_of, never_fails, pauses_so, left_no_stream, ends, had_memory, no_write}
 use Rattle.mig_tool_report.specs.declared.outcome.Outcome.TheVariants as outcomes
 use Rattle.mig_tool_save.proofs.saving.save_machine.Goals as goal
 
