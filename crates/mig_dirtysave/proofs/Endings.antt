@@ -1,5 +1,5 @@
 -- How a save ends, by the answer of the step that ended it.
-use Rattle.mig_dirtysave.proofs.Common.{◌≡◌, ℕ, ◌≤◌, List, Option, Some, true, refl, sym, ap, subst, ◌∙◌, arith, Result, Ok, Err, length, length-map, HostOf, History, MachineState, Unsound, UnsoundHas, is_of_no_type, unsoundness, entries_read, FrameTold, all_told, FramesSaved, KeepsShape, OnlyLooksUp, IsLittleBehind, IsTrusted}
+use Rattle.mig_dirtysave.proofs.Common.{◌≡◌, ℕ, ◌≤◌, List, Option, Some, true, sym, ap, subst, ◌∙◌, arith, Result, Ok, Err, length, length-map, HostOf, MachineState, Unsound, UnsoundHas, is_of_no_type, unsoundness, entries_read, FrameTold, all_told, FramesSaved, KeepsShape, OnlyLooksUp, IsLittleBehind, IsTrusted}
 use Rattle.std.specs.Prelude.{IsErrAnd}
 use Rattle.mig_guest.specs.History.{no_history}
 use Rattle.mig_guest.specs.MachineStates.{IsSameShape}
