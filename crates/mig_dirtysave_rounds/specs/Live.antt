@@ -15,7 +15,7 @@ use Rattle.mig_guest.specs.Pfns.{Pfns, size}
 use Rattle.mig_guest.specs.Footprints.{footprint, footprint_of}
 use Rattle.mig_guest.specs.History.{LogTook, nothing_asked}
 use Rattle.mig_guest.specs.MachineStates.{MachineState, IsSameShape}
-use Rattle.mig_guest.specs.Rounds.{OfEachLog, GoesOn, AreCalls, Rounds, Tight, to_read, rounds_read, all_read}
+use Rattle.mig_guest.specs.Rounds.{OfEachLog, GoesOn, AreCalls, Rounds, Tight, to_read, rounds_read, all_read, least_log, most_rounds}
 use Rattle.mig_dirtysave_rounds.specs.declared.found.Worst.{Worst}
 use Rattle.mig_dirtysave_rounds.specs.Forms.{form_of_print, superpage_slot, lost_slot}
 use Rattle.mig_dirtysave_rounds.specs.Parts.{entries_read}
@@ -56,8 +56,8 @@ pub record Ended (rounds : ℕ) (s : MachineState) (set : Pfns) : Type 0 where
   pub live : Live s set
   pub number : rounds ≡ length s.history.taken
   pub some : 0 < rounds
-  pub most : rounds ≤ 5
-  pub few : rounds < 5 → size s.host.width set < 50
+  pub most : rounds ≤ most_rounds
+  pub few : rounds < most_rounds → size s.host.width set < least_log
 
 -- from s, before the first round, to t so many rounds were sent
 abbrev pub SendsRounds : ℕ → MachineState → MachineState → Pfns → Pfns → Option (List ℕ) → Option (List ℕ) → Notes → Notes → Type 0

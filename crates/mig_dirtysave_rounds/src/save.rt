@@ -7,6 +7,7 @@ ghost use Rattle.mig_guest.specs.Pfns.{pfns_of_words, size};
 ghost use Rattle.mig_guest.specs.History.{no_history};
 ghost use Rattle.mig_guest.specs.MachineCalls.{Paused};
 ghost use Rattle.mig_guest.specs.MachineStates.{IsValidState, Stays};
+ghost use Rattle.mig_guest.specs.Rounds.{most_rounds};
 ghost use Rattle.mig_guest.specs.Changes.{IsBelow};
 ghost use Rattle.mig_dirtysave_rounds.specs.Causes.{FaultsHaveCauses};
 ghost use Rattle.mig_dirtysave_rounds.specs.Parts.{entries_read, entries_read_before};
@@ -28,8 +29,8 @@ use mig_records_pages::Batch;
 /// The most rounds before the pause.
 const MOST_ROUNDS: u32 = 5;
 
-/// No further round comes where the log has fewer frame numbers.
-const FEW: u64 = 50;
+/// No further round comes behind a log that names fewer frame numbers.
+const LEAST_LOG: u64 = 50;
 
 /// What the rounds before the pause came to.
 #[derive(Clone, Copy, Debug, PartialEq, Eq)]
@@ -74,7 +75,7 @@ fn run_rounds<M: Machine, K: Sink>(
     requires first { (M.state machine.old).history ≡ no_history }
     ensures ended { IfOk result (λ sent. Ended sent.rounds (M.state machine.new) (pfns_of_words set.new)) }
     ensures entries { IfOk result (λ sent. sent.entries ≡ entries_read_before (M.state machine.new).host.width (M.state machine.new).history.taken) }
-    ensures few { IfOk result (λ sent. sent.entries ≤ 5 * 2 ^ 28) }
+    ensures few { IfOk result (λ sent. sent.entries ≤ most_rounds * 2 ^ 28) }
     ensures sent { IfOk result (λ sent. SendsRounds sent.rounds (M.state machine.old) (M.state machine.new) (pfns_of_words set.old) (pfns_of_words set.new) (K.written sink.old) (K.written sink.new)
         (notes_of deferred.old types.old) (notes_of deferred.new types.new)) }
     ensures behind { OnErr result (RoundsLeaveBehind 0 (M.state machine.old) (M.state machine.new) (pfns_of_words set.old) (K.written sink.old) (K.written sink.new) (notes_of deferred.old types.old)) }
@@ -93,7 +94,7 @@ fn run_rounds<M: Machine, K: Sink>(
         send_all(machine, sink, batch, set, deferred, types, page)?;
         take_set(machine, set)?;
         rounds += 1;
-        if rounds == MOST_ROUNDS || count(set) < FEW {
+        if rounds == MOST_ROUNDS || count(set) < LEAST_LOG {
             return Ok(RoundsSent { rounds, entries });
         }
     }

@@ -6,6 +6,14 @@ use Rattle.mig_headers.specs.declared.kind.Kind.TheVariants.{Pv, Hvm}
 use Rattle.mig_guest.specs.Pfns.{Pfns, no_pfns, all_below, joined, members, size}
 use Rattle.mig_guest.specs.History.{LogTook, History}
 
+-- the most rounds before the pause
+abbrev pub most_rounds : ℕ
+most_rounds = 5
+
+-- the fewest PFNs that a log names behind which another round comes
+abbrev pub least_log : ℕ
+least_log = 50
+
 -- P holds of each of these logs, which stand the latest first, and of those before it
 abbrev pub OfEachLog : (List LogTook → LogTook → Type 0) → List LogTook → Type 0
 OfEachLog P [] = ⊤
@@ -16,10 +24,10 @@ abbrev pub to_read : ℕ → List LogTook → Pfns
 to_read width [] = all_below width
 to_read width (last ∷ before) = last.log
 
--- a log behind which another round comes names 50 PFNs or more
+-- a log behind which another round comes names `least_log` PFNs or more
 abbrev pub GoesOn : ℕ → List LogTook → Type 0
 GoesOn width [] = ⊤
-GoesOn width (last ∷ before) = 50 ≤ size width last.log
+GoesOn width (last ∷ before) = least_log ≤ size width last.log
 
 -- how many calls a round makes that reads so many PFNs, with the one that takes its log: a table has 512 entries to look up
 abbrev pub AreCalls : Kind → ℕ → ℕ → Type 0
@@ -32,12 +40,12 @@ pub record Rounds (kind : Kind) (width : ℕ) (h : History) : Type 0 where
   pub last : LogTook
   pub logs : h.taken ≡ last ∷ live
   pub before_pause : length live ≡ h.live
-  -- n is from 1 to 5
-  pub number : (1 ≤ length live) × (length live ≤ 5)
+  -- n is from 1 to `most_rounds`
+  pub number : (1 ≤ length live) × (length live ≤ most_rounds)
   -- the first round reads all PFNs below the width, and each further one those that the log before it names
   pub reads : OfEachLog (λ before log. log.asked.read ≡ to_read width before) live
-  -- each log before Ln names 50 PFNs or more; Ln names fewer, or n is 5
-  pub sizes : OfEachLog (λ before log. GoesOn width before) live × ((size width (to_read width live) < 50) ⊎ (length live ≡ 5))
+  -- each log before Ln names `least_log` PFNs or more; Ln names fewer, or n is `most_rounds`
+  pub sizes : OfEachLog (λ before log. GoesOn width before) live × ((size width (to_read width live) < least_log) ⊎ (length live ≡ most_rounds))
   -- how many calls there were since the log before Li, up to and with Li
   pub calls : OfEachLog (λ before log. AreCalls kind (size width log.asked.read) log.asked.calls) live
   -- behind Ln the pause and M are the next two calls, so nothing is read between Ln and M

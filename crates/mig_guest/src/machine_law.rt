@@ -10,7 +10,7 @@ ghost use Rattle.mig_guest.specs.declared.table.Entry.TheVariants.{Frame};
 ghost use Rattle.mig_guest.specs.Footprints.{footprint, footprint_of};
 ghost use Rattle.mig_guest.specs.History.{History};
 ghost use Rattle.mig_guest.specs.Pfns.{Pfns, members};
-ghost use Rattle.mig_guest.specs.Rounds.{Rounds, all_read};
+ghost use Rattle.mig_guest.specs.Rounds.{Rounds, all_read, most_rounds};
 
 /// A frame number without a frame has no footprint. A frame's own machine frame isn't in its footprint: a frame that gets
 /// another one keeps its footprint, where its slots name the frame numbers that they named. An entry of a table names the
@@ -33,6 +33,6 @@ pub fn members_laws()
 /// There are one to five rounds before the pause, and the first of them reads every frame number below the width, in
 /// ascending order.
 pub fn rounds_laws()
-    ensures number { (kind : Kind) (width : ℕ) (h : History) → Rounds kind width h → (1 ≤ h.live) × (h.live ≤ 5) }
+    ensures number { (kind : Kind) (width : ℕ) (h : History) → Rounds kind width h → (1 ≤ h.live) × (h.live ≤ most_rounds) }
     ensures begins { (kind : Kind) (width : ℕ) (h : History) → Rounds kind width h → (others : List ℕ) × (all_read width h ≡ range_with_len 0 width ++ others) }
 {}

@@ -6,7 +6,7 @@ use Rattle.mig_machine_script.specs.ScriptLines.{LineOf}
 use Rattle.mig_machine_script.specs.Touched.{touched}
 use Rattle.mig_guest.specs.History.{LogTook}
 use Rattle.mig_guest.specs.Pfns.{Pfns, all_below, joined, members, size}
-use Rattle.mig_guest.specs.Rounds.{AreCalls, Rounds}
+use Rattle.mig_guest.specs.Rounds.{AreCalls, Rounds, least_log, most_rounds}
 use Rattle.mig_machine.specs.MachineSeen.{MachineSeen, history_of}
 use Rattle.mig_machine.specs.Exact.{asked_before}
 
@@ -20,10 +20,10 @@ abbrev pub pace_before : ℕ → List Pace → Pace
 pace_before width [] = record { calls = 0; log = all_below width }
 pace_before width (last ∷ before) = last
 
--- a log behind which another round comes names 50 frame numbers or more
+-- a log behind which another round comes names `least_log` frame numbers or more
 abbrev pub GoesOnFrom : ℕ → List Pace → Type 0
 GoesOnFrom width [] = ⊤
-GoesOnFrom width (last ∷ before) = 50 ≤ size width last.log
+GoesOnFrom width (last ∷ before) = least_log ≤ size width last.log
 
 -- The round from the first to the second makes as many calls as what it has to read allows, and its log is what the lines
 -- touch between.
@@ -51,10 +51,10 @@ pub record Paced (h : HostOf) (lines : List LineOf) (n c e : ℕ) : Type 0 where
   pub paces : List Pace  -- the latest first
   pub last : Pfns  -- the log that is taken behind the pause
   pub number : length paces ≡ n
-  pub bounds : (1 ≤ n) × (n ≤ 5)
+  pub bounds : (1 ≤ n) × (n ≤ most_rounds)
   pub are : ArePaces (touched h lines) h.kind h.width paces
-  -- the last of them names fewer than 50, or there are five
-  pub ended : (size h.width (pace_before h.width paces).log < 50) ⊎ (n ≡ 5)
+  -- the last of them names fewer than `least_log`, or there are `most_rounds`
+  pub ended : (size h.width (pace_before h.width paces).log < least_log) ⊎ (n ≡ most_rounds)
   pub pause : c ≡ (pace_before h.width paces).calls + 1
   pub is_last : last ≡ touched h lines (pace_before h.width paces).calls c
   pub entries : e ≡ sent_again h.width paces + size h.width (joined (pace_before h.width paces).log last)

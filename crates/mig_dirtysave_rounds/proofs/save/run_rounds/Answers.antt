@@ -2,7 +2,7 @@ use Rattle.mig_dirtysave_rounds.proofs.Common.{rules, arith, ℕ, ◌+◌, ◌/�
 use Rattle.mig_dirtysave_rounds.proofs.Shapes.{stays_on, ran_stays}
 use Rattle.mig_dirtysave_rounds.proofs.Steps.{on_err}
 use Rattle.mig_dirtysave_rounds.proofs.Saves.{live_round, sent_round, longer, counted_more, goes_on, round_keeps, even, behind_taken}
-use Rattle.mig_dirtysave_rounds.proofs.save.run_rounds.Goals.{then-rounds-eq-MOST_ROUNDS-via-then-rounds-eq-MOST_ROUNDS, then-rounds-eq-MOST_ROUNDS-via-else-rounds-eq-MOST_ROUNDS+then-count-lt-FEW}
+use Rattle.mig_dirtysave_rounds.proofs.save.run_rounds.Goals.{then-rounds-eq-MOST_ROUNDS-via-then-rounds-eq-MOST_ROUNDS, then-rounds-eq-MOST_ROUNDS-via-else-rounds-eq-MOST_ROUNDS+then-count-lt-LEAST_LOG}
 use Rattle.mig_dirtysave_rounds.proofs.save.run_rounds.Goals as goal
 
 pub returns-in_err-send_all-clause-behind : goal.returns-in_err-send_all-clause-behind
@@ -33,8 +33,8 @@ returns-then-rounds-eq-MOST_ROUNDS-clause-ended g c =
     let few : c.loop-machine.rounds + 1 < 5 → size (g.M.Machine.state c.take_set.new.machine).host.width (pfns_of_words c.take_set.new.set) < 50 =
     elim c.then-rounds-eq-MOST_ROUNDS.branch [
       | then-rounds-eq-MOST_ROUNDS-via-then-rounds-eq-MOST_ROUNDS w ↦ λ h. absurd (let e = w.if-rounds-eq-MOST_ROUNDS.true in omega arith)
-      | then-rounds-eq-MOST_ROUNDS-via-else-rounds-eq-MOST_ROUNDS+then-count-lt-FEW w ↦ λ h.
-          let e = w.if-count-lt-FEW.true in let s = w.count.ensures _ below in omega arith
+      | then-rounds-eq-MOST_ROUNDS-via-else-rounds-eq-MOST_ROUNDS+then-count-lt-LEAST_LOG w ↦ λ h.
+          let e = w.if-count-lt-LEAST_LOG.true in let s = w.count.ensures _ below in omega arith
     ] in
     record { live = live; number = omega arith; some = omega arith; most = omega arith; few = few }
 
