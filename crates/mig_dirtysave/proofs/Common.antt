@@ -11,8 +11,8 @@ pub use Rattle.std.specs.List.{All, AllByRecursion, list_any, range_with_len}
 pub use Rattle.std.specs.Option.{option_map, option_or}
 pub use Rattle.std.specs.Prelude.{Err, IfSome, IsSome, Ok, Result, find, is_some, option_and_then, ◌&&◌, ◌==◌, ◌||◌}
 pub use Rattle.mig_bytes.specs.Bytes.{AppendsPart, padding_len}
-pub use Rattle.mig_bytes.specs.Sequences.{Spells}
 pub use Rattle.mig_bytes.specs.Sequences.Spells.{no_part, one_more}
+pub use Rattle.mig_bytes.specs.Sequences.{Spells}
 pub use Rattle.mig_canon.specs.Batched.{IsSendableBatch, batch_records, batched, frames_told}
 pub use Rattle.mig_canon.specs.Canon.{headers, info_records, p2m_records, static_bodies}
 pub use Rattle.mig_canon.specs.CanonStream.{bare_guest, has_emulators, opening_text, wrapper_closing, wrapper_opening}
@@ -38,6 +38,7 @@ pub use Rattle.mig_guest.specs.Frames.{FrameMap, FrameOf, is_type_of}
 pub use Rattle.mig_guest.specs.Guests.{GuestOf}
 pub use Rattle.mig_guest.specs.History.{History}
 pub use Rattle.mig_guest.specs.Hosts.{HostFrame, HostFrames, HostOf, IsValid, pfn_in}
+pub use Rattle.mig_guest.specs.Limits.{most_gdt_entries}
 pub use Rattle.mig_guest.specs.Longs.{long_at}
 pub use Rattle.mig_guest.specs.MachineStates.{MachineState}
 pub use Rattle.mig_guest.specs.Order.{part_cmp}
@@ -47,14 +48,14 @@ pub use Rattle.mig_guest.specs.Parts.{Part, PartMap, parts_after}
 pub use Rattle.mig_guest.specs.Tables.{entry}
 pub use Rattle.mig_guest.specs.declared.part_code.PartCode.TheVariants.{HvmContext}
 pub use Rattle.mig_guest.specs.declared.part_key.PartKey.{PartKey}
-pub use Rattle.mig_guest.specs.declared.table.Entry.{Entry}
 pub use Rattle.mig_guest.specs.declared.table.Entry.TheVariants.{Blank, Frame, NotPresent, Superpage}
+pub use Rattle.mig_guest.specs.declared.table.Entry.{Entry}
 pub use Rattle.mig_headers.specs.Contexts.{scan}
 pub use Rattle.mig_headers.specs.Headers.{marker}
-pub use Rattle.mig_headers.specs.declared.kind.Kind.{Kind}
 pub use Rattle.mig_headers.specs.declared.kind.Kind.TheVariants.{Hvm, Pv}
-pub use Rattle.mig_headers.specs.declared.unsound.Unsound.{Unsound}
+pub use Rattle.mig_headers.specs.declared.kind.Kind.{Kind}
 pub use Rattle.mig_headers.specs.declared.unsound.Unsound.TheVariants.{VcpuFrame}
+pub use Rattle.mig_headers.specs.declared.unsound.Unsound.{Unsound}
 pub use Rattle.mig_host_laws.specs.FirstRow.{find_ill_listed, names_ill, row_1, row_2, row_5, row_6, row_7}
 pub use Rattle.mig_host_laws.specs.Standing.{Standing, is_of_no_type, said_in, said_of}
 pub use Rattle.mig_host_laws.specs.Unsoundness.{UnsoundHas}

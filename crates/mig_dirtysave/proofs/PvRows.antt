@@ -1,5 +1,5 @@
 -- What is found in a PV host at the pause and doesn't speak of types stands in the host, over any machine.
-use Rattle.mig_dirtysave.proofs.Common.{◌⊎◌, inl, inr, get_or, scan, Unsound, HostOf, HostFrame, IsValid, pfn_in, Kind, HvmContext, row_of, long_at, one_code, is_unknown, get_each, fault_in, find_gdt, unsoundness, without_machine, footprint, footprint_of, table_in, names_in, named_by, superpage_in, superpage_slot, is_lost, lost_in, lost_slot, IsUnsound, Standing, is_of_no_type, said_in, said_of, row_1, row_2, row_5, row_6, row_7, UnsoundHas, standing_seen, first_around}
+use Rattle.mig_dirtysave.proofs.Common.{◌⊎◌, inl, inr, get_or, scan, Unsound, HostOf, HostFrame, IsValid, pfn_in, Kind, HvmContext, row_of, long_at, one_code, is_unknown, get_each, fault_in, find_gdt, unsoundness, without_machine, footprint, footprint_of, table_in, names_in, named_by, superpage_in, superpage_slot, is_lost, lost_in, lost_slot, IsUnsound, Standing, is_of_no_type, said_in, said_of, row_1, row_2, row_5, row_6, row_7, UnsoundHas, standing_seen, first_around, most_gdt_entries}
 use Rattle.mig_pvtables.proofs.Common.{◌≡◌, ℕ, zero, suc, ◌+◌, ◌*◌, ◌<◌, ◌≤◌, List, [], ◌∷◌, Bool, true, false, cond, Option, Some, None, is_none, refl, sym, ap, subst, ◌∙◌, arith, ◌==◌, ◌&&◌, find, range_with_len, option_map, option_or, nat_lt, nat_cmp_total, nat_cmp-IsAntisymmetric, eq-eqb, part_total, part_exact, PageType, level_of, gdt_ents, PartKey, Entry, Blank, NotPresent, Superpage, Frame, entry, Pv, first_cause, is_superpage}
 use Rattle.std.specs.Prelude.{option_and_then}
 use Rattle.mig_guest.specs.PartKeys.{context_key}
@@ -191,11 +191,11 @@ module _ (tables : Option Unsound) (s : Standing) (none : first_around tables s 
   untold (Some x) is = let no : ◌≡◌ {A = Option Unsound} (Some (causes.GdtEnts x.0 x.1)) None = is in cc
 
   -- no vCPU has too many descriptors
-  pub few_descriptors : (key : PartKey) (context : List ℕ) → maps.get s.parts key ≡ Some context → key.code ≡ 4 → gdt_ents context ≤ 7168
+  pub few_descriptors : (key : PartKey) (context : List ℕ) → maps.get s.parts key ≡ Some context → key.code ≡ 4 → gdt_ents context ≤ most_gdt_entries
   few_descriptors key context there code =
-      let fails = (first_found part_total part_exact (λ (e : PartKey × List ℕ). cond ((e.0.code == 4) && nat_lt 7168 (gdt_ents e.1)) (Some (e.0.key1, gdt_ents e.1)) None) s.parts).0
+      let fails = (first_found part_total part_exact (λ (e : PartKey × List ℕ). cond ((e.0.code == 4) && nat_lt most_gdt_entries (gdt_ents e.1)) (Some (e.0.key1, gdt_ents e.1)) None) s.parts).0
       (untold (find_gdt s.parts) (all_none (row_1 s) (row_2 s) tables (row_5 s) (row_6 s) none).1) key context there in
-      ltb-false 7168 (gdt_ents context) (by (nat_lt 7168 (gdt_ents context)) (sym (ap (λ b. cond (b && nat_lt 7168 (gdt_ents context)) (Some (key.key1, gdt_ents context)) None) (eq-eqb key.code 4 code)) ∙ fails))
+      ltb-false most_gdt_entries (gdt_ents context) (by (nat_lt most_gdt_entries (gdt_ents context)) (sym (ap (λ b. cond (b && nat_lt most_gdt_entries (gdt_ents context)) (Some (key.key1, gdt_ents context)) None) (eq-eqb key.code 4 code)) ∙ fails))
     where
       by : (b : Bool) → ◌≡◌ {A = Option (ℕ × ℕ)} (cond b (Some (key.key1, gdt_ents context)) None) None → b ≡ false
       by true is = let no : ◌≡◌ {A = Option (ℕ × ℕ)} (Some (key.key1, gdt_ents context)) None = is in cc

@@ -1,5 +1,5 @@
 -- The rows of a PV host as a saver finds them: those that speak of contexts need no other parts, and the last stands in none.
-use Rattle.mig_dirtysave.proofs.Common.{◌≡◌, ℕ, List, [], ◌∷◌, length, Bool, true, false, cond, Option, Some, None, refl, sym, ap, subst, ◌∙◌, ◌==◌, ◌&&◌, is_some, option_and_then, Result, Ok, Err, option_map, option_or, nat_cmp_total, nat_cmp-IsAntisymmetric, eqb-true, Kind, Pv, Unsound, PageType, PartKey, HvmContext, gdt_ents, HostOf, HostFrame, IsValid, row_of, p2m_key, Part, PartMap, one_code, first_some, first_cause, type_at, get_each, in_fields, in_contexts, contexts_start, find_gdt, fault_in, unsoundness, guest_in, without_machine, scan, find_ill_listed, row_1, row_2, row_5, row_6, row_7, Standing, types_seen, standing_seen, HasTypes, first_in_tables, first_around}
+use Rattle.mig_dirtysave.proofs.Common.{◌≡◌, ℕ, List, [], ◌∷◌, length, Bool, true, false, cond, Option, Some, None, refl, sym, ap, subst, ◌∙◌, ◌==◌, ◌&&◌, is_some, option_and_then, Result, Ok, Err, option_map, option_or, nat_cmp_total, nat_cmp-IsAntisymmetric, eqb-true, Kind, Pv, Unsound, PageType, PartKey, HvmContext, gdt_ents, HostOf, HostFrame, IsValid, row_of, p2m_key, Part, PartMap, one_code, first_some, first_cause, type_at, get_each, in_fields, in_contexts, contexts_start, find_gdt, fault_in, unsoundness, guest_in, without_machine, scan, find_ill_listed, row_1, row_2, row_5, row_6, row_7, Standing, types_seen, standing_seen, HasTypes, first_in_tables, first_around, most_gdt_entries}
 use Rattle.std.specs.Prelude.{nat_lt, IfOk}
 use Rattle.mig_headers.specs.declared.unsound.Unsound.TheVariants.{P2mFrame, BadContext}
 use Rattle.mig_guest.specs.declared.part_code.PartCode.TheVariants.{VcpuBasic}
@@ -32,7 +32,7 @@ module _ (m n : PartMap) (same : SameContexts m n) where
       one false c x = refl
 
       gdt_is : (parts : PartMap) → find_gdt parts ≡ in_contexts large_in parts
-      gdt_is parts = λ i. first_some (λ e. one (e.0.code == 4) (nat_lt 7168 (gdt_ents e.1)) (e.0.key1, gdt_ents e.1) i) (maps.entries parts)
+      gdt_is parts = λ i. first_some (λ e. one (e.0.code == 4) (nat_lt most_gdt_entries (gdt_ents e.1)) (e.0.key1, gdt_ents e.1) i) (maps.entries parts)
 
 -- ---- a PV host
 

@@ -1,5 +1,5 @@
 -- The parts of some codes of a host: they make a well formed guest, and their records are those of the host's view.
-use Rattle.mig_dirtysave_parts.proofs.Common.{ℕ, ◌+◌, ◌-◌, ◌<◌, ◌≤◌, ◌^◌, Bool, true, false, cond, List, [], ◌∷◌, length, Option, Some, None, option_map, arith, ◌==◌, eqb-true, part_total, part_exact, Pv, Hvm, PartKey, FrameOf, IsFormed, IsPart, context_key, part_cmp, ◌≢◌, AllByRecursion, append_assoc, inl, inr, Kind, PartCode, Tsc, is_policy, HostOf, IsHostPart, IsValid, pfn_in, row_of, code_number, Part, FitsPolicy, same_parts, empty_formed, tied, one_code, shape_of, Record, info_records, p2m_records, records_of, records_in_order, static_bodies, last_records, AreRecordsWithin, blanked_context, blanked_shared, is_used_somewhere, renamed_part, renamed_context, view, guest_in, top_of, pv_part, each_policy, top_is, is_early, is_setting, kept_parts, parts_alone, IsContextFront, context_record, closing_records}
+use Rattle.mig_dirtysave_parts.proofs.Common.{ℕ, ◌+◌, ◌-◌, ◌<◌, ◌≤◌, ◌^◌, Bool, true, false, cond, List, [], ◌∷◌, length, Option, Some, None, option_map, arith, ◌==◌, eqb-true, part_total, part_exact, Pv, Hvm, PartKey, FrameOf, IsFormed, IsPart, context_key, part_cmp, ◌≢◌, AllByRecursion, append_assoc, inl, inr, Kind, PartCode, Tsc, is_policy, HostOf, IsHostPart, IsValid, pfn_in, row_of, code_number, Part, FitsPolicy, same_parts, empty_formed, tied, one_code, shape_of, Record, info_records, p2m_records, records_of, records_in_order, static_bodies, last_records, AreRecordsWithin, blanked_context, blanked_shared, is_used_somewhere, renamed_part, renamed_context, view, guest_in, top_of, pv_part, each_policy, top_is, is_early, is_setting, kept_parts, parts_alone, IsContextFront, context_record, closing_records, most_policy_entries}
 use Rattle.mig_host_view.proofs.Common.{◌≡◌, ◌++◌, replicate, refl, sym, ap, subst, ◌∙◌, ne_eqb, GuestOf}
 use Rattle.std.proofs.Common.{append-nil, length-append, length-take-le}
 use Rattle.std.specs.Prelude.{map}
@@ -75,9 +75,9 @@ module _ (h : HostOf) (valid : IsValid h) (codes : ℕ → Bool) (plain : codes 
 
   kept_fits : (code : ℕ) → FitsPolicy code h.parts → is_policy code ≡ true → (b : Bool) → codes code ≡ b → FitsPolicy code (kept_parts codes h.parts)
   kept_fits code fits one true is =
-      subst (λ (ps : List Part). length ps ≤ 65536) (same_parts code h.parts (kept_parts codes h.parts) (λ q of. sym (kept_at codes h.parts q ∙ ap (λ b. cond b (maps.get h.parts q) None) (ap codes of ∙ is)))) fits
+      subst (λ (ps : List Part). length ps ≤ most_policy_entries) (same_parts code h.parts (kept_parts codes h.parts) (λ q of. sym (kept_at codes h.parts q ∙ ap (λ b. cond b (maps.get h.parts q) None) (ap codes of ∙ is)))) fits
   kept_fits code fits one false is =
-      subst (λ (ps : List Part). length ps ≤ 65536) (same_parts code maps.empty (kept_parts codes h.parts) (λ q of. maps.get-empty part_cmp q ∙ sym (kept_at codes h.parts q ∙ ap (λ b. cond b (maps.get h.parts q) None) (ap codes of ∙ is))))
+      subst (λ (ps : List Part). length ps ≤ most_policy_entries) (same_parts code maps.empty (kept_parts codes h.parts) (λ q of. maps.get-empty part_cmp q ∙ sym (kept_at codes h.parts q ∙ ap (λ b. cond b (maps.get h.parts q) None) (ap codes of ∙ is))))
       ((empty_formed Hvm).policies code one)
 
   no_frame : (pfn : ℕ) (frame : FrameOf) → maps.get (parts_alone Hvm 0 maps.empty).frames pfn ≡ Some frame → ⊥

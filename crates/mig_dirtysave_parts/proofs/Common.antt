@@ -14,13 +14,15 @@ pub use Rattle.mig_guest.proofs.PartRows.{one_code}
 pub use Rattle.mig_guest.specs.Formed.{is_policy}
 pub use Rattle.mig_guest.specs.Guests.{GuestOf}
 pub use Rattle.mig_guest.specs.Hosts.{HostOf, IsHostPart, IsValid, pfn_in}
+pub use Rattle.mig_guest.specs.Limits.{most_gdt_entries}
+pub use Rattle.mig_guest.specs.Order.{part_cmp}
 pub use Rattle.mig_guest.specs.PartCodes.{code_number, row_of}
 pub use Rattle.mig_guest.specs.Parts.{FitsPolicy, Part}
-pub use Rattle.mig_guest.specs.declared.part_code.PartCode.{PartCode}
 pub use Rattle.mig_guest.specs.declared.part_code.PartCode.TheVariants.{Tsc, VcpuBasic}
+pub use Rattle.mig_guest.specs.declared.part_code.PartCode.{PartCode}
+pub use Rattle.mig_headers.specs.RecordTypes.{most_policy_entries}
 pub use Rattle.mig_headers.specs.declared.kind.Kind.{Kind}
 pub use Rattle.mig_host_view.proofs.Common.{Bool, FrameOf, Hvm, IsFormed, IsPart, List, None, Option, PartKey, Pv, Some, [], arith, cond, context_key, eqb-true, false, gdt_ents, length, option_map, part_exact, part_total, true, ℕ, ◌+◌, ◌-◌, ◌<◌, ◌==◌, ◌^◌, ◌∷◌, ◌≤◌}
-pub use Rattle.mig_guest.specs.Order.{part_cmp}
 pub use Rattle.mig_host_view.proofs.ViewedFrames.{each_policy, top_is}
 pub use Rattle.mig_host_view.proofs.ViewedParts.{pv_part}
 pub use Rattle.mig_host_view.specs.Localised.{renamed_part}

@@ -1,5 +1,5 @@
 -- The settings of the guest that a PV host is seen as: they make a well formed guest, whose records are those of the view.
-use Rattle.mig_dirtysave_parts.proofs.Common.{ℕ, ◌+◌, ◌-◌, ◌<◌, ◌≤◌, ◌^◌, Bool, true, false, cond, List, [], ◌∷◌, length, Option, Some, None, arith, ◌==◌, eqb-true, part_total, part_exact, part_cmp, Pv, Hvm, PartKey, FrameOf, IsFormed, IsPart, gdt_ents, ◌≢◌, AllByRecursion, flat_map, Kind, shape_of, PartCode, VcpuBasic, Tsc, is_policy, HostOf, IsHostPart, IsValid, pfn_in, code_number, Part, FitsPolicy, same_parts, empty_formed, records_of, records_in_order, last_records, blanked_context, blanked_shared, is_used_somewhere, from_each, renamed_part, renamed_context, view, top_of, each_policy, top_is, pv_part, is_setting, settings_seen}
+use Rattle.mig_dirtysave_parts.proofs.Common.{ℕ, ◌+◌, ◌-◌, ◌<◌, ◌≤◌, ◌^◌, Bool, true, false, cond, List, [], ◌∷◌, length, Option, Some, None, arith, ◌==◌, eqb-true, part_total, part_exact, part_cmp, Pv, Hvm, PartKey, FrameOf, IsFormed, IsPart, gdt_ents, ◌≢◌, AllByRecursion, flat_map, Kind, shape_of, PartCode, VcpuBasic, Tsc, is_policy, HostOf, IsHostPart, IsValid, pfn_in, code_number, Part, FitsPolicy, same_parts, empty_formed, records_of, records_in_order, last_records, blanked_context, blanked_shared, is_used_somewhere, from_each, renamed_part, renamed_context, view, top_of, each_policy, top_is, pv_part, is_setting, settings_seen, most_gdt_entries, most_policy_entries}
 use Rattle.mig_host_view.proofs.Common.{◌≡◌, ◌++◌, refl, sym, ap, subst, ◌∙◌, eq-eqb, GuestOf, each_value, length_longs}
 use Rattle.std.specs.Ordering.{nat_cmp}
 use Rattle.mig_pvtables.specs.Blank.{blanked_part}
@@ -54,7 +54,7 @@ module _ (h : HostOf) where
 
     -- ---- it is well formed
 
-    module _ (few : (key : PartKey) (context : List ℕ) → maps.get h.parts key ≡ Some context → key.code ≡ 4 → gdt_ents context ≤ 7168) where
+    module _ (few : (key : PartKey) (context : List ℕ) → maps.get h.parts key ≡ Some context → key.code ≡ 4 → gdt_ents context ≤ most_gdt_entries) where
       final_case : (key : PartKey) (x : List ℕ) → maps.get h.parts key ≡ Some x → (a b : Bool) → (key.code == 4) ≡ a → (key.code == 7) ≡ b
           → IsPart Pv h.width key (cond a (renamed_context is_used_somewhere (pfn_in h.frames) key.key1 x) x)
           → IsPart Pv h.width key (cond a (blanked_context (cond a (renamed_context is_used_somewhere (pfn_in h.frames) key.key1 x) x))
@@ -65,7 +65,7 @@ module _ (h : HostOf) where
           let ents = ents_there (pfn_in h.frames) key.key1 x (few key x there number) in
           let again = blanked_ents renamed in
           to_guest h.width VcpuBasic (blanked_context renamed) number (eq-eqb (length (blanked_context renamed)) 5168 (length_longs 646 _)) (host_part key x there)
-          (let less : gdt_ents (blanked_context renamed) ≤ 7168 = omega (arith, ents, again, few key x there number) in less)
+          (let less : gdt_ents (blanked_context renamed) ≤ most_gdt_entries = omega (arith, ents, again, few key x there number) in less)
       final_case key x there false true four seven part =
           to_guest h.width SharedInfo (blanked_shared x) (eqb-true key.code 7 seven) (eq-eqb (length (blanked_shared x)) 4096 (length_longs 512 _)) (host_part key x there) tt
       final_case key x there false false four seven part = part
@@ -88,7 +88,7 @@ module _ (h : HostOf) where
 
       no_policy : (code : ℕ) → is_policy code ≡ true → is_setting code ≡ false → FitsPolicy code (settings_seen h).parts
       no_policy code one isnt =
-          subst (λ (ps : List Part). length ps ≤ 65536) (same_parts code maps.empty (settings_seen h).parts (λ q of. maps.get-empty part_cmp q ∙ sym (other_at q (ap is_setting of ∙ isnt)))) ((empty_formed Hvm).policies code one)
+          subst (λ (ps : List Part). length ps ≤ most_policy_entries) (same_parts code maps.empty (settings_seen h).parts (λ q of. maps.get-empty part_cmp q ∙ sym (other_at q (ap is_setting of ∙ isnt)))) ((empty_formed Hvm).policies code one)
 
       pub settings_formed : IsFormed (settings_seen h)
       settings_formed = record {

@@ -1,5 +1,5 @@
 -- What is in the way of seeing a valid HVM host is told by its parts alone: it has no tables, and nothing of a PV guest.
-use Rattle.mig_dirtysave_parts.proofs.Common.{ℕ, Bool, true, false, cond, List, [], ◌∷◌, Option, Some, None, ◌==◌, option_map, eqb-true, part_total, part_exact, Hvm, PartKey, gdt_ents, FrameOf, context_key, Kind, PartCode, VcpuBasic, HostOf, IsValid, pfn_in, row_of, code_number, one_code, is_used_somewhere, from_each, guest_in}
+use Rattle.mig_dirtysave_parts.proofs.Common.{ℕ, Bool, true, false, cond, List, [], ◌∷◌, Option, Some, None, ◌==◌, option_map, eqb-true, part_total, part_exact, Hvm, PartKey, gdt_ents, FrameOf, context_key, Kind, PartCode, VcpuBasic, HostOf, IsValid, pfn_in, row_of, code_number, one_code, is_used_somewhere, from_each, guest_in, most_gdt_entries}
 use Rattle.mig_host_view.proofs.Common.{◌≡◌, refl, sym, ap, subst, ◌∙◌, nat_lt, find, range_with_len, nat_cmp_total, nat_cmp-IsAntisymmetric, Entry, EachEntry, FrameMap, is_type_of, p2m_key, is_superpage, count_in, listed, level_of}
 use Rattle.std.specs.Prelude.{◌&&◌}
 use Rattle.std.specs.Option.{option_or}
@@ -63,10 +63,10 @@ module _ (h : HostOf) (valid : IsValid h) (hvm : h.kind ≡ Hvm) where
   no_slot bad = (no_entry bad frames).1 (no_tables (λ e. bad e ≡ false))
 
   no_gdt : find_gdt h.parts ≡ None
-  no_gdt = (first_found part_total part_exact (λ (e : PartKey × List ℕ). cond ((e.0.code == 4) && nat_lt 7168 (gdt_ents e.1)) (Some (e.0.key1, gdt_ents e.1)) None) h.parts).1 (λ key context is. by key context is (key.code == 4) refl)
+  no_gdt = (first_found part_total part_exact (λ (e : PartKey × List ℕ). cond ((e.0.code == 4) && nat_lt most_gdt_entries (gdt_ents e.1)) (Some (e.0.key1, gdt_ents e.1)) None) h.parts).1 (λ key context is. by key context is (key.code == 4) refl)
     where
       by : (key : PartKey) (context : List ℕ) → maps.get h.parts key ≡ Some context → (b : Bool) → (key.code == 4) ≡ b
-          → ◌≡◌ {A = Option (ℕ × ℕ)} (cond (b && nat_lt 7168 (gdt_ents context)) (Some (key.key1, gdt_ents context)) None) None
+          → ◌≡◌ {A = Option (ℕ × ℕ)} (cond (b && nat_lt most_gdt_entries (gdt_ents context)) (Some (key.key1, gdt_ents context)) None) None
       by key context is true t = absurd (no_part VcpuBasic refl key context (eqb-true key.code 4 t) is)
       by key context is false t = refl
 
