@@ -1,10 +1,7 @@
 -- Names that many proofs of this crate use.
 pub use Rattle.std.proofs.Common.{List, None, Option, Some, arith, refl, subst, sym, ℕ, ◌≡◌}
 pub use Rattle.std.specs.Prelude.{◌⊎◌}
-pub use Rattle.mig_guest.specs.Guests.{GuestOf}
-pub use Rattle.mig_tool.specs.Answers.{AcceptedIn, Done, DonePart, Form, RefusedIn, SaysOf, WriteRose, WritesRefused, form_of}
-pub use Rattle.mig_tool_report.specs.Statuses.{InputRises, Written}
-pub use Rattle.mig_tool.specs.Answers.Form.{ImageAndScript, ImageAt, Legacy, Modern, ModernAt, NoInput, Passing}
+pub use Rattle.mig_tool_report.specs.Statuses.{InputRises}
 pub use Rattle.mig_tool_report.specs.declared.command.Command.{Command}
 pub use Rattle.mig_tool_report.specs.declared.command.Command.TheVariants.{Convert, Exercise, Normalise, Restore, Save, Verify, Walk, WalkImage, Relay, Show}
 pub use Rattle.mig_tool_report.specs.declared.outcome.Refusal.{Refusal}

@@ -1,3 +1,2 @@
 pub mod Common
 pub mod Reporting
-pub mod Carrying

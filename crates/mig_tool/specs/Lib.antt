@@ -1,4 +1,4 @@
-pub mod Answers
+pub mod Promises
 pub use Rattle.mig_tool_report.specs.Words
 pub use Rattle.mig_tool_report.specs.Report
 pub use Rattle.mig_tool_report.specs.Outcome

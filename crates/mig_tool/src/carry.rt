@@ -1,7 +1,8 @@
 ghost use Rattle.std.specs.Prelude.{◌≡◌, ℕ};
 ghost use Rattle.mig_tool_report.specs.Words.{IsBase, IsFrameNumber};
 ghost use Rattle.mig_tool_report.specs.declared.command.Command.TheVariants as commands;
-ghost use Rattle.mig_tool.specs.Answers.{CarriedOut};
+ghost use Rattle.mig_tool_report.specs.Promises.{CarriedOut, effects, input_effect, sink_effect};
+ghost use Rattle.mig_tool.specs.Promises.{promise_of};
 
 use mig_bytes::{Sink, Source};
 use mig_tool_guest::{convert, normalise, relay, restore, show, verify, walk, walk_image};
@@ -19,9 +20,8 @@ pub(crate) fn carry_out<S: Source, K: Sink, R: Sink>(
 ) -> Status
     requires base { (base : ℕ) → command ≡ commands.Restore base → IsBase base }
     requires frames { (seed n : ℕ) → command ≡ commands.Exercise seed n → IsFrameNumber n }
-    ensures { CarriedOut command (out.new ≡ out.old) (input.new ≡ input.old) result (S.left input.old) (S.left input.new)
-        (record { out_old = K.written out.old; out_new = K.written out.new; report_old = R.written report.old; report_new = R.written report.new })
-        (S.faults input.old) (S.faults input.new) (K.faults out.old) (K.faults out.new) (R.faults report.old) (R.faults report.new) }
+    ensures { CarriedOut (promise_of command) (effects (input_effect S.left S.faults input.old input.new)
+        (sink_effect K.written K.faults out.old out.new) (sink_effect R.written R.faults report.old report.new)) result }
 {
     match command {
         Command::Normalise => normalise(alloc, input, out, report),

@@ -1,4 +1,5 @@
 pub mod Common
+pub mod Says
 pub mod Walks
 pub mod Reporting
 pub mod Walking

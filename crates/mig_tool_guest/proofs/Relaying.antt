@@ -1,20 +1,22 @@
 -- What a relay's answer says.
-use Rattle.mig_tool_guest.proofs.Common.{◌≡◌, ◌⊎◌, ℕ, List, Option, Some, None, sym, subst, Written, inl, inr, Appends, AppendsPart, Passes, Cause, Place, StreamOf, status_of, Outcome, Status}
+use Rattle.mig_tool_guest.proofs.Common.{◌≡◌, ◌⊎◌, ℕ, List, Option, Some, None, sym, subst, arith, line_reported, says_of, CarriedOut, Effects, HasOpenRefusal, InputRises, relay_promise, inl, inr, Appends, AppendsPart, Passes, Cause, Place, StreamOf, status_of, Outcome, Status}
 use Rattle.std.proofs.Common.{◌++◌, Ok, Err, refl, ap, ◌∙◌}
-use Rattle.mig_tool_report.specs.Statuses.{OutcomeSays, PutsLineOrFault}
-use Rattle.mig_tool_guest.specs.PassingSays.{HasOpenRefusal, RelaySays}
+use Rattle.mig_tool_report.specs.Statuses.{PutsLineOrFault}
+use Rattle.mig_tool_guest.proofs.Says.{RelayComes, RelaySays}
 use Rattle.std.specs.Io.KnownBytes.{Consumes}
 use Rattle.mig_bytes.specs.Faults.{Rose}
 use Rattle.mig_relay.specs.Streams.{open_stream_at, IsOpenRefused}
-use Rattle.mig_relay.specs.Relaying.{PassedWhole, PassedPart, IsRelayed}
+use Rattle.mig_relay.specs.Relaying.{PassedWhole, IsRelayed, RisesOnAnswer}
 use Rattle.mig_relay.specs.declared.answer.RelayAnswer.{RelayAnswer}
 use Rattle.mig_relay.specs.declared.answer.Relayed.{Relayed}
-use Rattle.mig_tool_report.specs.Report.{relayed_line}
+use Rattle.std.specs.Prelude.{◌≤◌, ◌≢◌}
+use Rattle.mig_tool_report.specs.Outcome.{line_of}
+use Rattle.mig_tool_report.specs.Report.{Reports, relayed_line}
 use Rattle.mig_tool_report.specs.declared.outcome.Refusal.{Refusal}
 use Rattle.mig_tool_report.specs.declared.outcome.RelaySummary.{RelaySummary}
 use Rattle.mig_bytes.proofs.Joins.{passes_not}
 use Rattle.mig_tool_guest.specs.RelaySteps.{outcome_of_relay, summary_of_relay}
-use Rattle.mig_tool_guest.specs.Relays.{FrontRelayed, ReportStopped, PassableFront, PassedOn, SaysRelayed, counts_of}
+use Rattle.mig_tool_guest.specs.Relays.{FrontRelayed, OutputStopped, ReportStopped, PassableFront, PassedOn, SaysRelayed, counts_of}
 use Rattle.mig_relay.specs.declared.answer.RelayAnswer.TheVariants as answers
 use Rattle.mig_tool_report.specs.declared.outcome.Refusal.TheVariants as refusals
 use Rattle.mig_tool_report.specs.declared.status.Status.TheVariants as statuses
@@ -42,12 +44,12 @@ relayed_front Reported input left old new relayed w reported =
     let f = front_of input left old new relayed w in
     record { rest = f.rest; front = f.front; left_is = f.left_is; summary = summary_of_relay relayed; passed = w; reported = reported }
 
-pub passed_says : (told left : Option (List ℕ)) (w : Written) (relayed : Relayed) (status : Status) → IsRelayed told left w.out_old w.out_new (Ok relayed)
-    → (status ≡ statuses.Done → Appends w.report_old w.report_new (relayed_line (summary_of_relay relayed))) → (status ≡ statuses.WriteFault → AppendsPart w.report_old w.report_new (relayed_line (summary_of_relay relayed)))
-    → (status ≡ statuses.Done) ⊎ (status ≡ statuses.WriteFault) → RelaySays told left w status
-passed_says None left w relayed status r done part answers = tt
-passed_says (Some input) left w relayed status r done part (inl is) = subst (RelaySays (Some input) left w) (sym is) (relayed_front (Appends w.report_old w.report_new) input left w.out_old w.out_new relayed r.is (done is))
-passed_says (Some input) left w relayed status r done part (inr is) = subst (RelaySays (Some input) left w) (sym is) (inr (relayed_front (AppendsPart w.report_old w.report_new) input left w.out_old w.out_new relayed r.is (part is)))
+pub passed_says : (told : Option (List ℕ)) (e : Effects) (relayed : Relayed) (status : Status) → IsRelayed told e.input.left e.out.old e.out.new (Ok relayed)
+    → (status ≡ statuses.Done → Appends e.report.old e.report.new (relayed_line (summary_of_relay relayed))) → (status ≡ statuses.WriteFault → AppendsPart e.report.old e.report.new (relayed_line (summary_of_relay relayed)))
+    → (status ≡ statuses.Done) ⊎ (status ≡ statuses.WriteFault) → RelaySays told e status
+passed_says None e relayed status r done part answers = tt
+passed_says (Some input) e relayed status r done part (inl is) = subst (RelaySays (Some input) e) (sym is) (relayed_front (Appends e.report.old e.report.new) input e.input.left e.out.old e.out.new relayed r.is (done is))
+passed_says (Some input) e relayed status r done part (inr is) = subst (RelaySays (Some input) e) (sym is) (inr (relayed_front (AppendsPart e.report.old e.report.new) input e.input.left e.out.old e.out.new relayed r.is (part is)))
 
 pub passed_relayed : (told left old new : Option (List ℕ)) (relayed : Relayed) (status : Status) → IsRelayed told left old new (Ok relayed) → (status ≡ statuses.Done) ⊎ (status ≡ statuses.WriteFault) → SaysRelayed status told left old new
 passed_relayed told left old new relayed status r (inl is) = subst (λ s. SaysRelayed s told left old new) (sym is) (summary_of_relay relayed, r.is)
@@ -55,20 +57,12 @@ passed_relayed told left old new relayed status r (inr is) = subst (λ s. SaysRe
 
 -- ---- what wasn't
 
--- what an outcome of `relay` says
-abbrev pub RelayComes : Option (List ℕ) → Option (List ℕ) → Written → Outcome → Type 0
-RelayComes told left w outcome =
-    OutcomeSays (λ input. FrontRelayed (Appends w.report_old w.report_new) input left w.out_old w.out_new) (λ input. PassedPart (Some input) left w.out_old w.out_new ⊎ FrontRelayed (AppendsPart w.report_old w.report_new) input left w.out_old w.out_new) HasOpenRefusal told left outcome
-
-unpassed : (told left : Option (List ℕ)) (w : Written) (answer : RelayAnswer) → IsRelayed told left w.out_old w.out_new (Err answer) → RelayComes told left w (outcome_of_relay answer)
-unpassed None left w answer r = tt
-unpassed (Some input) left w (answers.Refused place cause) r = let h = r.is.refused in (h.0, h.1, h.2)
-unpassed (Some input) left w answers.ReadFault r = tt
-unpassed (Some input) left w answers.WriteFault r = inl r.is.0
-unpassed (Some input) left w answers.Memory r = tt
-
-pub unpassed_comes : (told left : Option (List ℕ)) (w : Written) (answer : RelayAnswer) (outcome : Outcome) → IsRelayed told left w.out_old w.out_new (Err answer) → outcome ≡ outcome_of_relay answer → RelayComes told left w outcome
-unpassed_comes told left w answer outcome r is = subst (RelayComes told left w) (sym is) (unpassed told left w answer r)
+unpassed : (told : Option (List ℕ)) (e : Effects) (answer : RelayAnswer) → IsRelayed told e.input.left e.out.old e.out.new (Err answer) → RelayComes told e (outcome_of_relay answer)
+unpassed None e answer r = tt
+unpassed (Some input) e (answers.Refused place cause) r = let h = r.is.refused in (h.0, h.1, h.2)
+unpassed (Some input) e answers.ReadFault r = tt
+unpassed (Some input) e answers.WriteFault r = inl r.is.0
+unpassed (Some input) e answers.Memory r = tt
 
 unpassed_says : (told left old new : Option (List ℕ)) (answer : RelayAnswer) → IsRelayed told left old new (Err answer) → SaysRelayed (status_of (outcome_of_relay answer)) told left old new
 unpassed_says told left old new (answers.Refused place cause) r = (place, cause, r.is)
@@ -76,8 +70,73 @@ unpassed_says told left old new answers.ReadFault r = r.is
 unpassed_says told left old new answers.WriteFault r = inl r.is.0
 unpassed_says told left old new answers.Memory r = r.is
 
-pub unpassed_relayed : (told left old new : Option (List ℕ)) (answer : RelayAnswer) (outcome : Outcome) (status : Status) → IsRelayed told left old new (Err answer) → outcome ≡ outcome_of_relay answer → status ≡ status_of outcome → SaysRelayed status told left old new
-unpassed_relayed told left old new answer outcome status r is stood = subst (λ s. SaysRelayed s told left old new) (sym (stood ∙ ap status_of is)) (unpassed_says told left old new answer r)
+-- the counts of the input and the output rose as the answer says
+abbrev AnswerRises : Effects → RelayAnswer → Type 0
+AnswerRises e answer = RisesOnAnswer {X = Relayed} e.input.failed e.input.failed_now e.out.failed e.out.failed_now (Err answer)
+
+-- what came of a stream that wasn't passed on to its end: the line of its outcome is put
+unpassed_status : (e : Effects) (answer : RelayAnswer) → IsRelayed e.input.told e.input.left e.out.old e.out.new (Err answer) → RisesOnAnswer {X = Relayed} e.input.failed e.input.failed_now e.out.failed e.out.failed_now (Err answer)
+    → Reports (line_of (outcome_of_relay answer)) e.report.old e.report.new e.report.failed e.report.failed_now → e.report.failed ≤ e.report.failed_now → CarriedOut relay_promise e (status_of (outcome_of_relay answer))
+unpassed_status e answer r rises line later = record {
+  said = says_of (λ input. relay_promise.Done input e) (λ input. relay_promise.DonePart input e) HasOpenRefusal e.input.told e.input.left (outcome_of_relay answer) _ refl (unpassed e.input.told e answer r);
+  known = known answer;
+  kept = λ never. absurd (never tt);
+  read = read answer rises;
+  write = λ failed. inl (write answer rises failed);
+  line = λ _. line_reported (λ input. relay_promise.Done input e) (λ input. relay_promise.DonePart input e) HasOpenRefusal e.input.told e.input.left (outcome_of_relay answer) _ _ _ _ _ refl (unpassed e.input.told e answer r) line;
+  own_line = own answer line;
+  out_faults = record { later = out answer rises; done = λ d. absurd (never_done answer d) };
+  report_faults = record { later = later; done = λ d. absurd (never_done answer d) };
+  besides = record { says = unpassed_says e.input.told e.input.left e.out.old e.out.new answer r; broke = λ failed. inl (stopped answer r rises line failed) };
+}
+  where
+    known : (answer : RelayAnswer) → status_of (outcome_of_relay answer) ≢ statuses.Usage
+    known (answers.Refused place cause) u = cc
+    known answers.ReadFault u = cc
+    known answers.WriteFault u = cc
+    known answers.Memory u = cc
+
+    never_done : (answer : RelayAnswer) → status_of (outcome_of_relay answer) ≡ statuses.Done → ⊥
+    never_done (answers.Refused place cause) d = cc
+    never_done answers.ReadFault d = cc
+    never_done answers.WriteFault d = cc
+    never_done answers.Memory d = cc
+
+    read : (answer : RelayAnswer) → AnswerRises e answer → InputRises (status_of (outcome_of_relay answer)) e.input.failed e.input.failed_now
+    read (answers.Refused place cause) rises = rises.0
+    read answers.ReadFault rises = (rises.0, rises.1)
+    read answers.WriteFault rises = rises.0
+    read answers.Memory rises = rises.0
+
+    out : (answer : RelayAnswer) → AnswerRises e answer → e.out.failed ≤ e.out.failed_now
+    out (answers.Refused place cause) rises = omega (arith, rises.1)
+    out answers.ReadFault rises = rises.2
+    out answers.WriteFault rises = rises.1
+    out answers.Memory rises = omega (arith, rises.1)
+
+    write : (answer : RelayAnswer) → AnswerRises e answer → status_of (outcome_of_relay answer) ≡ statuses.WriteFault → Rose e.out.failed e.out.failed_now
+    write (answers.Refused place cause) rises failed = cc
+    write answers.ReadFault rises failed = cc
+    write answers.WriteFault rises failed = rises.2
+    write answers.Memory rises failed = cc
+
+    own : (answer : RelayAnswer) → Reports (line_of (outcome_of_relay answer)) e.report.old e.report.new e.report.failed e.report.failed_now → PutsLineOrFault relayed_line e.report.old e.report.new (status_of (outcome_of_relay answer))
+    own (answers.Refused place cause) line = tt
+    own answers.ReadFault line = tt
+    own answers.WriteFault (inl put) = inr (inl put.1)
+    own answers.WriteFault (inr put) = inr (inr put.2)
+    own answers.Memory line = tt
+
+    stopped : (answer : RelayAnswer) → IsRelayed e.input.told e.input.left e.out.old e.out.new (Err answer) → AnswerRises e answer → Reports (line_of (outcome_of_relay answer)) e.report.old e.report.new e.report.failed e.report.failed_now → status_of (outcome_of_relay answer) ≡ statuses.WriteFault → OutputStopped e
+    stopped (answers.Refused place cause) r rises line failed = cc
+    stopped answers.ReadFault r rises line failed = cc
+    stopped answers.WriteFault r rises line failed = record { rose = rises.2; part = r.is.0; line = line }
+    stopped answers.Memory r rises line failed = cc
+
+pub unpassed_carried : (e : Effects) (answer : RelayAnswer) (outcome : Outcome) (status : Status) → outcome ≡ outcome_of_relay answer → status ≡ status_of outcome → IsRelayed e.input.told e.input.left e.out.old e.out.new (Err answer)
+    → RisesOnAnswer {X = Relayed} e.input.failed e.input.failed_now e.out.failed e.out.failed_now (Err answer) → Reports (line_of outcome) e.report.old e.report.new e.report.failed e.report.failed_now → e.report.failed ≤ e.report.failed_now → CarriedOut relay_promise e status
+unpassed_carried e answer outcome status is stood r rises line later =
+    subst (CarriedOut relay_promise e) (sym (stood ∙ ap status_of is)) (unpassed_status e answer r rises (subst (λ o. Reports (line_of o) e.report.old e.report.new e.report.failed e.report.failed_now) is line) later)
 
 -- ---- a front that may pass isn't refused
 
@@ -90,9 +149,8 @@ front_once input rest more _ front refused = refused
 
 -- ---- where all was passed on
 
-pub passed_breaks : (told left old new report_old report_new : Option (List ℕ)) (relayed : Relayed) (out out_now report report_now : ℕ) → IsRelayed told left old new (Ok relayed) → out_now ≡ out → Rose report report_now → AppendsPart report_old report_new (relayed_line (summary_of_relay relayed))
-    → ReportStopped told left old new report_old report_new out out_now report report_now
-passed_breaks told left old new report_old report_new relayed out out_now report report_now r quiet rose part = record { summary = summary_of_relay relayed; passed = r.is; quiet = quiet; rose = rose; reported = part }
+pub passed_breaks : (e : Effects) (relayed : Relayed) → IsRelayed e.input.told e.input.left e.out.old e.out.new (Ok relayed) → e.out.failed_now ≡ e.out.failed → Rose e.report.failed e.report.failed_now → AppendsPart e.report.old e.report.new (relayed_line (summary_of_relay relayed)) → ReportStopped e
+passed_breaks e relayed r quiet rose part = record { summary = summary_of_relay relayed; passed = r.is; quiet = quiet; rose = rose; reported = part }
 
 pub passed_line : (old new : Option (List ℕ)) (relayed : Relayed) (status : Status) → (status ≡ statuses.Done → Appends old new (relayed_line (summary_of_relay relayed))) → (status ≡ statuses.WriteFault → AppendsPart old new (relayed_line (summary_of_relay relayed)))
     → (status ≡ statuses.Done) ⊎ (status ≡ statuses.WriteFault) → PutsLineOrFault relayed_line old new status

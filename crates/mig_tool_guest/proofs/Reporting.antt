@@ -1,7 +1,9 @@
 -- What a command answers.
-use Rattle.mig_tool_guest.proofs.Common.{inl, inr, Appends, AppendsPart, Passes, Cause, Place, AcceptedLegacy, StreamOf, ReadsStream, Outcome, Status, Reading}
-use Rattle.mig_tool_guest.proofs.Common.{◌⊎◌, ◌≡◌, ℕ, ◌++◌, List, length, arith, Option, Some, None, Result, Ok, Err, refl, sym, ap, subst, ◌∙◌, GuestOf, AcceptedStream, HasStreamRefusal, HasLegacyRefusal, Kind, Hvm, Pv, Accepting, Normalised, PartWritten, IsCarried, IsFew, IsBase, restored_text, OutcomeSays, NormaliseComes, ConvertComes, RestoreComes, VerifySays, summary_of, mean_kind, outcome_of}
+use Rattle.mig_tool_guest.proofs.Common.{inl, inr, Appends, AppendsPart, Passes, Cause, Place, AcceptedLegacy, StreamOf, ReadsStream, Outcome, Status, Reading, ◌⊎◌, ◌≡◌, ℕ, ◌++◌, List, length, arith, Option, Some, None, Result, Ok, Err, refl, sym, ap, subst, ◌∙◌, GuestOf, AcceptedStream, HasStreamRefusal, HasLegacyRefusal, Kind, Hvm, Pv, Accepting, Normalised, PartWritten, IsCarried, IsFew, IsBase, restored_text, OutcomeSays, InputRises, IsUnwritten, ComesTo, Effects, restore_promise, text_written, unwritten, Refusal, status_of, summary_of, mean_kind, outcome_of}
+use Rattle.mig_tool_guest.proofs.Says.{ConvertComes, NormaliseComes, RestoreComes, VerifySays}
 use Rattle.mig_bytes.specs.Bytes.{Puts}
+use Rattle.mig_bytes.specs.Answers.{or_stop}
+use Rattle.mig_bytes.specs.Faults.{RisesOnReadFault}
 use Rattle.mig_bytes.specs.declared.answer.Answer.{Answer}
 use Rattle.mig_bytes.specs.declared.failure.WriteFailed.{WriteFailed}
 use Rattle.mig_headers.specs.declared.legacy_fault.LegacyCause.{LegacyCause}
@@ -22,6 +24,7 @@ use Rattle.mig_pvtables.proofs.HvmGuests.{hvm_complete}
 use Rattle.mig_pvtables.proofs.PvGuests.{pv_complete}
 use Rattle.mig_pvtables.specs.Whole.{IsWhole}
 use Rattle.mig_tool_report.specs.Report.{ok_line}
+use Rattle.mig_tool_report.specs.Statuses.{OutputRises}
 use Rattle.mig_tool_report.specs.declared.outcome.Summary.{Summary}
 use Rattle.mig_restore_form.specs.Mean.{differs_of}
 use Rattle.mig_restore_form.specs.Stream.{ImageOf}
@@ -49,6 +52,24 @@ module _ (D P : List ℕ → Type 0) where
       by None answer h = tt
       by (Some input) (answers.Refused place cause) (rest, refused, is) = (rest, refused, is)
       by (Some input) _ h = tt
+
+-- nothing was written then
+pub not_written : {P C : Type 0} (told : P → C → Refusal) (answer : Answer P C) (outcome : Outcome) → outcome ≡ outcome_of told answer → IsUnwritten outcome
+not_written {P} {C} told answer outcome is = subst IsUnwritten (sym is) (by answer)
+  where
+    by : (answer : Answer P C) → IsUnwritten (outcome_of told answer)
+    by (answers.Refused place cause) = tt
+    by answers.ReadFault = tt
+    by answers.Memory = tt
+
+-- and the count of the input rose with a read fault alone
+pub not_read_count : {P C : Type 0} (X : Type 0) (told : P → C → Refusal) (answer : Answer P C) (outcome : Outcome) (before now : ℕ) → outcome ≡ outcome_of told answer → RisesOnReadFault {X = X} before now (or_stop (Err answer)) → InputRises (status_of outcome) before now
+not_read_count {P} {C} X told answer outcome before now is rises = subst (λ o. InputRises (status_of o) before now) (sym is) (by answer rises)
+  where
+    by : (answer : Answer P C) → RisesOnReadFault {X = X} before now (or_stop (Err answer)) → InputRises (status_of (outcome_of told answer)) before now
+    by (answers.Refused place cause) rises = rises
+    by answers.ReadFault rises = rises
+    by answers.Memory rises = rises
 
 -- ---- what a reading and a writing come to
 
@@ -133,6 +154,14 @@ came_restored (Some input) left old new reading base outcome (stream, rest, acce
 came_restored (Some input) left old new reading base outcome (stream, rest, accepts, left_is, is_read) carried range done part (inr (inl is)) =
     subst (RestoreComes base (Some input) left old new) (sym is) (record { guest = reading.guest; rest = rest; accepted = accepted_front input rest stream reading accepts is_read; left_is = left_is; wrote = part is })
 came_restored (Some input) left old new reading base outcome h carried range done part (inr (inr is)) = subst (RestoreComes base (Some input) left old new) (sym is) tt
+
+-- what a restored guest came to, of which nothing is written where there is no memory
+pub restored_came : (base : ℕ) (e : Effects) (outcome : Outcome) → RestoreComes base e.input.told e.input.left e.out.old e.out.new outcome → (outcome ≡ outcomes.Done) ⊎ ((outcome ≡ outcomes.WriteFault) ⊎ (outcome ≡ outcomes.Memory))
+    → (outcome ≡ outcomes.Memory → e.out.Untouched) → e.input.failed_now ≡ e.input.failed → OutputRises (status_of outcome) e.out.failed e.out.failed_now → ComesTo (restore_promise base) e outcome
+restored_came base e outcome said (inl is) kept same write = text_written (restore_promise base) e outcome (inl refl) (inr refl) said (inl is) same write
+restored_came base e outcome said (inr (inl is)) kept same write = text_written (restore_promise base) e outcome (inl refl) (inr refl) said (inr is) same write
+restored_came base e outcome said (inr (inr is)) kept same write =
+    unwritten (restore_promise base) e outcome (subst IsUnwritten (sym is) tt) said (subst (λ o. InputRises (status_of o) e.input.failed e.input.failed_now) (sym is) same) (kept is) (subst (λ o. OutputRises (status_of o) e.out.failed e.out.failed_now) is write)
 
 abbrev pub reported : Result (Unit {0}) WriteFailed → Status
 reported (Ok u) = statuses.Done

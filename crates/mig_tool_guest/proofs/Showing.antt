@@ -1,8 +1,9 @@
 -- What the showing of a stream comes to.
-use Rattle.mig_tool_guest.proofs.Common.{◌≡◌, ◌⊎◌, ℕ, List, Option, Some, None, sym, subst, status_of, inl, inr, Appends, AppendsPart, Cause, Place, Outcome}
-use Rattle.mig_tool_guest.specs.PassingSays.{ShowComes}
+use Rattle.mig_tool_guest.proofs.Common.{◌≡◌, ◌⊎◌, ℕ, List, Option, Some, None, sym, subst, refl, ap, Err, status_of, inl, inr, ComesTo, Effects, InputRises, IsUnwritten, show_promise, text_written, Appends, AppendsPart, Cause, Place, Outcome}
+use Rattle.mig_tool_guest.proofs.Says.{ShowComes}
 use Rattle.serde_json.specs.Data.{Data}
-use Rattle.mig_show.specs.Shows.{Shows, tree_line}
+use Rattle.mig_show.specs.Shows.{RisesOnShow, Shows, tree_line}
+use Rattle.mig_tool_report.specs.Statuses.{OutputRises}
 use Rattle.mig_show.specs.declared.viewer.ShowAnswer.{ShowAnswer}
 use Rattle.mig_tool_guest.proofs.Relaying.{taken_front}
 use Rattle.mig_tool_guest.specs.Shown.{FrontShown, SaysShown}
@@ -41,6 +42,19 @@ shown_says told left old new (Some refused) line outcome (tree, shows, same) wro
 shown_says told left old new refused line outcome (tree, shows, same) wrote (inr is) =
     subst (λ o. SaysShown (status_of o) told left old new) (sym is) (record { refused = refused; tree = tree; shows = shows; wrote = subst (AppendsPart old new) same (wrote.1 is) })
 
+-- what came of it
+pub shown_came : (e : Effects) (refused : Option (Place × Cause)) (outcome : Outcome) → ShowComes e.input.told e.input.left e.out.old e.out.new outcome → (outcome ≡ outcome_of_shown refused) ⊎ (outcome ≡ outcomes.WriteFault)
+    → e.input.failed_now ≡ e.input.failed → OutputRises (status_of outcome) e.out.failed e.out.failed_now → ComesTo show_promise e outcome
+shown_came e None outcome said (inl is) same write = text_written show_promise e outcome (inr (inl refl)) (inr (inr refl)) said (inl is) same write
+shown_came e (Some refused) outcome said (inl is) same write = record {
+  said = said;
+  known = λ u. cc;
+  kept = λ never. absurd (never (inl (ap status_of is)));
+  read = subst (λ o. InputRises (status_of o) e.input.failed e.input.failed_now) (sym is) same;
+  write = write;
+}
+shown_came e refused outcome said (inr is) same write = text_written show_promise e outcome (inr (inl refl)) (inr (inr refl)) said (inr is) same write
+
 -- ---- nothing is shown
 
 pub unshown_comes : (told left old new : Option (List ℕ)) (answer : ShowAnswer) (outcome : Outcome) → outcome ≡ outcome_of_unshown answer → ShowComes told left old new outcome
@@ -51,3 +65,11 @@ unshown_comes (Some input) left old new answers.Memory outcome is = subst (ShowC
 pub unshown_says : (told left old new : Option (List ℕ)) (answer : ShowAnswer) (outcome : Outcome) → outcome ≡ outcome_of_unshown answer → SaysShown (status_of outcome) told left old new
 unshown_says told left old new answers.ReadFault outcome is = subst (λ o. SaysShown (status_of o) told left old new) (sym is) tt
 unshown_says told left old new answers.Memory outcome is = subst (λ o. SaysShown (status_of o) told left old new) (sym is) tt
+
+pub unshown_none : (answer : ShowAnswer) (outcome : Outcome) → outcome ≡ outcome_of_unshown answer → IsUnwritten outcome
+unshown_none answers.ReadFault outcome is = subst IsUnwritten (sym is) tt
+unshown_none answers.Memory outcome is = subst IsUnwritten (sym is) tt
+
+pub unshown_count : (X : Type 0) (answer : ShowAnswer) (outcome : Outcome) (before now : ℕ) → outcome ≡ outcome_of_unshown answer → RisesOnShow {X = X} before now (Err answer) → InputRises (status_of outcome) before now
+unshown_count X answers.ReadFault outcome before now is rises = subst (λ o. InputRises (status_of o) before now) (sym is) rises
+unshown_count X answers.Memory outcome before now is rises = subst (λ o. InputRises (status_of o) before now) (sym is) rises

@@ -1,14 +1,17 @@
 -- What a walk comes to, says and reports.
-use Rattle.mig_tool_guest.proofs.Common.{inl, inr, Appends, AppendsPart, Passes, HostOf, ReadsStream, Reading, Outcome, WalkSummary, Status, in_stream, in_host, MeansFrame, any_host_at, line_reported, says_of}
-use Rattle.mig_tool_guest.proofs.Common.{◌≡◌, ℕ, List, Option, Some, None, Result, Ok, Err, sym, ap, subst, ◌∙◌, OutcomeSays, InputRises}
-use Rattle.std.specs.Prelude.{IfOk, IfErr, OnOk}
+use Rattle.mig_tool_guest.proofs.Common.{inl, inr, Appends, AppendsPart, Passes, HostOf, ReadsStream, Reading, Outcome, WalkSummary, Status, in_stream, in_host, MeansFrame, any_host_at, line_reported, says_of, ◌≡◌, ℕ, List, Option, Some, None, Result, Ok, Err, sym, ap, subst, ◌∙◌, OutcomeSays, InputRises, CarriedOut, Effects, IsUnwritten, finished, line_put, never_failed, no_line, status_of, unwritten}
+use Rattle.std.specs.Prelude.{◌⊎◌, ◌≤◌, IfOk, IfErr, OnOk}
 use Rattle.mig_guest.specs.Hosts.{most_width}
 use Rattle.mig_host.specs.HostView.{HostAndSpare}
 use Rattle.mig_host_view.specs.Sound.{IsSound}
 use Rattle.mig_image.specs.Answer.{ReadsHost}
-use Rattle.mig_tool_report.specs.Statuses.{EndsWithOwnLine, Refusing, ReportsStatus, StatusSays}
+use Rattle.mig_bytes.specs.Faults.{Rose}
+use Rattle.mig_tool_report.specs.Promises.{IsUntouched, Promise, reports_line}
+use Rattle.mig_tool_report.specs.Report.{walked_line}
+use Rattle.mig_tool_report.specs.declared.status.Status.TheVariants as statuses
+use Rattle.mig_tool_report.specs.Statuses.{PutsLineOf, Refusing, StatusSays}
 use Rattle.mig_tool_guest.specs.Addresses.{AddressReported}
-use Rattle.mig_tool_guest.specs.AddressSteps.{EndsWalk, EndsInHost, FindsFrame, FindsInImage, FindsInStream, IsUnfound, TellsFound, status_found}
+use Rattle.mig_tool_guest.specs.AddressSteps.{EndsWalk, EndsInHost, FindsFrame, FindsInImage, FindsInStream, TellsFound, status_found}
 use Rattle.mig_tool_guest.proofs.Reporting.{accepted_front}
 use Rattle.mig_tool_report.specs.declared.outcome.Outcome.TheVariants as outcomes
 use Rattle.mig_tool_report.specs.declared.outcome.Refusal.TheVariants as refusals
@@ -40,7 +43,7 @@ host_frame id at (Some input) left host r (read, rest, passes, left_is, is) soun
     by (Err _) sound frame none = absurd none
 
 -- nothing else comes of a host
-pub host_unfound : (h : HostOf) (id at : ℕ) (r : Result WalkSummary Outcome) → IfErr r (EndsInHost h id at) → IfErr r IsUnfound
+pub host_unfound : (h : HostOf) (id at : ℕ) (r : Result WalkSummary Outcome) → IfErr r (EndsInHost h id at) → IfErr r IsUnwritten
 host_unfound h id at (Ok s) none = tt
 host_unfound h id at (Err (outcomes.Refused refusal)) none = tt
 host_unfound h id at (Err outcomes.Memory) none = tt
@@ -85,7 +88,30 @@ module _ (Found : List ℕ → WalkSummary → Type 0) (Has : Refusing) (told le
         says_of (λ input. AddressReported (Found input) (Appends old new)) (λ input. AddressReported (Found input) (AppendsPart old new)) Has told left outcome status tells.0
         (unfound_comes (λ input. AddressReported (Found input) (Appends old new)) (λ input. AddressReported (Found input) (AppendsPart old new)) outcome found)
 
-    pub found_reported : (r : Result WalkSummary Outcome) (status : Status) (before now : ℕ) → FindsFrame Found Has told left r → TellsFound r status old new before now → (EndsWithOwnLine status → ⊥) → ReportsStatus Has told status old new before now
-    found_reported (Ok s) status before now found (inl (same, put, quiet)) none = absurd (none (subst EndsWithOwnLine (sym same) tt))
-    found_reported (Ok s) status before now found (inr (same, put, rose)) none = absurd (none (subst EndsWithOwnLine (sym same) tt))
-    found_reported (Err outcome) status before now found tells none = line_reported (λ _. ⊥) (λ _. ⊥) Has told left outcome status old new before now tells.0 (unfound_comes (λ _. ⊥) (λ _. ⊥) outcome found) tells.1
+-- what a walk came to, whatever the output is, which it doesn't reach
+module _ (Accepts : List ℕ → Type 0) (Found : List ℕ → Option (List ℕ) → WalkSummary → Type 0) (Has : Refusing) (e : Effects) (idle : IsUntouched e.out) where
+  abbrev promise : Promise
+  promise = reports_line walked_line Accepts Has (λ Reported input left. AddressReported (Found input left) Reported)
+
+  pub found_carried : (r : Result WalkSummary Outcome) (status : Status) → FindsFrame (λ input summary. Found input e.input.left summary) Has e.input.told e.input.left r → IfErr r IsUnwritten → InputRises (status_found r) e.input.failed e.input.failed_now
+      → TellsFound r status e.report.old e.report.new e.report.failed e.report.failed_now → (status ≡ statuses.Done → e.report.failed_now ≡ e.report.failed) → e.report.failed ≤ e.report.failed_now → CarriedOut promise e status
+  found_carried (Ok s) status found none read tells quiet later =
+      line_put walked_line Accepts Has (λ Reported input left. AddressReported (Found input left) Reported) e status
+      (found_says (λ input summary. Found input e.input.left summary) Has e.input.told e.input.left e.report.old e.report.new (Ok s) status e.report.failed e.report.failed_now found tells)
+      (either tells) read idle (rises tells) (own tells) later quiet
+    where
+      either : TellsFound (Ok s) status e.report.old e.report.new e.report.failed e.report.failed_now → (status ≡ statuses.Done) ⊎ (status ≡ statuses.WriteFault)
+      either (inl told) = inl told.0
+      either (inr told) = inr told.0
+
+      rises : TellsFound (Ok s) status e.report.old e.report.new e.report.failed e.report.failed_now → status ≡ statuses.WriteFault → Rose e.report.failed e.report.failed_now
+      rises (inl told) failed = let done = told.0 in cc
+      rises (inr told) failed = told.2
+
+      own : TellsFound (Ok s) status e.report.old e.report.new e.report.failed e.report.failed_now → PutsLineOf walked_line e.report.old e.report.new status
+      own (inl told) = subst (PutsLineOf walked_line e.report.old e.report.new) (sym told.0) (s, told.1)
+      own (inr told) = subst (PutsLineOf walked_line e.report.old e.report.new) (sym told.0) (s, told.1)
+  found_carried (Err outcome) status found none read tells quiet later =
+      finished promise e outcome status tells.0
+      (unwritten promise e outcome none (unfound_comes (λ input summary. Found input e.input.left summary) Has e.input.told e.input.left (λ input. promise.Done input e) (λ input. promise.DonePart input e) outcome found) read idle.untouched idle.quiet)
+      (never_failed outcome status none tells.0) tells.1 (λ d. quiet (tells.0 ∙ ap status_of d)) later (no_line walked_line _ _ outcome status none tells.0) tt

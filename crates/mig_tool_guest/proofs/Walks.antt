@@ -1,6 +1,5 @@
 -- An address that means a frame of an input doesn't come to a refusal, and the other way round.
-use Rattle.mig_tool_guest.proofs.Common.{Passes, HostOf, WalkSummary, in_stream, in_host, MeansFrame, StreamHasFrame, FrameInStream, HostHasFrame, FrameInHost, any_host_at}
-use Rattle.mig_tool_guest.proofs.Common.{◌≡◌, ℕ, List, Option, Some, None, refl, sym, ap, subst, ◌∙◌, GuestOf}
+use Rattle.mig_tool_guest.proofs.Common.{Passes, HostOf, WalkSummary, in_stream, in_host, MeansFrame, StreamHasFrame, FrameInStream, HostHasFrame, FrameInHost, any_host_at, ◌≡◌, ℕ, List, Option, Some, None, refl, sym, ap, subst, ◌∙◌, GuestOf}
 use Rattle.mig_bytes.specs.Judged.{Judged}
 use Rattle.mig_bytes.specs.Judged.Judged.{Faulty}
 use Rattle.mig_headers.specs.declared.image_fault.ImageCause.{ImageCause}

@@ -18,13 +18,6 @@ use Rattle.mig_tool_guest.specs.Addresses.{FrameInHost, FrameInStream, MeansNone
 use Rattle.mig_tool_report.specs.Statuses.{OutcomeSays, Refusing}
 use Rattle.mig_tool_guest.specs.Refusals.{HasWalkImageRefusal, HasWalkRefusal}
 
--- what comes where no frame is found: nothing was written
-abbrev pub IsUnfound : Outcome → Type 0
-IsUnfound (outcomes.Refused refusal) = ⊤
-IsUnfound outcomes.ReadFault = ⊤
-IsUnfound outcomes.Memory = ⊤
-IsUnfound _ = ⊥
-
 -- a walk that comes to no frame is refused so
 abbrev pub EndsWalk : Standing → ℕ → ℕ → Outcome → Type 0
 EndsWalk s id at (outcomes.Refused (refusals.Walk end)) = MeansNone s id at end

@@ -3,6 +3,7 @@ use Rattle.std.specs.Prelude.{◌≡◌, ℕ, List}
 use Rattle.mig_bytes.specs.Judged.Judged.{Faulty}
 use Rattle.mig_legacy.specs.Stream.{IsLegacyRefused}
 use Rattle.mig_libxl_form.specs.Stream.{IsStreamRefused}
+use Rattle.mig_relay.specs.Streams.{IsOpenRefused}
 use Rattle.mig_tool_report.specs.declared.outcome.Refusal.{Refusal}
 use Rattle.mig_tool_report.specs.declared.outcome.Refusal.TheVariants as refusals
 use Rattle.mig_tool_guest.specs.Addresses.{HasUnsoundHost, HostHasNone, StreamHasNone, any_host_at}
@@ -29,3 +30,8 @@ HasWalkImageRefusal id at input (refusals.Image place cause) rest = any_host_at 
 HasWalkImageRefusal id at input (refusals.Host unsound) rest = HasUnsoundHost input rest unsound
 HasWalkImageRefusal id at input (refusals.Walk end) rest = HostHasNone id at input rest end
 HasWalkImageRefusal id at input _ rest = ⊥
+
+-- of a stream that is passed on or shown, of which nothing is asked that needs more than its parts one by one
+abbrev pub HasOpenRefusal : List ℕ → Refusal → List ℕ → Type 0
+HasOpenRefusal input (refusals.Stream place cause) rest = IsOpenRefused input place cause rest
+HasOpenRefusal input _ rest = ⊥

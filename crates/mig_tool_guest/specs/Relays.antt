@@ -13,7 +13,7 @@ use Rattle.mig_tool_report.specs.Report.{Reports, relayed_line, write_fault_line
 use Rattle.mig_tool_report.specs.declared.outcome.RelaySummary.{RelaySummary}
 use Rattle.mig_tool_report.specs.declared.status.Status.{Status}
 use Rattle.mig_tool_report.specs.declared.status.Status.TheVariants as statuses
-use Rattle.mig_tool_report.specs.Statuses.{Written}
+use Rattle.mig_tool_report.specs.Promises.{Effects}
 
 -- a front of the input may pass, and rest follows it
 pub record PassableFront (input rest : List ℕ) : Type 0 where
@@ -51,25 +51,24 @@ SaysRelayed statuses.Memory told left old new = IsWrittenPart told left old new
 SaysRelayed statuses.Usage told left old new = PassedPart told left old new
 
 -- a write of the output failed, no front of what was written is an accepted stream, and the report got the line of that
-pub record OutputStopped (told left old new report_old report_new : Option (List ℕ)) (out out_now report report_now : ℕ) : Type 0 where
-  pub rose : Rose out out_now
-  pub part : PassedPart told left old new
-  pub line : Reports write_fault_line report_old report_new report report_now
+pub record OutputStopped (e : Effects) : Type 0 where
+  pub rose : Rose e.out.failed e.out.failed_now
+  pub part : PassedPart e.input.told e.input.left e.out.old e.out.new
+  pub line : Reports write_fault_line e.report.old e.report.new e.report.failed e.report.failed_now
 
 -- all was passed on, and of its line a part was reported, since a write of the report failed
-pub record ReportStopped (told left old new report_old report_new : Option (List ℕ)) (out out_now report report_now : ℕ) : Type 0 where
+pub record ReportStopped (e : Effects) : Type 0 where
   pub summary : RelaySummary
-  pub passed : PassedOn told left old new summary
-  pub quiet : out_now ≡ out
-  pub rose : Rose report report_now
-  pub reported : AppendsPart report_old report_new (relayed_line summary)
+  pub passed : PassedOn e.input.told e.input.left e.out.old e.out.new summary
+  pub quiet : e.out.failed_now ≡ e.out.failed
+  pub rose : Rose e.report.failed e.report.failed_now
+  pub reported : AppendsPart e.report.old e.report.new (relayed_line summary)
 
 -- a relay whose output broke off, or whose report
-abbrev pub RelayBreaksOff : Option (List ℕ) → Option (List ℕ) → Written → ℕ → ℕ → ℕ → ℕ → Type 0
-RelayBreaksOff told left w out out_now report report_now =
-    OutputStopped told left w.out_old w.out_new w.report_old w.report_new out out_now report report_now ⊎ ReportStopped told left w.out_old w.out_new w.report_old w.report_new out out_now report report_now
+abbrev pub RelayBreaksOff : Effects → Type 0
+RelayBreaksOff e = OutputStopped e ⊎ ReportStopped e
 
 -- what a relay came to, whatever its status; with status 4 it broke off
-pub record Relays (status : Status) (told left : Option (List ℕ)) (w : Written) (out out_now report report_now : ℕ) : Type 0 where
-  pub says : SaysRelayed status told left w.out_old w.out_new
-  pub broke : status ≡ statuses.WriteFault → RelayBreaksOff told left w out out_now report report_now
+pub record Relays (status : Status) (e : Effects) : Type 0 where
+  pub says : SaysRelayed status e.input.told e.input.left e.out.old e.out.new
+  pub broke : status ≡ statuses.WriteFault → RelayBreaksOff e

@@ -1,17 +1,16 @@
-ghost use Rattle.std.specs.Prelude.{◌≡◌, ◌≢◌, ◌≤◌, ℕ, IfOk, IfErr, OnOk};
-ghost use Rattle.mig_bytes.specs.Faults.{Rose};
-ghost use Rattle.mig_tool_report.specs.Report.{walked_line};
+ghost use Rattle.std.specs.Prelude.{◌≡◌, ◌≤◌, ℕ, IfOk, IfErr, OnOk};
 ghost use Rattle.mig_tool_report.specs.declared.outcome.Refusal.TheVariants as refusals;
 ghost use Rattle.mig_tool_report.specs.declared.status.Status.TheVariants as statuses;
 ghost use Rattle.mig_host_view.specs.Sound.{IsSound};
 ghost use Rattle.mig_host_laws.specs.Standing.{Standing, in_host};
 ghost use Rattle.mig_walk.specs.Walks.{IsWalked};
 ghost use Rattle.mig_tool_guest.specs.Addresses.{MeansFrame};
-ghost use Rattle.mig_tool_guest.specs.AddressSteps.{EndsInHost, EndsWalk, FindsInImage, FindsInStream, IsUnfound, TellsFound, status_found};
+ghost use Rattle.mig_tool_guest.specs.AddressSteps.{EndsInHost, EndsWalk, FindsInImage, FindsInStream, TellsFound, status_found};
 ghost use Rattle.mig_tool_guest.specs.Outcomes.{outcome_of};
-ghost use Rattle.mig_tool_guest.specs.Refusals.{HasWalkImageRefusal, HasWalkRefusal};
-ghost use Rattle.mig_tool_guest.specs.Says.{WalkImageSays, WalkSays};
-ghost use Rattle.mig_tool_report.specs.Statuses.{EndsWithOwnLine, InputRises, PutsLineOf, ReportsStatus};
+ghost use Rattle.mig_tool_guest.specs.Promises.{walk_image_promise, walk_promise};
+ghost use Rattle.mig_tool_report.specs.Outcome.{IsUnwritten};
+ghost use Rattle.mig_tool_report.specs.Statuses.{InputRises};
+ghost use Rattle.mig_tool_report.specs.Promises.{CarriedOut, effects, input_effect, sink_effect, unreached};
 
 use crate::commands::unread;
 use mig_bytes::{Sink, Source};
@@ -63,7 +62,7 @@ fn frame_in_stream<S: Source>(
     input: &mut S,
 ) -> Result<WalkSummary, Outcome>
     ensures found { FindsInStream vcpu address (S.left input.old) (S.left input.new) result }
-    ensures unfound { IfErr result IsUnfound }
+    ensures unfound { IfErr result IsUnwritten }
     ensures read { InputRises (status_found result) (S.faults input.old) (S.faults input.new) }
 {
     match read_any(alloc, input) {
@@ -93,7 +92,7 @@ fn frame_in_image<S: Source>(
     input: &mut S,
 ) -> Result<WalkSummary, Outcome>
     ensures found { FindsInImage vcpu address (S.left input.old) (S.left input.new) result }
-    ensures unfound { IfErr result IsUnfound }
+    ensures unfound { IfErr result IsUnwritten }
     ensures read { InputRises (status_found result) (S.faults input.old) (S.faults input.new) }
 {
     match read_host(alloc, input, MOST_WIDTH) {
@@ -104,7 +103,7 @@ fn frame_in_image<S: Source>(
 
 /// Says on the report what was found.
 fn report_found<R: Sink>(report: &mut R, found: Result<WalkSummary, Outcome>) -> Status
-    requires { IfErr found IsUnfound }
+    requires { IfErr found IsUnwritten }
     ensures told { TellsFound found result (R.written report.old) (R.written report.new) (R.faults report.old) (R.faults report.new) }
     ensures quiet { result ≡ statuses.Done → R.faults report.new ≡ R.faults report.old }
     ensures later { R.faults report.old ≤ R.faults report.new }
@@ -126,14 +125,8 @@ pub fn walk<S: Source, R: Sink>(
     input: &mut S,
     report: &mut R,
 ) -> Status
-    ensures said { WalkSays vcpu address (S.left input.old) (S.left input.new) (R.written report.old) (R.written report.new) result }
-    ensures known { result ≢ statuses.Usage }
-    ensures read { InputRises result (S.faults input.old) (S.faults input.new) }
-    ensures write { result ≡ statuses.WriteFault → Rose (R.faults report.old) (R.faults report.new) }
-    ensures quiet { result ≡ statuses.Done → R.faults report.new ≡ R.faults report.old }
-    ensures line { (EndsWithOwnLine result → ⊥) → ReportsStatus (HasWalkRefusal vcpu address) (S.left input.old) result (R.written report.old) (R.written report.new) (R.faults report.old) (R.faults report.new) }
-    ensures own_line { PutsLineOf walked_line (R.written report.old) (R.written report.new) result }
-    ensures report_later { R.faults report.old ≤ R.faults report.new }
+    ensures { CarriedOut (walk_promise vcpu address) (effects (input_effect S.left S.faults input.old input.new)
+        unreached (sink_effect R.written R.faults report.old report.new)) result }
 {
     let found = frame_in_stream(alloc, vcpu, address, input);
     report_found(report, found)
@@ -147,14 +140,8 @@ pub fn walk_image<S: Source, R: Sink>(
     input: &mut S,
     report: &mut R,
 ) -> Status
-    ensures said { WalkImageSays vcpu address (S.left input.old) (S.left input.new) (R.written report.old) (R.written report.new) result }
-    ensures known { result ≢ statuses.Usage }
-    ensures read { InputRises result (S.faults input.old) (S.faults input.new) }
-    ensures write { result ≡ statuses.WriteFault → Rose (R.faults report.old) (R.faults report.new) }
-    ensures quiet { result ≡ statuses.Done → R.faults report.new ≡ R.faults report.old }
-    ensures line { (EndsWithOwnLine result → ⊥) → ReportsStatus (HasWalkImageRefusal vcpu address) (S.left input.old) result (R.written report.old) (R.written report.new) (R.faults report.old) (R.faults report.new) }
-    ensures own_line { PutsLineOf walked_line (R.written report.old) (R.written report.new) result }
-    ensures report_later { R.faults report.old ≤ R.faults report.new }
+    ensures { CarriedOut (walk_image_promise vcpu address) (effects (input_effect S.left S.faults input.old input.new)
+        unreached (sink_effect R.written R.faults report.old report.new)) result }
 {
     let found = frame_in_image(alloc, vcpu, address, input);
     report_found(report, found)

@@ -1,20 +1,17 @@
-ghost use Rattle.std.specs.Prelude.{◌≡◌, ◌≢◌, ◌≤◌, ◌⊎◌};
+ghost use Rattle.std.specs.Prelude.{◌≡◌, ◌⊎◌};
 ghost use Rattle.std.specs.Io.KnownBytes.{Appends};
 ghost use Rattle.mig_bytes.specs.Bytes.{AppendsPart};
-ghost use Rattle.mig_bytes.specs.Faults.{Rose};
 ghost use Rattle.mig_pvtables.specs.Whole.{IsWhole};
 ghost use Rattle.mig_canon.specs.CanonStream.{canon_any};
 ghost use Rattle.mig_tool_guest.specs.Fronts.{restored_text};
 ghost use Rattle.mig_tool_guest.specs.Outcomes.{outcome_of};
-ghost use Rattle.mig_tool_guest.specs.Refusals.{HasLegacyRefusal, HasStreamRefusal};
-ghost use Rattle.mig_tool_guest.specs.Says.{ConvertComes, ConvertSays, NormaliseComes, NormaliseSays, RestoreComes, RestoreSays, VerifySays};
-ghost use Rattle.mig_tool_report.specs.Statuses.{EndsWithOwnLine, InputRises, NoneFailed, OutputRises, PutsLineOf, ReportsStatus};
+ghost use Rattle.mig_tool_guest.specs.Promises.{normalise_promise, convert_promise, restore_promise, verify_promise};
+ghost use Rattle.mig_tool_report.specs.Statuses.{OutputRises};
+ghost use Rattle.mig_tool_report.specs.Promises.{CarriedOut, ComesTo, effects, input_effect, sink_effect, unreached};
 ghost use Rattle.mig_tool_report.specs.Outcome.{status_of};
-ghost use Rattle.mig_tool_report.specs.Report.{ok_line};
 ghost use Rattle.mig_tool_report.specs.Words.{IsBase};
 ghost use Rattle.mig_tool_report.specs.declared.outcome.Outcome.TheVariants as outcomes;
 ghost use Rattle.mig_tool_report.specs.declared.outcome.Refusal.TheVariants as refusals;
-ghost use Rattle.mig_tool_report.specs.declared.status.Status.TheVariants as statuses;
 
 use mig_bytes::{Sink, Source};
 use mig_guest::Guest;
@@ -63,11 +60,7 @@ fn write_canonical<K: Sink>(guest: &Guest, out: &mut K) -> Outcome
 
 /// Reads a stream, and writes it in its canonical form.
 fn normalised<S: Source, K: Sink>(alloc: Global, input: &mut S, out: &mut K) -> Outcome
-    ensures answer { NormaliseComes (S.left input.old) (S.left input.new) (K.written out.old) (K.written out.new) result }
-    ensures known { result ≢ outcomes.Usage }
-    ensures kept { result ≢ outcomes.Done → result ≢ outcomes.WriteFault → out.new ≡ out.old }
-    ensures read { InputRises (status_of result) (S.faults input.old) (S.faults input.new) }
-    ensures write { OutputRises (status_of result) (K.faults out.old) (K.faults out.new) }
+    ensures { ComesTo normalise_promise (effects (input_effect S.left S.faults input.old input.new) (sink_effect K.written K.faults out.old out.new) unreached) result }
 {
     match read_any(alloc, input) {
         Ok(reading) => write_canonical(&reading.guest, out),
@@ -82,13 +75,8 @@ pub fn normalise<S: Source, K: Sink, R: Sink>(
     out: &mut K,
     report: &mut R,
 ) -> Status
-    ensures said { NormaliseSays (S.left input.old) (S.left input.new) (K.written out.old) (K.written out.new) result }
-    ensures known { result ≢ statuses.Usage }
-    ensures kept { result ≢ statuses.Done → result ≢ statuses.WriteFault → out.new ≡ out.old }
-    ensures read { InputRises result (S.faults input.old) (S.faults input.new) }
-    ensures write { OutputRises result (K.faults out.old) (K.faults out.new) }
-    ensures line { ReportsStatus HasStreamRefusal (S.left input.old) result (R.written report.old) (R.written report.new) (R.faults report.old) (R.faults report.new) }
-    ensures report_faults { NoneFailed result (R.faults report.old) (R.faults report.new) }
+    ensures { CarriedOut normalise_promise (effects (input_effect S.left S.faults input.old input.new)
+        (sink_effect K.written K.faults out.old out.new) (sink_effect R.written R.faults report.old report.new)) result }
 {
     let outcome = normalised(alloc, input, out);
     finish(report, outcome)
@@ -96,11 +84,7 @@ pub fn normalise<S: Source, K: Sink, R: Sink>(
 
 /// Reads a legacy stream, and writes the canonical stream of its guest.
 fn converted<S: Source, K: Sink>(alloc: Global, input: &mut S, out: &mut K) -> Outcome
-    ensures answer { ConvertComes (S.left input.old) (S.left input.new) (K.written out.old) (K.written out.new) result }
-    ensures known { result ≢ outcomes.Usage }
-    ensures kept { result ≢ outcomes.Done → result ≢ outcomes.WriteFault → out.new ≡ out.old }
-    ensures read { InputRises (status_of result) (S.faults input.old) (S.faults input.new) }
-    ensures write { OutputRises (status_of result) (K.faults out.old) (K.faults out.new) }
+    ensures { ComesTo convert_promise (effects (input_effect S.left S.faults input.old input.new) (sink_effect K.written K.faults out.old out.new) unreached) result }
 {
     match read_legacy(alloc, input) {
         Ok(guest) => write_canonical(&guest, out),
@@ -115,13 +99,8 @@ pub fn convert<S: Source, K: Sink, R: Sink>(
     out: &mut K,
     report: &mut R,
 ) -> Status
-    ensures said { ConvertSays (S.left input.old) (S.left input.new) (K.written out.old) (K.written out.new) result }
-    ensures known { result ≢ statuses.Usage }
-    ensures kept { result ≢ statuses.Done → result ≢ statuses.WriteFault → out.new ≡ out.old }
-    ensures read { InputRises result (S.faults input.old) (S.faults input.new) }
-    ensures write { OutputRises result (K.faults out.old) (K.faults out.new) }
-    ensures line { ReportsStatus HasLegacyRefusal (S.left input.old) result (R.written report.old) (R.written report.new) (R.faults report.old) (R.faults report.new) }
-    ensures report_faults { NoneFailed result (R.faults report.old) (R.faults report.new) }
+    ensures { CarriedOut convert_promise (effects (input_effect S.left S.faults input.old input.new)
+        (sink_effect K.written K.faults out.old out.new) (sink_effect R.written R.faults report.old report.new)) result }
 {
     let outcome = converted(alloc, input, out);
     finish(report, outcome)
@@ -150,11 +129,7 @@ fn write_restored<K: Sink>(alloc: Global, guest: Guest, base: u64, out: &mut K) 
 /// Reads a stream, and writes the image of its guest, with machine frames counted up from the base.
 fn restored<S: Source, K: Sink>(alloc: Global, base: u64, input: &mut S, out: &mut K) -> Outcome
     requires { IsBase base }
-    ensures answer { RestoreComes base (S.left input.old) (S.left input.new) (K.written out.old) (K.written out.new) result }
-    ensures known { result ≢ outcomes.Usage }
-    ensures kept { result ≢ outcomes.Done → result ≢ outcomes.WriteFault → out.new ≡ out.old }
-    ensures read { InputRises (status_of result) (S.faults input.old) (S.faults input.new) }
-    ensures write { OutputRises (status_of result) (K.faults out.old) (K.faults out.new) }
+    ensures { ComesTo (restore_promise base) (effects (input_effect S.left S.faults input.old input.new) (sink_effect K.written K.faults out.old out.new) unreached) result }
 {
     let guest = match read_any(alloc, input) {
         Ok(reading) => reading.guest,
@@ -173,13 +148,8 @@ pub fn restore<S: Source, K: Sink, R: Sink>(
     report: &mut R,
 ) -> Status
     requires { IsBase base }
-    ensures said { RestoreSays base (S.left input.old) (S.left input.new) (K.written out.old) (K.written out.new) result }
-    ensures known { result ≢ statuses.Usage }
-    ensures kept { result ≢ statuses.Done → result ≢ statuses.WriteFault → out.new ≡ out.old }
-    ensures read { InputRises result (S.faults input.old) (S.faults input.new) }
-    ensures write { OutputRises result (K.faults out.old) (K.faults out.new) }
-    ensures line { ReportsStatus HasStreamRefusal (S.left input.old) result (R.written report.old) (R.written report.new) (R.faults report.old) (R.faults report.new) }
-    ensures report_faults { NoneFailed result (R.faults report.old) (R.faults report.new) }
+    ensures { CarriedOut (restore_promise base) (effects (input_effect S.left S.faults input.old input.new)
+        (sink_effect K.written K.faults out.old out.new) (sink_effect R.written R.faults report.old report.new)) result }
 {
     let outcome = restored(alloc, base, input, out);
     finish(report, outcome)
@@ -187,14 +157,8 @@ pub fn restore<S: Source, K: Sink, R: Sink>(
 
 /// Reads a stream, and says on the report what it is.
 pub fn verify<S: Source, R: Sink>(alloc: Global, input: &mut S, report: &mut R) -> Status
-    ensures said { VerifySays (S.left input.old) (S.left input.new) (R.written report.old) (R.written report.new) result }
-    ensures known { result ≢ statuses.Usage }
-    ensures read { InputRises result (S.faults input.old) (S.faults input.new) }
-    ensures write { result ≡ statuses.WriteFault → Rose (R.faults report.old) (R.faults report.new) }
-    ensures quiet { result ≡ statuses.Done → R.faults report.new ≡ R.faults report.old }
-    ensures line { (EndsWithOwnLine result → ⊥) → ReportsStatus HasStreamRefusal (S.left input.old) result (R.written report.old) (R.written report.new) (R.faults report.old) (R.faults report.new) }
-    ensures own_line { PutsLineOf ok_line (R.written report.old) (R.written report.new) result }
-    ensures report_later { R.faults report.old ≤ R.faults report.new }
+    ensures { CarriedOut verify_promise (effects (input_effect S.left S.faults input.old input.new)
+        unreached (sink_effect R.written R.faults report.old report.new)) result }
 {
     let reading = match read_any(alloc, input) {
         Ok(reading) => reading,

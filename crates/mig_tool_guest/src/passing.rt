@@ -4,11 +4,9 @@ ghost use Rattle.mig_bytes.specs.Bytes.{AppendsPart};
 ghost use Rattle.mig_bytes.specs.Faults.{Rose};
 ghost use Rattle.mig_tool_report.specs.Report.{relayed_line};
 ghost use Rattle.mig_tool_report.specs.declared.status.Status.TheVariants as statuses;
-ghost use Rattle.mig_tool_guest.specs.PassingSays.{HasOpenRefusal};
-ghost use Rattle.mig_tool_guest.specs.Relays.{RelayBreaksOff, SaysRelayed};
 ghost use Rattle.mig_tool_guest.specs.RelaySteps.{outcome_of_relay, summary_of_relay};
-ghost use Rattle.mig_tool_guest.specs.PassingSays.{RelaySays};
-ghost use Rattle.mig_tool_report.specs.Statuses.{EndsWithOwnLine, InputRises, PutsLineOrFault, ReportsStatus};
+ghost use Rattle.mig_tool_guest.specs.Promises.{relay_promise};
+ghost use Rattle.mig_tool_report.specs.Promises.{CarriedOut, effects, input_effect, sink_effect};
 
 use mig_bytes::{Sink, Source};
 use mig_relay::{RelayAnswer, Relayed, relay as pass_on};
@@ -53,17 +51,8 @@ pub fn relay<S: Source, K: Sink, R: Sink>(
     out: &mut K,
     report: &mut R,
 ) -> Status
-    ensures said { RelaySays (S.left input.old) (S.left input.new) (record { out_old = K.written out.old; out_new = K.written out.new; report_old = R.written report.old; report_new = R.written report.new }) result }
-    ensures known { result ≢ statuses.Usage }
-    ensures relayed { SaysRelayed result (S.left input.old) (S.left input.new) (K.written out.old) (K.written out.new) }
-    ensures breaks { result ≡ statuses.WriteFault → RelayBreaksOff (S.left input.old) (S.left input.new) (record { out_old = K.written out.old; out_new = K.written out.new; report_old = R.written report.old; report_new = R.written report.new }) (K.faults out.old) (K.faults out.new) (R.faults report.old) (R.faults report.new) }
-    ensures read { InputRises result (S.faults input.old) (S.faults input.new) }
-    ensures line { (EndsWithOwnLine result → ⊥) → ReportsStatus HasOpenRefusal (S.left input.old) result (R.written report.old) (R.written report.new) (R.faults report.old) (R.faults report.new) }
-    ensures own_line { PutsLineOrFault relayed_line (R.written report.old) (R.written report.new) result }
-    ensures out_quiet { result ≡ statuses.Done → K.faults out.new ≡ K.faults out.old }
-    ensures quiet { result ≡ statuses.Done → R.faults report.new ≡ R.faults report.old }
-    ensures out_later { K.faults out.old ≤ K.faults out.new }
-    ensures report_later { R.faults report.old ≤ R.faults report.new }
+    ensures { CarriedOut relay_promise (effects (input_effect S.left S.faults input.old input.new)
+        (sink_effect K.written K.faults out.old out.new) (sink_effect R.written R.faults report.old report.new)) result }
 {
     match pass_on(alloc, input, out) {
         Ok(relayed) => told(report, relayed),

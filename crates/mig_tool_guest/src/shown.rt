@@ -1,14 +1,13 @@
-ghost use Rattle.std.specs.Prelude.{◌≡◌, ◌≢◌, ◌⊎◌, string_bytes};
+ghost use Rattle.std.specs.Prelude.{◌≡◌, ◌⊎◌, string_bytes};
 ghost use Rattle.std.specs.Io.KnownBytes.{Appends};
 ghost use Rattle.mig_bytes.specs.Bytes.{AppendsPart};
 ghost use Rattle.mig_tool_report.specs.Outcome.{status_of};
 ghost use Rattle.mig_tool_report.specs.declared.outcome.Outcome.TheVariants as outcomes;
-ghost use Rattle.mig_tool_report.specs.declared.status.Status.TheVariants as statuses;
-ghost use Rattle.mig_tool_guest.specs.PassingSays.{HasOpenRefusal};
-ghost use Rattle.mig_tool_guest.specs.PassingSays.{ShowComes, ShowSays};
+ghost use Rattle.mig_tool_guest.specs.Promises.{show_promise};
 ghost use Rattle.mig_tool_guest.specs.Shown.{SaysShown};
 ghost use Rattle.mig_tool_guest.specs.ShownSteps.{outcome_of_shown, outcome_of_unshown};
-ghost use Rattle.mig_tool_report.specs.Statuses.{InputRises, NoneFailed, OutputRises, ReportsStatus};
+ghost use Rattle.mig_tool_report.specs.Statuses.{OutputRises};
+ghost use Rattle.mig_tool_report.specs.Promises.{CarriedOut, ComesTo, effects, input_effect, sink_effect, unreached};
 
 use mig_bytes::{Sink, Source, put_all};
 use mig_headers::{Cause, Place};
@@ -51,12 +50,8 @@ fn write_shown<K: Sink>(shown: ShownText, out: &mut K) -> Outcome
 
 /// Takes a stream, and writes a JSON text of its records that stand whole in front of the part that is refused.
 fn shown<S: Source, K: Sink>(alloc: Global, input: &mut S, out: &mut K) -> Outcome
-    ensures answer { ShowComes (S.left input.old) (S.left input.new) (K.written out.old) (K.written out.new) result }
-    ensures known { result ≢ outcomes.Usage }
+    ensures said { ComesTo show_promise (effects (input_effect S.left S.faults input.old input.new) (sink_effect K.written K.faults out.old out.new) unreached) result }
     ensures shown { SaysShown (status_of result) (S.left input.old) (S.left input.new) (K.written out.old) (K.written out.new) }
-    ensures kept { status_of result ≢ statuses.Done → status_of result ≢ statuses.Refused → status_of result ≢ statuses.WriteFault → out.new ≡ out.old }
-    ensures read { InputRises (status_of result) (S.faults input.old) (S.faults input.new) }
-    ensures write { OutputRises (status_of result) (K.faults out.old) (K.faults out.new) }
 {
     match show_text(alloc, input) {
         Ok(shown) => write_shown(shown, out),
@@ -72,14 +67,8 @@ pub fn show<S: Source, K: Sink, R: Sink>(
     out: &mut K,
     report: &mut R,
 ) -> Status
-    ensures said { ShowSays (S.left input.old) (S.left input.new) (K.written out.old) (K.written out.new) result }
-    ensures known { result ≢ statuses.Usage }
-    ensures shown { SaysShown result (S.left input.old) (S.left input.new) (K.written out.old) (K.written out.new) }
-    ensures kept { result ≢ statuses.Done → result ≢ statuses.Refused → result ≢ statuses.WriteFault → out.new ≡ out.old }
-    ensures read { InputRises result (S.faults input.old) (S.faults input.new) }
-    ensures write { OutputRises result (K.faults out.old) (K.faults out.new) }
-    ensures line { ReportsStatus HasOpenRefusal (S.left input.old) result (R.written report.old) (R.written report.new) (R.faults report.old) (R.faults report.new) }
-    ensures report_faults { NoneFailed result (R.faults report.old) (R.faults report.new) }
+    ensures { CarriedOut show_promise (effects (input_effect S.left S.faults input.old input.new)
+        (sink_effect K.written K.faults out.old out.new) (sink_effect R.written R.faults report.old report.new)) result }
 {
     let outcome = shown(alloc, input, out);
     finish(report, outcome)

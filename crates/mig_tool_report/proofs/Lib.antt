@@ -2,3 +2,4 @@ pub mod Common
 pub mod Reports
 pub mod Naming
 pub mod Statuses
+pub mod Promises

@@ -2,3 +2,4 @@ pub mod Words
 pub mod Report
 pub mod Outcome
 pub mod Statuses
+pub mod Promises

@@ -1,5 +1,5 @@
 -- What a command came to.
-use Rattle.std.specs.Prelude.{ℕ, List, []}
+use Rattle.std.specs.Prelude.{ℕ, List, [], ⊤}
 use Rattle.mig_tool_report.specs.declared.outcome.Outcome.{Outcome}
 use Rattle.mig_tool_report.specs.declared.outcome.Outcome.TheVariants as outcomes
 use Rattle.mig_tool_report.specs.declared.status.Status.{Status}
@@ -13,6 +13,13 @@ status_of outcomes.Usage = statuses.Usage
 status_of outcomes.ReadFault = statuses.ReadFault
 status_of outcomes.WriteFault = statuses.WriteFault
 status_of outcomes.Memory = statuses.Memory
+
+-- an outcome before which nothing is written
+abbrev pub IsUnwritten : Outcome → Type 0
+IsUnwritten (outcomes.Refused refusal) = ⊤
+IsUnwritten outcomes.ReadFault = ⊤
+IsUnwritten outcomes.Memory = ⊤
+IsUnwritten _ = ⊥
 
 -- the line that goes with it
 abbrev pub line_of : Outcome → List ℕ

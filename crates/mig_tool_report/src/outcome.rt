@@ -1,4 +1,4 @@
-ghost use Rattle.std.specs.Prelude.{◌≡◌, ◌≤◌, ◌++◌, decimal};
+ghost use Rattle.std.specs.Prelude.{◌≡◌, ◌≤◌, ◌++◌, codes, decimal};
 ghost use Rattle.mig_bytes.specs.Bytes.{Puts};
 ghost use Rattle.mig_bytes.specs.Faults.{HasCause};
 ghost use Rattle.mig_tool_report.specs.Outcome.{status_of, line_of};
@@ -318,14 +318,34 @@ pub fn put_ok<R: Sink>(report: &mut R, summary: Summary) -> Result<(), WriteFail
     put_all(report, b"\n")
 }
 
+/// Puts a line of two fields.
+fn put_two_fields<R: Sink>(
+    report: &mut R,
+    first: &[u8],
+    one: u64,
+    second: &[u8],
+    two: u64,
+) -> Result<(), WriteFailed>
+    ensures bytes { Puts ((first.now ++ decimal one) ++ ((second.now ++ decimal two) ++ codes "\n")) (R.written report.old) (R.written report.new) result }
+    ensures cause { HasCause (R.faults report.old) (R.faults report.new) result }
+{
+    put_field(report, first, one)?;
+    put_field(report, second, two)?;
+    put_all(report, b"\n")
+}
+
 /// Puts how a host was saved on the report.
 pub fn put_saved<R: Sink>(report: &mut R, summary: SaveSummary) -> Result<(), WriteFailed>
     ensures bytes { Puts (saved_line summary) (R.written report.old) (R.written report.new) result }
     ensures cause { HasCause (R.faults report.old) (R.faults report.new) result }
 {
-    put_field(report, b"ok rounds ", summary.rounds)?;
-    put_field(report, b" entries ", summary.entries)?;
-    put_all(report, b"\n")
+    put_two_fields(
+        report,
+        b"ok rounds ",
+        summary.rounds,
+        b" entries ",
+        summary.entries,
+    )
 }
 
 /// Puts how the host of `exercise` was saved on the report.
@@ -345,9 +365,7 @@ pub fn put_walked<R: Sink>(report: &mut R, summary: WalkSummary) -> Result<(), W
     ensures bytes { Puts (walked_line summary) (R.written report.old) (R.written report.new) result }
     ensures cause { HasCause (R.faults report.old) (R.faults report.new) result }
 {
-    put_field(report, b"ok frame ", summary.frame)?;
-    put_field(report, b" type ", summary.kind)?;
-    put_all(report, b"\n")
+    put_two_fields(report, b"ok frame ", summary.frame, b" type ", summary.kind)
 }
 
 /// Puts how many records and bytes of a stream were passed on on the report.
@@ -355,7 +373,11 @@ pub fn put_relayed<R: Sink>(report: &mut R, summary: RelaySummary) -> Result<(),
     ensures bytes { Puts (relayed_line summary) (R.written report.old) (R.written report.new) result }
     ensures cause { HasCause (R.faults report.old) (R.faults report.new) result }
 {
-    put_field(report, b"ok records ", summary.records)?;
-    put_field(report, b" bytes ", summary.bytes)?;
-    put_all(report, b"\n")
+    put_two_fields(
+        report,
+        b"ok records ",
+        summary.records,
+        b" bytes ",
+        summary.bytes,
+    )
 }

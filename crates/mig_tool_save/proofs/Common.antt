@@ -19,7 +19,6 @@ pub use Rattle.mig_libxl_form.specs.Spelled.{AcceptedStream}
 pub use Rattle.mig_machine.specs.MachineSeen.{history_of, machine_state}
 pub use Rattle.mig_machine.specs.Paced.{Paced}
 pub use Rattle.mig_machine_script.specs.ScriptLines.{LineOf}
-pub use Rattle.mig_tool_report.specs.Statuses.{Written}
 pub use Rattle.mig_tool_report.specs.declared.outcome.Outcome.{Outcome}
 pub use Rattle.mig_tool_report.specs.declared.outcome.Refusal.{Refusal}
 pub use Rattle.mig_tool_report.specs.declared.outcome.SaveSummary.{SaveSummary}

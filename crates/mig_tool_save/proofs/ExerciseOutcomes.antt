@@ -10,7 +10,16 @@ use Rattle.mig_restore.specs.declared.read.Reading.{Reading}
 use Rattle.mig_bytes.specs.declared.answer.Answer.{Answer}
 use Rattle.std.specs.Prelude.{◌*◌}
 use Rattle.mig_exercise.specs.ExerciseHosts.{data_count, exercise_canon_len}
-use Rattle.mig_tool_save.specs.Exercises.{Exercises, ExerciseSaved}
+use Rattle.std.specs.Prelude.{◌≢◌}
+use Rattle.mig_bytes.specs.Faults.{Rose}
+use Rattle.mig_tool_report.proofs.Promises.{unchanged}
+use Rattle.mig_tool_report.specs.Promises.{CarriedOut, Effects}
+use Rattle.mig_tool_report.specs.Report.{Reports, exercised_line, memory_line}
+use Rattle.mig_tool_report.specs.Statuses.{EndsWithOwnLine, InputRises, PutsLineOf, ReportsStatus, StatusSays}
+use Rattle.mig_tool_report.specs.declared.status.Status.{Status}
+use Rattle.mig_tool_report.specs.declared.status.Status.TheVariants as statuses
+use Rattle.mig_tool_save.specs.Promises.{exercise_promise}
+use Rattle.mig_tool_save.specs.Exercises.{Exercises, ExerciseSaved, SaysExercise}
 use Rattle.mig_bytes.specs.declared.answer.Answer.TheVariants as answers
 use Rattle.mig_tool_report.specs.declared.outcome.Outcome.TheVariants as outcomes
 use Rattle.mig_tool_report.specs.declared.outcome.Refusal.TheVariants as refusals
@@ -83,3 +92,57 @@ exercises seed n canon stream s size long few saved = record {
   few = few s.rounds saved.wrote.calls saved.wrote.again saved.wrote.paced;
   canon = saved.canon_is ∙ long saved.wrote.calls;
 }
+
+-- ---- what came of an exercise, which takes and writes nothing but its line
+
+module _ (seed n : ℕ) (e : Effects) (unread : e.input.Unread) (kept : e.out.Untouched) (input_quiet : e.input.failed_now ≡ e.input.failed) (out_quiet : e.out.failed_now ≡ e.out.failed) where
+  abbrev Said : Status → Type 0
+  Said status = SaysExercise seed n e.report.old e.report.new status
+
+  says : (told : Option (List ℕ)) (status : Status) → Said status
+      → StatusSays (λ input. (exercise_promise seed n).Done input e) (λ input. (exercise_promise seed n).DonePart input e) (exercise_promise seed n).Refuses told e.input.left status
+  says None status said = tt
+  says (Some input) statuses.Done said = said
+  says (Some input) statuses.WriteFault said = said
+  says (Some input) statuses.Memory said = tt
+  says (Some input) _ said = absurd said
+
+  known : (status : Status) → Said status → status ≢ statuses.Usage
+  known statuses.Done said = λ u. cc
+  known statuses.WriteFault said = λ u. cc
+  known statuses.Memory said = λ u. cc
+  known _ said = absurd said
+
+  read : (status : Status) → Said status → InputRises status e.input.failed e.input.failed_now
+  read statuses.Done said = input_quiet
+  read statuses.WriteFault said = input_quiet
+  read statuses.Memory said = input_quiet
+  read _ said = absurd said
+
+  own_line : (status : Status) → Said status → PutsLineOf exercised_line e.report.old e.report.new status
+  own_line statuses.Done said = (said.summary, said.reported)
+  own_line statuses.WriteFault said = (said.summary, said.reported)
+  own_line statuses.Memory said = tt
+  own_line _ said = absurd said
+
+  other_line : (status : Status) → Said status → (status ≡ statuses.Memory → Reports memory_line e.report.old e.report.new e.report.failed e.report.failed_now) → (EndsWithOwnLine status → ⊥)
+      → ReportsStatus (exercise_promise seed n).Refuses e.input.told status e.report.old e.report.new e.report.failed e.report.failed_now
+  other_line statuses.Done said line none = absurd (none tt)
+  other_line statuses.WriteFault said line none = absurd (none tt)
+  other_line statuses.Memory said line none = (memory_line, refl, line refl)
+  other_line _ said line none = absurd said
+
+  pub exercise_carried : (status : Status) → Said status → (status ≡ statuses.Done → e.report.failed_now ≡ e.report.failed) → (status ≡ statuses.WriteFault → Rose e.report.failed e.report.failed_now) → e.report.failed ≤ e.report.failed_now
+      → (status ≡ statuses.Memory → Reports memory_line e.report.old e.report.new e.report.failed e.report.failed_now) → CarriedOut (exercise_promise seed n) e status
+  exercise_carried status said quiet rises later line = record {
+    said = says e.input.told status said;
+    known = known status said;
+    kept = λ _. kept;
+    read = read status said;
+    write = rises;
+    line = other_line status said line;
+    own_line = own_line status said;
+    out_faults = unchanged status _ _ out_quiet;
+    report_faults = record { later = later; done = quiet };
+    besides = (unread, said);
+  }

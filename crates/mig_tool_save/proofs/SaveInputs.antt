@@ -6,7 +6,7 @@ use Rattle.mig_headers.specs.declared.image_fault.ImageCause.{ImageCause}
 use Rattle.mig_headers.specs.declared.image_fault.ImagePlace.{ImagePlace}
 use Rattle.mig_machine_script.specs.Scripts.{IsBadLine}
 use Rattle.mig_machine_script.proofs.OneScript.{never_both}
-use Rattle.mig_tool_save.specs.Saves.{IsOfInput}
+use Rattle.mig_tool_report.specs.Promises.{IsOfInput}
 use Rattle.mig_tool_save.specs.LiveSaves.{HasUnsoundPause}
 use Rattle.mig_tool_report.specs.declared.outcome.Refusal.TheVariants as refusals
 

@@ -16,7 +16,8 @@ use Rattle.mig_tool_report.specs.declared.outcome.Refusal.TheVariants as refusal
 use Rattle.mig_machine_script.specs.ScriptLines.{LineOf}
 use Rattle.mig_machine_script.specs.declared.script.ScriptAnswer.{ScriptAnswer}
 use Rattle.mig_machine_script.specs.declared.script.ScriptAnswer.TheVariants as scripts
-use Rattle.mig_tool_save.specs.Saves.{HasSaveRefusal, IsOfInput}
+use Rattle.mig_tool_report.specs.Promises.{IsOfInput}
+use Rattle.mig_tool_save.specs.Saves.{HasSaveRefusal}
 use Rattle.mig_tool_save.specs.LiveSaves.{HasHostAndScript, PausesUnsound, saved_host_at}
 use Rattle.mig_tool_save.specs.declared.saving.HostAndScript.{HostAndScript}
 

@@ -1,4 +1,4 @@
-ghost use Rattle.std.specs.Prelude.{◌≡◌, ◌≢◌, ◌≤◌, ◌⊎◌, IfOk, IfErr, OnOk, OnErr, IsErrOf};
+ghost use Rattle.std.specs.Prelude.{◌≡◌, ◌≤◌, ◌⊎◌, IfOk, IfErr, OnOk, OnErr, IsErrOf};
 ghost use Rattle.mig_guest.specs.Hosts.{most_saved_width};
 ghost use Rattle.std.specs.Io.KnownBytes.{Appends};
 ghost use Rattle.mig_bytes.specs.Bytes.{AppendsPart};
@@ -10,8 +10,8 @@ ghost use Rattle.mig_tool_report.specs.declared.outcome.Outcome.TheVariants as o
 ghost use Rattle.mig_tool_report.specs.declared.outcome.Refusal.TheVariants as refusals;
 ghost use Rattle.mig_tool_report.specs.declared.status.Status.TheVariants as statuses;
 ghost use Rattle.mig_dirtysave.specs.Unread.{WroteNoStream};
-ghost use Rattle.mig_tool_report.specs.Statuses.{EndsWithOwnLine, InputRises, PutsLineOrFault, ReportsStatus};
-ghost use Rattle.mig_tool_save.specs.Saves.{BreaksOff, HasSaveRefusal, RefusesPause, SaysSaved};
+ghost use Rattle.mig_tool_report.specs.Promises.{CarriedOut, effects, input_effect, sink_effect};
+ghost use Rattle.mig_tool_save.specs.Promises.{save_promise};
 ghost use Rattle.mig_tool_save.specs.LiveSaves.{IsUnasked, WroteLive, WroteLiveTo};
 ghost use Rattle.mig_tool_save.specs.SaveSteps.{ReadsHostToSave, ReadsHostAndScript, stop_of_image, stop_of_script, outcome_of_stop, ComesToNone};
 
@@ -180,19 +180,8 @@ pub fn save<S: Source, K: Sink, R: Sink>(
     out: &mut K,
     report: &mut R,
 ) -> Status
-    ensures said { SaysSaved (S.left input.old) (S.left input.new) (record { out_old = K.written out.old; out_new = K.written out.new; report_old = R.written report.old; report_new = R.written report.new }) result }
-    ensures known { result ≢ statuses.Usage }
-    ensures kept { result ≢ statuses.Done → result ≢ statuses.WriteFault → result ≢ statuses.Refused → out.new ≡ out.old }
-    ensures kept_refused { result ≡ statuses.Refused → (out.new ≡ out.old) ⊎ RefusesPause (S.left input.old) (R.written report.old) (R.written report.new) (R.faults report.old) (R.faults report.new) }
-    ensures no_stream { result ≡ statuses.Refused → WroteNoStream (K.written out.old) (K.written out.new) }
-    ensures breaks { result ≡ statuses.WriteFault → BreaksOff (record { out_old = K.written out.old; out_new = K.written out.new; report_old = R.written report.old; report_new = R.written report.new }) (K.faults out.old) (K.faults out.new) (R.faults report.old) (R.faults report.new) }
-    ensures read { InputRises result (S.faults input.old) (S.faults input.new) }
-    ensures line { (EndsWithOwnLine result → ⊥) → ReportsStatus HasSaveRefusal (S.left input.old) result (R.written report.old) (R.written report.new) (R.faults report.old) (R.faults report.new) }
-    ensures own_line { PutsLineOrFault saved_line (R.written report.old) (R.written report.new) result }
-    ensures out_quiet { result ≡ statuses.Done → K.faults out.new ≡ K.faults out.old }
-    ensures quiet { result ≡ statuses.Done → R.faults report.new ≡ R.faults report.old }
-    ensures out_later { K.faults out.old ≤ K.faults out.new }
-    ensures report_later { R.faults report.old ≤ R.faults report.new }
+    ensures { CarriedOut save_promise (effects (input_effect S.left S.faults input.old input.new)
+        (sink_effect K.written K.faults out.old out.new) (sink_effect R.written R.faults report.old report.new)) result }
 {
     let read = match host_and_script(alloc, input) {
         Ok(read) => read,

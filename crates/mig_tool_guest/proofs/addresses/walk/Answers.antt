@@ -1,16 +1,10 @@
-use Rattle.mig_tool_guest.proofs.Common.{FrameInStream}
-use Rattle.mig_tool_guest.proofs.Common.{HasWalkRefusal}
-use Rattle.mig_tool_guest.proofs.Walking.{found_says, found_reported}
+use Rattle.mig_tool_guest.proofs.Common.{FrameInStream, StreamHasFrame, HasWalkRefusal, Effects, effects, input_effect, sink_effect, unreached, untouched_sink}
+use Rattle.mig_tool_guest.specs.Promises.{HasFront}
+use Rattle.mig_tool_guest.proofs.Walking.{found_carried}
 use Rattle.mig_tool_guest.proofs.addresses.walk.Goals as goal
 
-pub returns-clause-said : goal.returns-clause-said
-returns-clause-said g c =
-    let told = g.S.Source.left c.args.input.now in
-    let left = g.S.Source.left c.frame_in_stream-found.new.input in
-    found_says (λ input summary. FrameInStream c.args.vcpu c.args.address input left summary) (HasWalkRefusal c.args.vcpu c.args.address) told left _ _ c.frame_in_stream-found.result c.report_found.result _ _ c.frame_in_stream-found.ensures.found c.report_found.ensures.told
-
-pub returns-clause-line : goal.returns-clause-line
-returns-clause-line g c = λ none.
-    let told = g.S.Source.left c.args.input.now in
-    let left = g.S.Source.left c.frame_in_stream-found.new.input in
-    found_reported (λ input summary. FrameInStream c.args.vcpu c.args.address input left summary) (HasWalkRefusal c.args.vcpu c.args.address) told left _ _ c.frame_in_stream-found.result c.report_found.result _ _ c.frame_in_stream-found.ensures.found c.report_found.ensures.told none
+pub returns : goal.returns
+returns g c =
+    let e : Effects = effects (input_effect g.S.Source.left g.S.Source.faults c.args.input.now c.frame_in_stream-found.new.input) unreached (sink_effect g.R.Sink.written g.R.Sink.faults c.args.report.now c.report_found.new.report) in
+    found_carried (HasFront (StreamHasFrame c.args.vcpu c.args.address)) (FrameInStream c.args.vcpu c.args.address) (HasWalkRefusal c.args.vcpu c.args.address) e untouched_sink c.frame_in_stream-found.result c.report_found.result
+    c.frame_in_stream-found.ensures.found c.frame_in_stream-found.ensures.unfound c.frame_in_stream-found.ensures.read c.report_found.ensures.told c.report_found.ensures.quiet c.report_found.ensures.later

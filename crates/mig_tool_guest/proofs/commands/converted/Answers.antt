@@ -1,10 +1,17 @@
-use Rattle.mig_tool_guest.proofs.Reporting.{came_of_legacy, not_converted}
+use Rattle.mig_tool_guest.proofs.Common.{GuestOf, refl, text_written, unwritten, inl, inr, convert_promise, effects, input_effect, sink_effect, unreached, Effects}
+use Rattle.mig_tool_guest.proofs.Reporting.{came_of_legacy, not_converted, not_read_count, not_written}
 use Rattle.mig_tool_guest.proofs.commands.converted.Goals as goal
 
-pub returns-in-Ok-clause-answer : goal.returns-in-Ok-clause-answer
-returns-in-Ok-clause-answer g c =
-    came_of_legacy (g.S.Source.left c.args.input.now) (g.S.Source.left c.read_legacy.new.src) _ _ c.in-Ok.guest c.write_canonical.result c.in-Ok.ensures.read (record { whole = c.in-Ok.ensures.streamed.whole; blank = c.in-Ok.ensures.streamed.blank })
-    c.write_canonical.ensures.done c.write_canonical.ensures.part c.write_canonical.ensures.answers
+pub returns-in-Ok : goal.returns-in-Ok
+returns-in-Ok g c =
+    let e : Effects = effects (input_effect g.S.Source.left g.S.Source.faults c.args.input.now c.read_legacy.new.src) (sink_effect g.K.Sink.written g.K.Sink.faults c.args.out.now c.write_canonical.new.out) unreached in
+    text_written convert_promise e c.write_canonical.result (inl refl) (inr refl)
+    (came_of_legacy _ _ _ _ c.in-Ok.guest c.write_canonical.result c.in-Ok.ensures.read (record { whole = c.in-Ok.ensures.streamed.whole; blank = c.in-Ok.ensures.streamed.blank })
+    c.write_canonical.ensures.done c.write_canonical.ensures.part c.write_canonical.ensures.answers)
+    c.write_canonical.ensures.answers c.in-Ok.ensures.faults c.write_canonical.ensures.write
 
-pub returns-in-Err-clause-answer : goal.returns-in-Err-clause-answer
-returns-in-Err-clause-answer g c = not_converted _ _ _ _ c.in-Err.answer _ c.in-Err.ensures.read c.unconverted.ensures
+pub returns-in-Err : goal.returns-in-Err
+returns-in-Err g c =
+    let e : Effects = effects (input_effect g.S.Source.left g.S.Source.faults c.args.input.now c.read_legacy.new.src) (sink_effect g.K.Sink.written g.K.Sink.faults c.args.out.now c.args.out.now) unreached in
+    unwritten convert_promise e c.unconverted.result (not_written _ c.in-Err.answer _ c.unconverted.ensures) (not_converted _ _ _ _ c.in-Err.answer _ c.in-Err.ensures.read c.unconverted.ensures)
+    (not_read_count GuestOf _ c.in-Err.answer _ _ _ c.unconverted.ensures c.in-Err.ensures.faults) refl refl

@@ -1,10 +1,17 @@
-use Rattle.mig_tool_guest.proofs.Reporting.{came, not_read}
+use Rattle.mig_tool_guest.proofs.Common.{Reading, refl, text_written, unwritten, inl, inr, normalise_promise, effects, input_effect, sink_effect, unreached, Effects}
+use Rattle.mig_tool_guest.proofs.Reporting.{came, not_read, not_read_count, not_written}
 use Rattle.mig_tool_guest.proofs.commands.normalised.Goals as goal
 
-pub returns-in-Ok-clause-answer : goal.returns-in-Ok-clause-answer
-returns-in-Ok-clause-answer g c =
-    came (g.S.Source.left c.args.input.now) (g.S.Source.left c.read_any.new.src) _ _ c.in-Ok.reading c.write_canonical.result c.in-Ok.ensures.read (record { whole = c.in-Ok.ensures.streamed.whole; blank = c.in-Ok.ensures.streamed.blank })
-    c.write_canonical.ensures.done c.write_canonical.ensures.part c.write_canonical.ensures.answers
+pub returns-in-Ok : goal.returns-in-Ok
+returns-in-Ok g c =
+    let e : Effects = effects (input_effect g.S.Source.left g.S.Source.faults c.args.input.now c.read_any.new.src) (sink_effect g.K.Sink.written g.K.Sink.faults c.args.out.now c.write_canonical.new.out) unreached in
+    text_written normalise_promise e c.write_canonical.result (inl refl) (inr refl)
+    (came _ _ _ _ c.in-Ok.reading c.write_canonical.result c.in-Ok.ensures.read (record { whole = c.in-Ok.ensures.streamed.whole; blank = c.in-Ok.ensures.streamed.blank })
+    c.write_canonical.ensures.done c.write_canonical.ensures.part c.write_canonical.ensures.answers)
+    c.write_canonical.ensures.answers c.in-Ok.ensures.faults c.write_canonical.ensures.write
 
-pub returns-in-Err-clause-answer : goal.returns-in-Err-clause-answer
-returns-in-Err-clause-answer g c = not_read _ _ _ _ c.in-Err.answer _ c.in-Err.ensures.read c.unread.ensures
+pub returns-in-Err : goal.returns-in-Err
+returns-in-Err g c =
+    let e : Effects = effects (input_effect g.S.Source.left g.S.Source.faults c.args.input.now c.read_any.new.src) (sink_effect g.K.Sink.written g.K.Sink.faults c.args.out.now c.args.out.now) unreached in
+    unwritten normalise_promise e c.unread.result (not_written _ c.in-Err.answer _ c.unread.ensures) (not_read _ _ _ _ c.in-Err.answer _ c.in-Err.ensures.read c.unread.ensures)
+    (not_read_count Reading _ c.in-Err.answer _ _ _ c.unread.ensures c.in-Err.ensures.faults) refl refl

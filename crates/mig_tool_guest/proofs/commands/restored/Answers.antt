@@ -1,7 +1,17 @@
-use Rattle.mig_tool_guest.proofs.Reporting.{came_restored}
+use Rattle.mig_tool_guest.proofs.Common.{Reading, refl, unwritten, restore_promise, effects, input_effect, sink_effect, unreached, Effects}
+use Rattle.mig_tool_guest.proofs.Reporting.{came_restored, not_read, not_read_count, not_written, restored_came}
 use Rattle.mig_tool_guest.proofs.commands.restored.Goals as goal
 
-pub returns-clause-answer : goal.returns-clause-answer
-returns-clause-answer g c =
-    came_restored (g.S.Source.left c.args.input.now) (g.S.Source.left c.read_any.new.src) _ _ c.in-Ok.reading c.args.base c.write_restored.result c.in-Ok.ensures.read (record { whole = c.in-Ok.ensures.streamed.whole; blank = c.in-Ok.ensures.streamed.blank }) c.requires
-    c.write_restored.ensures.done c.write_restored.ensures.part c.write_restored.ensures.answers
+pub returns : goal.returns
+returns g c =
+    let e : Effects = effects (input_effect g.S.Source.left g.S.Source.faults c.args.input.now c.read_any.new.src) (sink_effect g.K.Sink.written g.K.Sink.faults c.args.out.now c.write_restored.new.out) unreached in
+    restored_came c.args.base e c.write_restored.result
+    (came_restored _ _ _ _ c.in-Ok.reading c.args.base c.write_restored.result c.in-Ok.ensures.read (record { whole = c.in-Ok.ensures.streamed.whole; blank = c.in-Ok.ensures.streamed.blank }) c.requires
+    c.write_restored.ensures.done c.write_restored.ensures.part c.write_restored.ensures.answers)
+    c.write_restored.ensures.answers c.write_restored.ensures.kept c.in-Ok.ensures.faults c.write_restored.ensures.write
+
+pub returns-in-Err : goal.returns-in-Err
+returns-in-Err g c =
+    let e : Effects = effects (input_effect g.S.Source.left g.S.Source.faults c.args.input.now c.read_any.new.src) (sink_effect g.K.Sink.written g.K.Sink.faults c.args.out.now c.args.out.now) unreached in
+    unwritten (restore_promise c.args.base) e c.unread.result (not_written _ c.in-Err.answer _ c.unread.ensures) (not_read _ _ _ _ c.in-Err.answer _ c.in-Err.ensures.read c.unread.ensures)
+    (not_read_count Reading _ c.in-Err.answer _ _ _ c.unread.ensures c.in-Err.ensures.faults) refl refl

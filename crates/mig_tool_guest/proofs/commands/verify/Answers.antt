@@ -1,22 +1,29 @@
-use Rattle.mig_tool_guest.proofs.Common.{line_reported, says_of}
-use Rattle.mig_tool_guest.proofs.Common.{Ok, Err, refl, ◌∙◌, rules, HasStreamRefusal}
-use Rattle.mig_tool_guest.proofs.Reporting.{not_read, verified}
+use Rattle.mig_tool_guest.proofs.Common.{Reading, Ok, Err, refl, ◌∙◌, rules, inl, inr, HasStreamRefusal, AcceptedStream, effects, finished, input_effect, line_put, never_failed, no_line, sink_effect, unreached, untouched_sink, unwritten, verify_promise, Effects}
+use Rattle.mig_tool_guest.proofs.Reporting.{not_read, not_read_count, not_written, verified}
+use Rattle.mig_tool_guest.specs.Fronts.{Verified}
+use Rattle.mig_tool_guest.specs.Promises.{HasFront}
+use Rattle.mig_tool_report.specs.Report.{ok_line}
 use Rattle.std.specs.FinMap as maps
 use Rattle.mig_tool_guest.proofs.commands.verify.Goals as goal
 
-pub returns-in-Err-clause-said : goal.returns-in-Err-clause-said
-returns-in-Err-clause-said g c =
-    says_of _ _ HasStreamRefusal _ (g.S.Source.left c.read_any.new.src) c.unread.result c.finish.result c.finish.ensures.status (not_read _ _ _ _ c.in-Err.answer _ c.in-Err.ensures.read c.unread.ensures)
+pub returns-in-Err : goal.returns-in-Err
+returns-in-Err g c =
+    let e : Effects = effects (input_effect g.S.Source.left g.S.Source.faults c.args.input.now c.read_any.new.src) unreached (sink_effect g.R.Sink.written g.R.Sink.faults c.args.report.now c.finish.new.report) in
+    let none = not_written _ c.in-Err.answer _ c.unread.ensures in
+    finished verify_promise e c.unread.result c.finish.result c.finish.ensures.status
+    (unwritten verify_promise e c.unread.result none (not_read _ _ _ _ c.in-Err.answer _ c.in-Err.ensures.read c.unread.ensures) (not_read_count Reading _ c.in-Err.answer _ _ _ c.unread.ensures c.in-Err.ensures.faults) tt refl)
+    (never_failed c.unread.result c.finish.result none c.finish.ensures.status) c.finish.ensures.line c.finish.ensures.quiet c.finish.ensures.later (no_line ok_line _ _ c.unread.result c.finish.result none c.finish.ensures.status) tt
 
-pub returns-in-Err-clause-line : goal.returns-in-Err-clause-line
-returns-in-Err-clause-line g c = λ _.
-    line_reported (λ _. ⊥) (λ _. ⊥) HasStreamRefusal _ (g.S.Source.left c.read_any.new.src) c.unread.result c.finish.result _ _ _ _ c.finish.ensures.status
-    (not_read (λ _. ⊥) (λ _. ⊥) _ (g.S.Source.left c.read_any.new.src) c.in-Err.answer _ c.in-Err.ensures.read c.unread.ensures) c.finish.ensures.line
+pub returns-in-Ok-put_ok : goal.returns-in-Ok-put_ok
+returns-in-Ok-put_ok g c =
+    let e : Effects = effects (input_effect g.S.Source.left g.S.Source.faults c.args.input.now c.read_any.new.src) unreached (sink_effect g.R.Sink.written g.R.Sink.faults c.args.report.now c.put_ok.new.report) in
+    line_put ok_line (HasFront AcceptedStream) HasStreamRefusal Verified e _
+    (verified _ _ _ _ c.in-Ok.reading _ (Ok c.in-Ok-put_ok.field-0) _ c.in-Ok.ensures.read (search rules) (search rules) (c.frames.ensures.count ∙ maps.len-entries c.in-Ok.reading.guest.frames) (search rules) (search rules) c.in-Ok-put_ok.ensures.bytes refl)
+    (inl refl) c.in-Ok.ensures.faults untouched_sink (λ f. cc) (_, c.in-Ok-put_ok.ensures.bytes) c.in-Ok-put_ok.ensures.cause.later (λ _. c.in-Ok-put_ok.ensures.cause.quiet)
 
-pub returns-in-Ok-put_ok-clause-said : goal.returns-in-Ok-put_ok-clause-said
-returns-in-Ok-put_ok-clause-said g c =
-    verified _ _ _ _ c.in-Ok.reading _ (Ok c.in-Ok-put_ok.field-0) _ c.in-Ok.ensures.read (search rules) (search rules) (c.frames.ensures.count ∙ maps.len-entries c.in-Ok.reading.guest.frames) (search rules) (search rules) c.in-Ok-put_ok.ensures.bytes refl
-
-pub returns-clause-said : goal.returns-clause-said
-returns-clause-said g c =
-    verified _ _ _ _ c.in-Ok.reading _ (Err c.in-Err-put_ok.field-0) _ c.in-Ok.ensures.read (search rules) (search rules) (c.frames.ensures.count ∙ maps.len-entries c.in-Ok.reading.guest.frames) (search rules) (search rules) c.in-Err-put_ok.ensures.bytes refl
+pub returns : goal.returns
+returns g c =
+    let e : Effects = effects (input_effect g.S.Source.left g.S.Source.faults c.args.input.now c.read_any.new.src) unreached (sink_effect g.R.Sink.written g.R.Sink.faults c.args.report.now c.put_ok.new.report) in
+    line_put ok_line (HasFront AcceptedStream) HasStreamRefusal Verified e _
+    (verified _ _ _ _ c.in-Ok.reading _ (Err c.in-Err-put_ok.field-0) _ c.in-Ok.ensures.read (search rules) (search rules) (c.frames.ensures.count ∙ maps.len-entries c.in-Ok.reading.guest.frames) (search rules) (search rules) c.in-Err-put_ok.ensures.bytes refl)
+    (inr refl) c.in-Ok.ensures.faults untouched_sink (λ _. c.in-Err-put_ok.ensures.cause.failed) (_, c.in-Err-put_ok.ensures.bytes) c.in-Err-put_ok.ensures.cause.later (λ d. cc)

@@ -1,33 +1,29 @@
-use Rattle.mig_tool_guest.proofs.Common.{Written, inr, says_of, line_reported}
-use Rattle.mig_tool_guest.proofs.Relaying.{passed_says, passed_relayed, passed_breaks, passed_line, unpassed_comes, unpassed_relayed}
+use Rattle.mig_tool_guest.specs.Relays.{ReportStopped}
+use Rattle.mig_tool_report.specs.declared.status.Status.TheVariants as statuses
+use Rattle.mig_tool_guest.proofs.Common.{◌≡◌, inr, Effects, effects, input_effect, input_same, never_usage, own_line_alone, relay_promise, sink_effect, unchanged}
+use Rattle.mig_tool_guest.proofs.Relaying.{passed_says, passed_relayed, passed_breaks, passed_line, unpassed_carried}
 use Rattle.mig_tool_guest.proofs.passing.relay.Goals as goal
 
-pub returns-in-Ok-clause-said : goal.returns-in-Ok-clause-said
-returns-in-Ok-clause-said g c =
-    let w : Written = record { out_old = g.K.Sink.written c.args.out.now; out_new = g.K.Sink.written c.relay.new.sink; report_old = g.R.Sink.written c.args.report.now; report_new = g.R.Sink.written c.told.new.report } in
-    passed_says (g.S.Source.left c.args.input.now) (g.S.Source.left c.relay.new.src) w c.in-Ok.relayed c.told.result c.in-Ok.ensures.relayed c.told.ensures.done c.told.ensures.part c.told.ensures.answers
+pub returns-in-Ok : goal.returns-in-Ok
+returns-in-Ok g c =
+    let e : Effects = effects (input_effect g.S.Source.left g.S.Source.faults c.args.input.now c.relay.new.src) (sink_effect g.K.Sink.written g.K.Sink.faults c.args.out.now c.relay.new.sink)
+    (sink_effect g.R.Sink.written g.R.Sink.faults c.args.report.now c.told.new.report) in
+    let counts = c.in-Ok.ensures.faults in
+    let breaks : c.told.result ≡ statuses.WriteFault → ReportStopped e = λ failed. passed_breaks e c.in-Ok.relayed c.in-Ok.ensures.relayed counts.1 (c.told.ensures.rose failed) (c.told.ensures.part failed) in record {
+      said = passed_says (g.S.Source.left c.args.input.now) e c.in-Ok.relayed c.told.result c.in-Ok.ensures.relayed c.told.ensures.done c.told.ensures.part c.told.ensures.answers;
+      known = never_usage c.told.result c.told.ensures.answers;
+      kept = λ never. absurd (never tt);
+      read = input_same c.told.result _ _ c.told.ensures.answers counts.0;
+      write = λ failed. inr (c.told.ensures.rose failed);
+      line = λ none. own_line_alone c.told.result c.told.ensures.answers none;
+      own_line = passed_line _ _ c.in-Ok.relayed c.told.result c.told.ensures.done c.told.ensures.part c.told.ensures.answers;
+      out_faults = unchanged c.told.result _ _ counts.1;
+      report_faults = record { later = c.told.ensures.later; done = c.told.ensures.quiet };
+      besides = record { says = passed_relayed (g.S.Source.left c.args.input.now) (g.S.Source.left c.relay.new.src) _ _ c.in-Ok.relayed c.told.result c.in-Ok.ensures.relayed c.told.ensures.answers; broke = λ failed. inr (breaks failed) };
+    }
 
-pub returns-in-Ok-clause-relayed : goal.returns-in-Ok-clause-relayed
-returns-in-Ok-clause-relayed g c = passed_relayed (g.S.Source.left c.args.input.now) (g.S.Source.left c.relay.new.src) _ _ c.in-Ok.relayed c.told.result c.in-Ok.ensures.relayed c.told.ensures.answers
-
-pub returns-in-Ok-clause-breaks : goal.returns-in-Ok-clause-breaks
-returns-in-Ok-clause-breaks g c = λ failed.
-    inr (passed_breaks (g.S.Source.left c.args.input.now) (g.S.Source.left c.relay.new.src) _ _ _ _ c.in-Ok.relayed _ _ _ _ c.in-Ok.ensures.relayed c.in-Ok.ensures.faults.1 (c.told.ensures.rose failed) (c.told.ensures.part failed))
-
-pub returns-in-Ok-clause-own_line : goal.returns-in-Ok-clause-own_line
-returns-in-Ok-clause-own_line g c = passed_line _ _ c.in-Ok.relayed c.told.result c.told.ensures.done c.told.ensures.part c.told.ensures.answers
-
-pub returns-in-Err-clause-said : goal.returns-in-Err-clause-said
-returns-in-Err-clause-said g c =
-    let w : Written = record { out_old = g.K.Sink.written c.args.out.now; out_new = g.K.Sink.written c.relay.new.sink; report_old = g.R.Sink.written c.args.report.now; report_new = g.R.Sink.written c.finish.new.report } in
-    says_of _ _ _ _ _ c.unrelayed.result c.finish.result c.finish.ensures.status
-    (unpassed_comes (g.S.Source.left c.args.input.now) (g.S.Source.left c.relay.new.src) w c.in-Err.answer c.unrelayed.result c.in-Err.ensures.relayed c.unrelayed.ensures)
-
-pub returns-in-Err-clause-relayed : goal.returns-in-Err-clause-relayed
-returns-in-Err-clause-relayed g c = unpassed_relayed (g.S.Source.left c.args.input.now) (g.S.Source.left c.relay.new.src) _ _ c.in-Err.answer c.unrelayed.result c.finish.result c.in-Err.ensures.relayed c.unrelayed.ensures c.finish.ensures.status
-
-pub returns-in-Err-clause-line : goal.returns-in-Err-clause-line
-returns-in-Err-clause-line g c = λ _.
-    let w : Written = record { out_old = g.K.Sink.written c.args.out.now; out_new = g.K.Sink.written c.relay.new.sink; report_old = g.R.Sink.written c.args.report.now; report_new = g.R.Sink.written c.finish.new.report } in
-    line_reported _ _ _ _ _ c.unrelayed.result c.finish.result _ _ _ _ c.finish.ensures.status
-    (unpassed_comes (g.S.Source.left c.args.input.now) (g.S.Source.left c.relay.new.src) w c.in-Err.answer c.unrelayed.result c.in-Err.ensures.relayed c.unrelayed.ensures) c.finish.ensures.line
+pub returns-in-Err : goal.returns-in-Err
+returns-in-Err g c =
+    let e : Effects = effects (input_effect g.S.Source.left g.S.Source.faults c.args.input.now c.relay.new.src) (sink_effect g.K.Sink.written g.K.Sink.faults c.args.out.now c.relay.new.sink)
+    (sink_effect g.R.Sink.written g.R.Sink.faults c.args.report.now c.finish.new.report) in
+    unpassed_carried e c.in-Err.answer c.unrelayed.result c.finish.result c.unrelayed.ensures c.finish.ensures.status c.in-Err.ensures.relayed c.in-Err.ensures.faults c.finish.ensures.line c.finish.ensures.later

@@ -1,5 +1,5 @@
 use Rattle.mig_tool_report.proofs.Common.{puts_then, puts_stop}
-use Rattle.mig_tool_report.proofs.outcome.put_saved.Goals as goal
+use Rattle.mig_tool_report.proofs.outcome.put_two_fields.Goals as goal
 
 pub returns-in_err-put_field-clause-bytes : goal.returns-in_err-put_field-clause-bytes
 returns-in_err-put_field-clause-bytes g c = puts_stop _ _ _ _ _ _ c.from_residual.result c.from_residual.ensures.1 c.in_err-put_field.ensures.bytes

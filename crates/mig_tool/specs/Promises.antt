@@ -1,0 +1,18 @@
+-- What the program promises of each command.
+use Rattle.mig_tool_report.specs.Promises.{Promise}
+use Rattle.mig_tool_report.specs.declared.command.Command.{Command}
+use Rattle.mig_tool_report.specs.declared.command.Command.TheVariants.{Normalise, Restore, Verify, Convert, Save, Exercise, Walk, WalkImage, Relay, Show}
+use Rattle.mig_tool_guest.specs.Promises.{convert_promise, normalise_promise, relay_promise, restore_promise, show_promise, verify_promise, walk_image_promise, walk_promise}
+use Rattle.mig_tool_save.specs.Promises.{exercise_promise, save_promise}
+
+abbrev pub promise_of : Command → Promise
+promise_of Normalise = normalise_promise
+promise_of (Restore base) = restore_promise base
+promise_of Verify = verify_promise
+promise_of Convert = convert_promise
+promise_of Save = save_promise
+promise_of (Exercise seed n) = exercise_promise seed n
+promise_of (Walk id at) = walk_promise id at
+promise_of (WalkImage id at) = walk_image_promise id at
+promise_of Relay = relay_promise
+promise_of Show = show_promise
