@@ -10,16 +10,20 @@ use std::alloc::Global;
 
 /// Does what the words say: reads `input`, writes on `out`, and puts the line of the status on `report`.
 ///
-/// `normalise` takes a stream and writes it in its canonical form. `convert` takes a legacy stream and writes the canonical
-/// stream of its guest. `restore` takes a stream and writes the image of its
-/// guest, with machine frames counted up from the base. `verify` takes a stream and says on `report` what it is. `save` takes
-/// the image of a host and a script, writes the host as a stream while the script runs, and says on `report` how. `exercise`
-/// reads nothing: it saves a host of so many frames in memory, whose contents and script follow from the seed, reads what was
-/// written, and says on `report` what it came to. `walk` takes a stream, and says on `report` which frame of its guest an
-/// address means to a vCPU; `walkimage` takes the image of a host, and says which machine frame. `relay` takes a stream, judges
-/// it part by part, and writes what it took once it is judged, and says on `report` how much that was. `show` takes a stream,
-/// and writes a JSON text of its records that stand whole in front of the part that is refused. Each
-/// status says what it says however the input is cut, and whatever failed before; want of memory may come at any time.
+/// | words | takes | writes on `out` | says on `report` |
+/// |---|---|---|---|
+/// | `normalise` | a stream | its canonical form | |
+/// | `convert` | a legacy stream | the canonical stream of its guest | |
+/// | `restore`, `restore BASE` | a stream | the image of its guest's host, with machine frames counted up from BASE | |
+/// | `verify` | a stream | | what it is |
+/// | `save` | the image of a host, and a script | the host as a stream, while the script runs | how it was saved |
+/// | `exercise SEED FRAMES` | nothing | | what a save of a host of its own came to |
+/// | `walk VCPU ADDRESS` | a stream | | the frame of its guest that the address means |
+/// | `walkimage VCPU ADDRESS` | the image of a host | | the machine frame that the address means |
+/// | `relay` | a stream | what it took, once that is judged | how much that was |
+/// | `show` | a stream | a JSON text of the records in front of its end, or of the part that is refused | |
+///
+/// A status says the same however the input is cut, and whatever failed before. Want of memory may come at any time.
 pub fn run<S: Source, K: Sink, R: Sink>(
     alloc: Global,
     words: &[String],

@@ -151,21 +151,6 @@ line_put line Accepts Refuses Says e status said answers same idle rises own lat
   besides = tt;
 }
 
--- a promise of which more is said besides
-pub and_besides : (p : Promise) (Also : Effects → Status → Type 0) (e : Effects) (status : Status) → CarriedOut p e status → Also e status → CarriedOut (record p { Besides = Also }) e status
-and_besides p Also e status c also = record {
-  said = c.said;
-  known = c.known;
-  kept = c.kept;
-  read = c.read;
-  write = c.write;
-  line = c.line;
-  own_line = c.own_line;
-  out_faults = c.out_faults;
-  report_faults = c.report_faults;
-  besides = also;
-}
-
 -- a command that puts a line alone was carried out so, whatever the output is, where that is as it was
 pub beside : {Summary : Type 0} (line : Summary → List ℕ) (Accepts : List ℕ → Type 0) (Refuses : Refusing) (Says : (List ℕ → Type 0) → List ℕ → Option (List ℕ) → Type 0) (input : InputEffect) (out report : SinkEffect) (status : Status) → IsUntouched out
     → CarriedOut (reports_line line Accepts Refuses Says) (effects input unreached report) status → CarriedOut (reports_line line Accepts Refuses Says) (effects input out report) status
