@@ -33,7 +33,6 @@ pub use Rattle.mig_headers.specs.declared.fault.ContextFault.{ContextFault}
 pub use Rattle.mig_headers.specs.declared.kind.Kind.{Kind}
 pub use Rattle.mig_headers.specs.declared.kind.Kind.TheVariants.{Hvm, Pv}
 pub use Rattle.mig_headers.specs.RecordTypes.{most_body}
-pub use Rattle.mig_host_view.specs.LocaliseSteps.{filled_at, filled_where_listed}
 pub use Rattle.mig_host_view.specs.Localised.{localised, localised_frame, localised_of, localised_page, renamed, renamed_frame, renamed_page, renamed_part}
 pub use Rattle.mig_host_view.specs.Normalised.{cut_by, normalised, normalised_of, part_seen}
 pub use Rattle.mig_host_view.specs.RenamedContexts.{field_named, renamed_context, value_renamed}

@@ -1,9 +1,8 @@
 use Rattle.mig_tool_save.proofs.Common.{Err, ap, ◌≡◌, ℕ, List, refl, subst, ◌≤◌, most_saved_width, LineOf, history_of, SaveAnswer, ComesToNone}
 use Rattle.std.proofs.Common.{rules}
 use Rattle.mig_dirtysave.specs.declared.answer.SaveReport.{SaveReport}
-use Rattle.mig_tool_save.proofs.SaveOutcomes.{unwritten, nothing_written}
-use Rattle.mig_tool_save.proofs.Lives.{wrote_live, wrote_live_to, tight_of, never_fails, pauses_so, left_no_stream, ends, had_memory, no_write, honest, PausesSo, at_end}
-use Rattle.mig_dirtysave_rounds.specs.Live.{StaysSame}
+use Rattle.mig_tool_save.proofs.SaveOutcomes.{nothing_written}
+use Rattle.mig_tool_save.proofs.Lives.{wrote_live, wrote_live_to, tight_of, never_fails, pauses_so, left_no_stream, ends, had_memory, no_write}
 use Rattle.mig_tool_report.specs.declared.outcome.Outcome.TheVariants as outcomes
 use Rattle.mig_tool_save.proofs.saving.save_machine.Goals as goal
 
