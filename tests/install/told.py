@@ -142,7 +142,7 @@ def verbs_and_options():
 
 
 def commands_and_lines():
-    """Each command has its words in mig_tool(1) and says what it does; each form of a line and each status stands there."""
+    """Each command has its words in mig_tool(1) and says what it does; each form of a line and each status stands there, the faults as one."""
     text = page('mig_tool')
     synopsis, told = plain(section(text, 'SYNOPSIS')), section(text, 'COMMANDS')
     for name, words in commands().items():
@@ -155,7 +155,7 @@ def commands_and_lines():
     forms = [form for row in re.findall(r'^\| \d \| (.*)', rows, re.M) for form in re.findall('`((?:ok|fault|refused|usage)[ :][^`]*)`', row)]
     yield from wanted(len(forms), 10)
     for form in forms:
-        if form.partition(': restore')[0] not in lines:
+        if re.sub('^fault: .*', 'fault: WHAT', form.partition(': restore')[0]) not in lines:
             yield 'no line ' + form
     if 'differs D' not in lines:
         yield 'no line with differs'
