@@ -107,15 +107,16 @@ class Crates:
     def size(self, crate):
         return sum(os.path.getsize(os.path.join(COPIES, path)) for path in self.sources.files(crate))
 
-    def words(self, crate, jobs):
-        """The words of `rattle build` for a crate, but where what is made goes."""
+    def words(self, crate, jobs, rooms=(RLIBS,)):
+        """The words of `rattle build` for a crate whose libraries stand in these folders, but where what is made goes."""
         folder, (below, of_kit) = self.kit.folder, self.sources.libraries(crate)
         words = ['--crate-name', crate, 'src/main.rt' if crate == resolve.NAME else 'src/lib.rt']
         for name in ['std'] + of_kit:
             words += ['--extern', '%s=%s/rlibs/%s.rlib' % (name, folder, name)]
         for name in below:
-            words += ['--extern', '%s=%s/%s.rlib' % (name, RLIBS, name)]
-        words += ['-L', 'dependency=%s/rlibs' % folder, '-L', 'dependency=' + RLIBS]
+            words += ['--extern', '%s=%s' % (name, library(name, rooms))]
+        for room in folder + '/rlibs', *rooms:
+            words += ['-L', 'dependency=' + room]
         words += ['--antt-project', folder + '/rattle/logic/antt-project.json', '--logic-built', folder + '/logic_built']
         words += ['--links', crate + '=', '--jobs', str(jobs)]
         if crate == resolve.NAME:
@@ -133,6 +134,12 @@ class Crates:
         with open(kept, 'w', encoding='ascii') as mark:
             mark.write(self.marks[crate])
         return time.monotonic() - began
+
+
+def library(name, rooms):
+    """The library of this name in the first of the folders that has it."""
+    paths = ['%s/%s.rlib' % (room, name) for room in rooms]
+    return next(filter(os.path.exists, paths), paths[0])
 
 
 def text_of(path):
@@ -188,3 +195,11 @@ def build(kit, anew, tell):
     words = '--target', TARGET, '--toolchain', kit.folder + '/toolchain', '-o', PROGRAM, OBJECT
     call('the program', ROOM, kit.folder + '/bin/rattle-link', *words, kit.folder + '/c/libos_c.a', kit.folder + '/c/liblibc_c.a')
     return crates.sources.checksum()
+
+
+def build_object(kit, rooms, made):
+    """Proves the program's own crate alone, over libraries that stand proved in these folders, and makes its object file."""
+    os.makedirs(ROOM, exist_ok=True)
+    crates = Crates(kit)
+    words = crates.words(resolve.NAME, min(len(os.sched_getaffinity(0)), MOST_AT_ONCE), [os.path.abspath(it) for it in rooms])
+    call(resolve.NAME, os.path.join(COPIES, 'crates', resolve.NAME), kit.rattle, 'build', *words, '-o', os.path.abspath(made))
