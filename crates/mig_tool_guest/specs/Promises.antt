@@ -16,7 +16,7 @@ use Rattle.mig_tool_guest.specs.Addresses.{AddressReported, FrameInHost, FrameIn
 use Rattle.mig_tool_guest.specs.Fronts.{Accepting, Normalised, PartWritten, Restored, Verified, restored_text}
 use Rattle.mig_tool_guest.specs.Refusals.{HasLegacyRefusal, HasOpenRefusal, HasStreamRefusal, HasWalkImageRefusal, HasWalkRefusal}
 use Rattle.mig_tool_guest.specs.Relays.{FrontRelayed, PassableFront, Relays}
-use Rattle.mig_tool_guest.specs.Shown.{FrontShown, PartShown, SaysShown}
+use Rattle.mig_tool_guest.specs.Shown.{FrontShown, IsShown, PartShown}
 
 -- a front of the input is accepted with some guest
 pub record HasFront (Accepts : Accepting) (input : List ℕ) : Type 0 where
@@ -75,5 +75,5 @@ abbrev pub show_promise : Promise
 show_promise = record (writes_text HasPassableFront HasOpenRefusal FrontShown (λ input. PartShown (Some input))) {
   MayWrite = λ status. (status ≡ statuses.Refused) ⊎ ((status ≡ statuses.Done) ⊎ (status ≡ statuses.WriteFault));
   WritesRefused = ⊤;
-  Besides = λ e status. SaysShown status e.input.told e.input.left e.out.old e.out.new;
+  Besides = λ e status. IsShown status e;
 }

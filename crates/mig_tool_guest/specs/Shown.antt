@@ -6,6 +6,8 @@ use Rattle.mig_bytes.specs.Bytes.{AppendsPart}
 use Rattle.mig_headers.specs.declared.fault.Cause.{Cause}
 use Rattle.mig_headers.specs.declared.fault.Place.{Place}
 use Rattle.mig_show.specs.Shows.{Shows, tree_line}
+use Rattle.mig_tool_report.specs.Promises.{Effects}
+use Rattle.mig_tool_report.specs.Statuses.{OutputRises}
 use Rattle.mig_tool_report.specs.declared.status.Status.{Status}
 use Rattle.mig_tool_report.specs.declared.status.Status.TheVariants as statuses
 use Rattle.mig_tool_guest.specs.Relays.{PassableFront}
@@ -33,3 +35,8 @@ SaysShown statuses.Done told left old new = (tree : Data) × Shows told left Non
 SaysShown statuses.Refused told left old new = (place : Place) × (cause : Cause) × (tree : Data) × Shows told left (Some (place, cause)) tree × Appends old new (tree_line tree)
 SaysShown statuses.WriteFault told left old new = PartShown told left old new
 SaysShown _ told left old new = ⊤
+
+-- the same, and the count of the output's failed writes rose exactly with status 4
+pub record IsShown (status : Status) (e : Effects) : Type 0 where
+  pub says : SaysShown status e.input.told e.input.left e.out.old e.out.new
+  pub write : OutputRises status e.out.failed e.out.failed_now

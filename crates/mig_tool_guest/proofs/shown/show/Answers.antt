@@ -1,5 +1,5 @@
 use Rattle.mig_tool_guest.proofs.Common.{ComesTo, finished, text_rose, show_promise, effects, input_effect, sink_effect, Effects, subst, sym}
-use Rattle.mig_tool_guest.specs.Shown.{SaysShown}
+use Rattle.mig_tool_guest.specs.Shown.{IsShown}
 use Rattle.mig_tool_guest.proofs.shown.show.Goals as goal
 
 pub returns : goal.returns
@@ -9,4 +9,4 @@ returns g c =
     let k = c.shown-outcome.ensures.said in
     let came : ComesTo show_promise e c.shown-outcome.result = record { said = k.said; known = k.known; kept = k.kept; read = k.read; write = k.write } in
     finished show_promise e c.shown-outcome.result c.finish.result c.finish.ensures.status came (text_rose c.shown-outcome.result c.finish.result _ _ c.finish.ensures.status came.write)
-    c.finish.ensures.line c.finish.ensures.quiet c.finish.ensures.later tt (subst (λ s. SaysShown s e.input.told e.input.left e.out.old e.out.new) (sym c.finish.ensures.status) c.shown-outcome.ensures.shown)
+    c.finish.ensures.line c.finish.ensures.quiet c.finish.ensures.later tt (subst (λ s. IsShown s e) (sym c.finish.ensures.status) (record { says = c.shown-outcome.ensures.shown; write = k.write }))
