@@ -98,15 +98,10 @@ module _ (at now : ℕ → Cell) (g : IsGrown at) (p n machine pfn : ℕ) (h : H
 
   -- the way to a number goes on as it did, or it is the new one
   goes : (q m : ℕ) → q ≢ n → ((q ≡ p) × (bit_at m (at p).depth ≡ bit_at machine (at p).depth)) ⊎ (next_cell (now q) m ≡ next_cell (at q) m)
-  goes q m ne = by (cases_eq q p)
-    where
-      sides : (cases : (bit_at m (at p).depth ≡ bit_at machine (at p).depth) ⊎ (bit_at m (at p).depth ≢ bit_at machine (at p).depth)) → q ≡ p → ((q ≡ p) × (bit_at m (at p).depth ≡ bit_at machine (at p).depth)) ⊎ (next_cell (now q) m ≡ next_cell (at q) m)
-      sides (inl e) is = inl (is, e)
-      sides (inr non) is = inr (h.still q m ne (λ _ e. non e))
-
-      by : (q ≡ p) ⊎ (q ≢ p) → ((q ≡ p) × (bit_at m (at p).depth ≡ bit_at machine (at p).depth)) ⊎ (next_cell (now q) m ≡ next_cell (at q) m)
-      by (inl e) = sides (cases_eq (bit_at m (at p).depth) (bit_at machine (at p).depth)) e
-      by (inr non) = inr (h.still q m ne (λ e _. non e))
+  goes q m ne = elim (cases_eq q p) [
+    | inl is ↦ elim (cases_eq (bit_at m (at p).depth) (bit_at machine (at p).depth)) [ inl e ↦ inl (is, e) | inr non ↦ inr (h.still q m ne (λ _ e. non e)) ]
+    | inr non ↦ inr (h.still q m ne (λ e _. non e))
+  ]
 
   -- the way to a number goes on from p to the new cell
   to_new : (m : ℕ) → bit_at m (at p).depth ≡ bit_at machine (at p).depth → IsNext (now p) m (now n)
@@ -201,18 +196,16 @@ module _ (at now : ℕ → Cell) (g : IsGrown at) (p n machine pfn : ℕ) (h : H
       by (inr a) (inr b) = g.sole i j (old i a used_i) (old j b used_j) (sym (h.machines i a) ∙ e ∙ h.machines j b)
 
   hung_low : (i : ℕ) → (now i).used ≡ true → (now i).depth ≤ 40
-  hung_low i used = by (cases_eq i n)
-    where
-      by : (i ≡ n) ⊎ (i ≢ n) → (now i).depth ≤ 40
-      by (inl e) = let d = ap (λ k. (now k).depth) e in omega (arith, d, depth_here, room)
-      by (inr ne) = omega (arith, h.depth i ne, g.low i (old i ne used))
+  hung_low i used = elim (cases_eq i n) [
+    | inl e ↦ let d = ap (λ k. (now k).depth) e in omega (arith, d, depth_here, room)
+    | inr ne ↦ omega (arith, h.depth i ne, g.low i (old i ne used))
+  ]
 
   hung_inside : (i : ℕ) → 0 < i → (now i).used ≡ true → (now i).machine < machine_limit
-  hung_inside i lt used = by (cases_eq i n)
-    where
-      by : (i ≡ n) ⊎ (i ≢ n) → (now i).machine < machine_limit
-      by (inl e) = let d = ap (λ k. (now k).machine) e in omega (arith, d, machine_here, small)
-      by (inr ne) = omega (arith, h.machines i ne, g.inside i lt (old i ne used))
+  hung_inside i lt used = elim (cases_eq i n) [
+    | inl e ↦ let d = ap (λ k. (now k).machine) e in omega (arith, d, machine_here, small)
+    | inr ne ↦ omega (arith, h.machines i ne, g.inside i lt (old i ne used))
+  ]
 
   pub grown_hung : IsGrown now
   grown_hung =
@@ -252,12 +245,10 @@ module _ (at now : ℕ → Cell) (g : IsGrown at) (i l : ℕ) (h : Lifted at now
 
   -- the lowest bits, as far as they lead, are the same
   bits : (q : ℕ) → q ≢ l → Agree (at q).depth (now q).machine (at q).machine
-  bits q ne k lt = by (cases_eq q i)
-    where
-      by : (q ≡ i) ⊎ (q ≢ i) → bit_at (now q).machine k ≡ bit_at (at q).machine k
-      by (inl e) =
-          ap (λ x. bit_at (now x).machine k) e ∙ ap (λ x. bit_at x k) (h.machine (λ f. ne (e ∙ f))) ∙ same k (subst (λ x. k < (at x).depth) e lt) ∙ ap (λ x. bit_at (at x).machine k) (sym e)
-      by (inr non) = ap (λ x. bit_at x k) (h.machines q ne non)
+  bits q ne k lt = elim (cases_eq q i) [
+    | inl e ↦ ap (λ x. bit_at (now x).machine k) e ∙ ap (λ x. bit_at x k) (h.machine (λ f. ne (e ∙ f))) ∙ same k (subst (λ x. k < (at x).depth) e lt) ∙ ap (λ x. bit_at (at x).machine k) (sym e)
+    | inr non ↦ ap (λ x. bit_at x k) (h.machines q ne non)
+  ]
 
   lifted_next : (q m : ℕ) → (now q).used ≡ true → 0 < next_cell (now q) m → IsNext (now q) m (now (next_cell (now q) m))
   lifted_next q m used lt = by (cases_eq (next_cell (at q) m) l)
@@ -303,11 +294,10 @@ module _ (at now : ℕ → Cell) (g : IsGrown at) (i l : ℕ) (h : Lifted at now
       by (inr a) (inr b) = g.sole p q (before p used_p) (before q used_q) (sym (h.machines p (left p used_p) a) ∙ e ∙ h.machines q (left q used_q) b)
 
   lifted_inside : (q : ℕ) → 0 < q → (now q).used ≡ true → (now q).machine < machine_limit
-  lifted_inside q lt used = by (cases_eq q i)
-    where
-      by : (q ≡ i) ⊎ (q ≢ i) → (now q).machine < machine_limit
-      by (inl e) = let f = ap (λ k. (now k).machine) e ∙ h.machine (λ k. left q used (e ∙ k)) in omega (arith, f, g.inside l some used_l)
-      by (inr non) = omega (arith, h.machines q (left q used) non, g.inside q lt (before q used))
+  lifted_inside q lt used = elim (cases_eq q i) [
+    | inl e ↦ let f = ap (λ k. (now k).machine) e ∙ h.machine (λ k. left q used (e ∙ k)) in omega (arith, f, g.inside l some used_l)
+    | inr non ↦ omega (arith, h.machines q (left q used) non, g.inside q lt (before q used))
+  ]
 
   pub grown_lifted : IsGrown now
   grown_lifted =

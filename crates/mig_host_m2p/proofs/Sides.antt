@@ -35,25 +35,11 @@ module _ (c : Cell) where
   led_other (suc a) zero to lt_a lt_b ne = refl
   led_other (suc a) (suc b) to lt_a lt_b ne = absurd (ne (omega (arith, lt_a, lt_b)))
 
-  pub led_used : (b to : ℕ) → (led_on c b to).used ≡ c.used
+  -- what no side is part of stays
+  pub led_same : {X : Type 0} (f : Cell → X) → ((z o : ℕ) → f (record c { zero = z; one = o }) ≡ f c) → (b to : ℕ) → f (led_on c b to) ≡ f c
   unfolding led_on
-  led_used zero to = refl
-  led_used (suc b) to = refl
-
-  pub led_machine : (b to : ℕ) → (led_on c b to).machine ≡ c.machine
-  unfolding led_on
-  led_machine zero to = refl
-  led_machine (suc b) to = refl
-
-  pub led_pfn : (b to : ℕ) → (led_on c b to).pfn ≡ c.pfn
-  unfolding led_on
-  led_pfn zero to = refl
-  led_pfn (suc b) to = refl
-
-  pub led_depth : (b to : ℕ) → (led_on c b to).depth ≡ c.depth
-  unfolding led_on
-  led_depth zero to = refl
-  led_depth (suc b) to = refl
+  led_same f same zero to = same to c.one
+  led_same f same (suc b) to = same c.zero to
 
 -- where the way to a number leads after the way to another was changed
 module _ (c : Cell) (machine to m : ℕ) where
@@ -61,7 +47,7 @@ module _ (c : Cell) (machine to m : ℕ) where
   l = led c machine to
 
   at_depth : next_cell l m ≡ below_on l (bit_at m c.depth)
-  at_depth = ap (λ d. below_on l (bit_at m d)) (led_depth c (bit_at machine c.depth) to)
+  at_depth = ap (λ d. below_on l (bit_at m d)) (led_same c (λ (x : Cell). x.depth) (λ z o. refl) (bit_at machine c.depth) to)
 
   pub leads_now : bit_at m c.depth ≡ bit_at machine c.depth → next_cell l m ≡ to
   leads_now e = at_depth ∙ ap (below_on l) e ∙ led_here c (bit_at machine c.depth) to

@@ -6,8 +6,8 @@ use Rattle.std.specs.FinMap.{len-empty}
 use Rattle.mig_pagestore_index.proofs.Counted.{counted_more, counted_same, counted_less, some_counted}
 use Rattle.mig_host_m2p.proofs.Grown.{not_both, same_below, IsLike, Hung, Lifted, like_same, grown_like, grown_hung, grown_lifted}
 use Rattle.mig_pagestore_index.proofs.Gathered.{none_is_not_some}
-use Rattle.mig_host_m2p.proofs.Ways.{next_is}
-use Rattle.mig_host_m2p.proofs.Sides.{led_used, led_machine, led_pfn, led_depth, leads_now, leads_still}
+use Rattle.mig_host_m2p.proofs.Ways.{next_is, no_sides}
+use Rattle.mig_host_m2p.proofs.Sides.{led_same, leads_now, leads_still}
 use Rattle.mig_host_m2p.proofs.Collected.{HasFrame, IsMapOf, map_of, map_same, map_changed, map_hung, map_lifted, none_at}
 use Rattle.mig_host_m2p.proofs.Stacks.{taken, put_back, same_free}
 use Rattle.mig_host_m2p.proofs.Listed.{behind, behind_free, in_range, written, unwritten}
@@ -76,14 +76,14 @@ module _ (cells : List Cell) (free : List ℕ) (spare : ℕ) (st : IsStanding ce
   at_q : (q : ℕ) → q ≢ p → q ≢ n → cell_at last q ≡ cell_at cells q
   at_q q ne other = unwritten first p (led (cell_at cells p) machine n) q ne ∙ unwritten cells n new q other
 
-  field : {X : Type 0} (f : Cell → X) → f (led (cell_at cells p) machine n) ≡ f (cell_at cells p) → (q : ℕ) → q ≢ n → f (cell_at last q) ≡ f (cell_at cells q)
-  field f e q other = elim (cases_eq q p) [
-    | inl is ↦ ap f (at_p q is) ∙ e ∙ ap (λ k. f (cell_at cells k)) (sym is)
+  abbrev side : ℕ
+  side = bit_at machine (cell_at cells p).depth
+
+  field : {X : Type 0} (f : Cell → X) → ((z o : ℕ) → f (record (cell_at cells p) { zero = z; one = o }) ≡ f (cell_at cells p)) → (q : ℕ) → q ≢ n → f (cell_at last q) ≡ f (cell_at cells q)
+  field f same q other = elim (cases_eq q p) [
+    | inl is ↦ ap f (at_p q is) ∙ led_same (cell_at cells p) f same side n ∙ ap (λ k. f (cell_at cells k)) (sym is)
     | inr ne ↦ ap f (at_q q ne other)
   ]
-
-  side : ℕ
-  side = bit_at machine (cell_at cells p).depth
 
   still_on : (q m : ℕ) → q ≢ n → (q ≡ p → bit_at m (cell_at cells p).depth ≡ bit_at machine (cell_at cells p).depth → ⊥) → next_cell (cell_at last q) m ≡ next_cell (cell_at cells q) m
   still_on q m other ne = elim (cases_eq q p) [
@@ -95,10 +95,10 @@ module _ (cells : List Cell) (free : List ℕ) (spare : ℕ) (st : IsStanding ce
   hung = record {
     here = unwritten first p (led (cell_at cells p) machine n) n (λ e. apart_p (sym e)) ∙ written cells n new n n_there refl;
     leads = ap (λ (c : Cell). next_cell c machine) (at_p p refl) ∙ leads_now (cell_at cells p) machine n machine refl;
-    used = field (λ (c : Cell). c.used) (led_used (cell_at cells p) (bit_at machine (cell_at cells p).depth) n);
-    machines = field (λ (c : Cell). c.machine) (led_machine (cell_at cells p) (bit_at machine (cell_at cells p).depth) n);
-    pfns = field (λ (c : Cell). c.pfn) (led_pfn (cell_at cells p) (bit_at machine (cell_at cells p).depth) n);
-    depth = field (λ (c : Cell). c.depth) (led_depth (cell_at cells p) (bit_at machine (cell_at cells p).depth) n);
+    used = field (λ (c : Cell). c.used) (λ z o. refl);
+    machines = field (λ (c : Cell). c.machine) (λ z o. refl);
+    pfns = field (λ (c : Cell). c.pfn) (λ z o. refl);
+    depth = field (λ (c : Cell). c.depth) (λ z o. refl);
     still = still_on;
   }
 
@@ -108,13 +108,13 @@ module _ (cells : List Cell) (free : List ℕ) (spare : ℕ) (st : IsStanding ce
   as_many : length last ≡ length cells
   as_many = length-set first p (led (cell_at cells p) machine n) ∙ length-set cells n new
 
-  pub hung_kept : kept_in last ≡ maps.insert (kept_in cells) machine pfn
+  hung_kept : kept_in last ≡ maps.insert (kept_in cells) machine pfn
   hung_kept = map_hung (cell_at cells) (cell_at last) (kept_in cells) (kept_in last) (map_now cells st.grown) (map_now last grown) p n machine pfn hung n_some n_free
 
   none_kept : maps.get (kept_in cells) machine ≡ None
   none_kept = none_at (kept_in cells) machine (λ v is. let f : HasFrame (cell_at cells) machine v = (map_now cells st.grown).back machine v is in none f.cell f.used f.machine_is)
 
-  pub hung_standing : IsStanding last free (spare - 1)
+  hung_standing : IsStanding last free (spare - 1)
   hung_standing = record {
     grown = grown;
     begun = λ lt. hung.used 0 (λ e. omega (arith, e, n_some)) ∙ st.begun (omega (arith, as_many, lt));
@@ -135,17 +135,14 @@ module _ (cells : List Cell) (free : List ℕ) (spare : ℕ) (st : IsStanding ce
         ∙ ap (λ (x : Cell). set cells n (record { machine = machine; pfn = pfn; zero = 0; one = 0; depth = x.depth + 1; used = true })) is1
 
     module _ (is2 : c2 ≡ cell_at first_read p) (is3 : c3 ≡ led c2 machine k) where
-      led_same : c3 ≡ led (cell_at cells p) machine n
-      led_same = is3 ∙ ap (led c2 machine) (sym k_is) ∙ ap (λ (x : Cell). led x machine n) (is2 ∙ ap (λ l. cell_at l p) first_same ∙ unwritten cells n new p apart_p)
+      led_as : c3 ≡ led (cell_at cells p) machine n
+      led_as = is3 ∙ ap (led c2 machine) (sym k_is) ∙ ap (λ (x : Cell). led x machine n) (is2 ∙ ap (λ l. cell_at l p) first_same ∙ unwritten cells n new p apart_p)
 
       last_same : set first_read p c3 ≡ last
-      last_same = ap (λ l. set l p c3) first_same ∙ ap (set first p) led_same
+      last_same = ap (λ l. set l p c3) first_same ∙ ap (set first p) led_as
 
-      pub read_standing : IsStanding (set first_read p c3) free (spare - 1)
-      read_standing = subst (λ l. IsStanding l free (spare - 1)) (sym last_same) hung_standing
-
-      pub read_kept : kept_in (set first_read p c3) ≡ maps.insert (kept_in cells) machine pfn
-      read_kept = ap kept_in last_same ∙ hung_kept
+      pub hung_now : IsStanding (set first_read p c3) free (spare - 1) × (kept_in (set first_read p c3) ≡ maps.insert (kept_in cells) machine pfn)
+      hung_now = subst (λ l. IsStanding l free (spare - 1) × (kept_in l ≡ maps.insert (kept_in cells) machine pfn)) (sym last_same) (hung_standing, hung_kept)
 
 -- ---- another PFN in place
 
@@ -172,7 +169,7 @@ module _ (cells : List Cell) (free : List ℕ) (spare : ℕ) (st : IsStanding ce
     | inr ne ↦ omega (arith, ne)
   ]
 
-  pub put_kept : kept_in put ≡ maps.insert (kept_in cells) machine pfn
+  put_kept : kept_in put ≡ maps.insert (kept_in cells) machine pfn
   put_kept =
       map_changed (cell_at cells) (cell_at put) (kept_in cells) (kept_in put) (map_now cells st.grown) (map_now put put_grown) i pfn found_some used put_like
       (ap (λ (c : Cell). c.pfn) (written cells i (record (cell_at cells i) { machine = machine; pfn = pfn }) i (in_range cells i used) refl))
@@ -182,7 +179,7 @@ module _ (cells : List Cell) (free : List ℕ) (spare : ℕ) (st : IsStanding ce
   pub there_kept : maps.get (kept_in cells) machine ≡ Some (cell_at cells i).pfn
   there_kept = ap (maps.get (kept_in cells)) (sym is) ∙ (map_now cells st.grown).there i found_some used
 
-  pub put_standing : IsStanding put free spare
+  put_standing : IsStanding put free spare
   put_standing = record {
     grown = put_grown;
     begun = λ lt. (put_like 0).used ∙ st.begun (omega (arith, put_many, lt));
@@ -197,11 +194,8 @@ module _ (cells : List Cell) (free : List ℕ) (spare : ℕ) (st : IsStanding ce
     put_same : set cells i c1 ≡ put
     put_same = ap (set cells i) (is1 ∙ ap (λ (x : Cell). record x { machine = machine; pfn = pfn }) is0)
 
-    pub over_standing : IsStanding (set cells i c1) free spare
-    over_standing = subst (λ xs. IsStanding xs free spare) (sym put_same) put_standing
-
-    pub over_kept : kept_in (set cells i c1) ≡ maps.insert (kept_in cells) machine pfn
-    over_kept = ap kept_in put_same ∙ put_kept
+    pub put_now : IsStanding (set cells i c1) free spare × (kept_in (set cells i c1) ≡ maps.insert (kept_in cells) machine pfn)
+    put_now = subst (λ xs. IsStanding xs free spare × (kept_in xs ≡ maps.insert (kept_in cells) machine pfn)) (sym put_same) (put_standing, put_kept)
 
 -- ---- a cell less
 
@@ -232,9 +226,9 @@ module _ (cells : List Cell) (free : List ℕ) (spare : ℕ) (st : IsStanding ce
   less_many = length-set filled l free_cell ∙ filled_many
 
   -- the cell where the way was cut
-  cut_field : {X : Type 0} (f : Cell → X) → f (led (cell_at cells p) key 0) ≡ f (cell_at cells p) → (q : ℕ) → f (cell_at unled q) ≡ f (cell_at cells q)
-  cut_field f e q = elim (cases_eq q p) [
-    | inl is ↦ ap f (written cells p (led (cell_at cells p) key 0) q (in_range cells p used_p) is) ∙ e ∙ ap (λ k. f (cell_at cells k)) (sym is)
+  cut_field : {X : Type 0} (f : Cell → X) → ((z o : ℕ) → f (record (cell_at cells p) { zero = z; one = o }) ≡ f (cell_at cells p)) → (q : ℕ) → f (cell_at unled q) ≡ f (cell_at cells q)
+  cut_field f same q = elim (cases_eq q p) [
+    | inl is ↦ ap f (written cells p (led (cell_at cells p) key 0) q (in_range cells p used_p) is) ∙ led_same (cell_at cells p) f same (bit_at key (cell_at cells p).depth) 0 ∙ ap (λ k. f (cell_at cells k)) (sym is)
     | inr ne ↦ ap f (unwritten cells p (led (cell_at cells p) key 0) q ne)
   ]
 
@@ -279,10 +273,10 @@ module _ (cells : List Cell) (free : List ℕ) (spare : ℕ) (st : IsStanding ce
   lifted : Lifted (cell_at cells) (cell_at less) i l
   lifted = record {
     gone = ap (λ (c : Cell). c.used) (written filled l free_cell l (omega (arith, in_range cells l used_l, filled_many)) refl);
-    used = λ q ne. ap (λ (c : Cell). c.used) (at_left q ne) ∙ fill_field (λ (c : Cell). c.used) refl q ∙ cut_field (λ (c : Cell). c.used) (led_used (cell_at cells p) (bit_at key (cell_at cells p).depth) 0) q;
-    depth = λ q ne. ap (λ (c : Cell). c.depth) (at_left q ne) ∙ fill_field (λ (c : Cell). c.depth) refl q ∙ cut_field (λ (c : Cell). c.depth) (led_depth (cell_at cells p) (bit_at key (cell_at cells p).depth) 0) q;
-    machines = λ q ne other. ap (λ (c : Cell). c.machine) (at_other q ne other) ∙ cut_field (λ (c : Cell). c.machine) (led_machine (cell_at cells p) (bit_at key (cell_at cells p).depth) 0) q;
-    pfns = λ q ne other. ap (λ (c : Cell). c.pfn) (at_other q ne other) ∙ cut_field (λ (c : Cell). c.pfn) (led_pfn (cell_at cells p) (bit_at key (cell_at cells p).depth) 0) q;
+    used = λ q ne. ap (λ (c : Cell). c.used) (at_left q ne) ∙ fill_field (λ (c : Cell). c.used) refl q ∙ cut_field (λ (c : Cell). c.used) (λ z o. refl) q;
+    depth = λ q ne. ap (λ (c : Cell). c.depth) (at_left q ne) ∙ fill_field (λ (c : Cell). c.depth) refl q ∙ cut_field (λ (c : Cell). c.depth) (λ z o. refl) q;
+    machines = λ q ne other. ap (λ (c : Cell). c.machine) (at_other q ne other) ∙ cut_field (λ (c : Cell). c.machine) (λ z o. refl) q;
+    pfns = λ q ne other. ap (λ (c : Cell). c.pfn) (at_other q ne other) ∙ cut_field (λ (c : Cell). c.pfn) (λ z o. refl) q;
     machine = λ ne. ap (λ (c : Cell). c.machine) (at_filled ne);
     pfn = λ ne. ap (λ (c : Cell). c.pfn) (at_filled ne);
     kept = kept_way;
@@ -295,7 +289,7 @@ module _ (cells : List Cell) (free : List ℕ) (spare : ℕ) (st : IsStanding ce
   there_i : maps.get (kept_in cells) (cell_at cells i).machine ≡ Some (cell_at cells i).pfn
   there_i = (map_now cells st.grown).there i some_i used_i
 
-  pub lifted_kept : kept_in less ≡ maps.remove (kept_in cells) (cell_at cells i).machine
+  lifted_kept : kept_in less ≡ maps.remove (kept_in cells) (cell_at cells i).machine
   lifted_kept = map_lifted (cell_at cells) (cell_at less) (kept_in cells) (kept_in less) (map_now cells st.grown) (map_now less less_grown) st.grown i l lifted some_i used_i some_l used_l
 
   some_there : IsSome (maps.get (kept_in cells) (cell_at cells i).machine)
@@ -310,7 +304,7 @@ module _ (cells : List Cell) (free : List ℕ) (spare : ℕ) (st : IsStanding ce
   stack_long : length stack ≡ length free
   stack_long = length-set free spare l
 
-  pub lifted_standing : IsStanding less stack (spare + 1)
+  lifted_standing : IsStanding less stack (spare + 1)
   lifted_standing = record {
     grown = less_grown;
     begun = λ lt. lifted.used 0 (λ e. omega (arith, e, some_l)) ∙ st.begun (omega (arith, less_many, lt));
@@ -333,14 +327,11 @@ module _ (cells : List Cell) (free : List ℕ) (spare : ℕ) (st : IsStanding ce
           ap (λ xs. set xs i c4) cut_same
           ∙ ap (set unled i) (is4 ∙ ap (λ (x : Cell). record x { machine = c0.machine; pfn = c0.pfn }) (is2 ∙ ap (λ xs. cell_at xs i) cut_same) ∙ ap (λ (x : Cell). record (cell_at unled i) { machine = x.machine; pfn = x.pfn }) is0)
 
-      less_same : set (set (set cells p c3) i c4) l free_cell ≡ less
-      less_same = ap (λ xs. set xs l free_cell) fill_same
+      abbrev now : List Cell
+      now = set (set (set cells p c3) i c4) l free_cell
 
-      pub less_standing : IsStanding (set (set (set cells p c3) i c4) l free_cell) (set free spare l) (spare + 1)
-      less_standing = subst (λ xs. IsStanding xs stack (spare + 1)) (sym less_same) lifted_standing
-
-      pub less_kept : kept_in (set (set (set cells p c3) i c4) l free_cell) ≡ maps.remove (kept_in cells) (cell_at cells i).machine
-      less_kept = ap kept_in less_same ∙ lifted_kept
+      pub lifted_now : IsStanding now (set free spare l) (spare + 1) × (kept_in now ≡ maps.remove (kept_in cells) (cell_at cells i).machine)
+      lifted_now = subst (λ xs. IsStanding xs stack (spare + 1) × (kept_in xs ≡ maps.remove (kept_in cells) (cell_at cells i).machine)) (sym (ap (λ xs. set xs l free_cell) fill_same)) (lifted_standing, lifted_kept)
 
 -- ---- what is found
 
@@ -387,17 +378,12 @@ module _ (cells : List Cell) (free : List ℕ) (spare : ℕ) (st : IsStanding ce
 
 -- ---- from no cells to a root
 
-free_way : (b : ℕ) → below_on free_cell b ≡ 0
-unfolding below_on
-free_way zero = refl
-free_way (suc b) = refl
-
 module _ (cells : List Cell) (e : cells ≡ []) where
   no_cell : (i : ℕ) → cell_at cells i ≡ free_cell
   no_cell i = ap (λ l. cell_at l i) e
 
   no_way : (m : ℕ) → next_cell (cell_at cells 0) m ≡ 0
-  no_way m = ap (λ (c : Cell). next_cell c m) (no_cell 0) ∙ free_way (bit_at m 0)
+  no_way m = ap (λ (c : Cell). next_cell c m) (no_cell 0) ∙ no_sides free_cell refl refl (bit_at m 0)
 
   new_grown : IsGrown (cell_at cells)
   new_grown = grown_root (cell_at cells) (ap (λ (c : Cell). c.depth) (no_cell 0)) (λ used. absurd (not_both (cell_at cells 0).used (ap (λ (c : Cell). c.used) (no_cell 0)) used)) no_way (λ i _. ap (λ (c : Cell). c.used) (no_cell i))
@@ -422,32 +408,30 @@ module _ (cells : List Cell) (e : cells ≡ []) where
 abbrev root_cell : Cell
 root_cell = record { machine = 1099511627776; pfn = 0; zero = 0; one = 0; depth = 0; used = true }
 
-root_way : (b : ℕ) → below_on root_cell b ≡ 0
-unfolding below_on
-root_way zero = refl
-root_way (suc b) = refl
-
 module _ (cells now : List Cell) (free : List ℕ) (spare : ℕ) (st : IsStanding cells free spare) (none : length cells ≡ 0) (one_cell : length now ≡ 1) (root : cell_at now 0 ≡ root_cell) (wide : 1 ≤ length free) where
   no_other : (i : ℕ) → 0 < i → cell_at now i ≡ cell_at cells i
   no_other i lt = behind now i (omega (arith, lt, one_cell)) ∙ sym (behind cells i (omega (arith, none)))
 
   root_grown : IsGrown (cell_at now)
   root_grown =
-      grown_root (cell_at now) (ap (λ (c : Cell). c.depth) root) (λ _. omega (arith, ap (λ (c : Cell). c.machine) root)) (λ m. ap (λ (c : Cell). next_cell c m) root ∙ root_way (bit_at m 0))
+      grown_root (cell_at now) (ap (λ (c : Cell). c.depth) root) (λ _. omega (arith, ap (λ (c : Cell). c.machine) root)) (λ m. ap (λ (c : Cell). next_cell c m) root ∙ no_sides root_cell refl refl (bit_at m 0))
       (λ i lt. behind_free now i (omega (arith, lt, one_cell)))
 
-  pub root_kept : kept_in now ≡ kept_in cells
+  root_kept : kept_in now ≡ kept_in cells
   root_kept = map_same (cell_at cells) (cell_at now) (kept_in cells) (kept_in now) (map_now cells st.grown) (map_now now root_grown) no_other
 
-  pub root_standing : IsStanding now free spare
-  root_standing = record {
-    grown = root_grown;
-    begun = λ _. ap (λ (c : Cell). c.used) root;
-    free_ones = same_free (cell_at cells) (cell_at now) free free spare (length cells) (length now) st.free_ones (omega (arith, none)) (λ q lt. ap (λ (c : Cell). c.used) (no_other q lt)) (λ a lt. refl);
-    wide = omega (arith, wide, one_cell);
-    few = omega (arith, one_cell);
-    room = omega (arith, st.room, none, ap maps.len root_kept);
-  }
+  pub root_now : IsStanding now free spare × (kept_in now ≡ kept_in cells)
+  root_now = (
+    record {
+      grown = root_grown;
+      begun = λ _. ap (λ (c : Cell). c.used) root;
+      free_ones = same_free (cell_at cells) (cell_at now) free free spare (length cells) (length now) st.free_ones (omega (arith, none)) (λ q lt. ap (λ (c : Cell). c.used) (no_other q lt)) (λ a lt. refl);
+      wide = omega (arith, wide, one_cell);
+      few = omega (arith, one_cell);
+      room = omega (arith, st.room, none, ap maps.len root_kept);
+    },
+    root_kept,
+  )
 
 -- ---- free cells more
 
@@ -455,21 +439,24 @@ module _ (cells now : List Cell) (free : List ℕ) (spare : ℕ) (st : IsStandin
   more_grown : IsGrown (cell_at now)
   more_grown = grown_like (cell_at cells) (cell_at now) st.grown (λ q. like_same (cell_at cells q) (cell_at now q) (same q))
 
-  pub more_kept : kept_in now ≡ kept_in cells
+  more_kept : kept_in now ≡ kept_in cells
   more_kept = map_same (cell_at cells) (cell_at now) (kept_in cells) (kept_in now) (map_now cells st.grown) (map_now now more_grown) (λ q _. same q)
 
-  pub more_standing : IsStanding now free spare
-  more_standing = record {
-    grown = more_grown;
-    begun = λ _. ap (λ (c : Cell). c.used) (same 0) ∙ st.begun begun;
-    free_ones = same_free (cell_at cells) (cell_at now) free free spare (length cells) (length now) st.free_ones more (λ q _. ap (λ (c : Cell). c.used) (same q)) (λ a lt. refl);
-    wide = wide;
-    few = few;
-    room = omega (arith, st.room, more, ap maps.len more_kept);
-  }
+  more_now : IsStanding now free spare × (kept_in now ≡ kept_in cells)
+  more_now = (
+    record {
+      grown = more_grown;
+      begun = λ _. ap (λ (c : Cell). c.used) (same 0) ∙ st.begun begun;
+      free_ones = same_free (cell_at cells) (cell_at now) free free spare (length cells) (length now) st.free_ones more (λ q _. ap (λ (c : Cell). c.used) (same q)) (λ a lt. refl);
+      wide = wide;
+      few = few;
+      room = omega (arith, st.room, more, ap maps.len more_kept);
+    },
+    more_kept,
+  )
 
 -- cells of a list that was filled up with free ones
-pub filled_up : (cells now : List Cell) (wanted : ℕ) → length now ≡ wanted → length cells ≤ wanted → ((k : ℕ) → k < length cells → cell_at now k ≡ cell_at cells k) → ((k : ℕ) → length cells ≤ k → k < wanted → cell_at now k ≡ free_cell) → (i : ℕ) → cell_at now i ≡ cell_at cells i
+filled_up : (cells now : List Cell) (wanted : ℕ) → length now ≡ wanted → length cells ≤ wanted → ((k : ℕ) → k < length cells → cell_at now k ≡ cell_at cells k) → ((k : ℕ) → length cells ≤ k → k < wanted → cell_at now k ≡ free_cell) → (i : ℕ) → cell_at now i ≡ cell_at cells i
 filled_up cells now wanted long more low high i = elim (cases_lt i (length cells)) [
   | inl lt ↦ low i lt
   | inr le ↦ elim (cases_lt i wanted) [
@@ -477,3 +464,7 @@ filled_up cells now wanted long more low high i = elim (cases_lt i (length cells
     | inr past ↦ behind now i (omega (arith, past, long)) ∙ sym (behind cells i le)
   ]
 ]
+
+pub filled_now : (cells now : List Cell) (free : List ℕ) (spare : ℕ) → IsStanding cells free spare → (wanted : ℕ) → length now ≡ wanted → length cells ≤ wanted → ((k : ℕ) → k < length cells → cell_at now k ≡ cell_at cells k) → ((k : ℕ) → length cells ≤ k → k < wanted → cell_at now k ≡ free_cell)
+    → 0 < length cells → wanted ≤ length free → wanted ≤ 2 ^ 32 → IsStanding now free spare × (kept_in now ≡ kept_in cells)
+filled_now cells now free spare st wanted long more low high begun wide few = more_now cells now free spare st (filled_up cells now wanted long more low high) (omega (arith, long, more)) begun (omega (arith, long, wide)) (omega (arith, long, few))

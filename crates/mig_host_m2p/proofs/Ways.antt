@@ -177,13 +177,13 @@ falls_on at g i f n used le same is some = elim (cases_eq (at i).zero 0) [
   | inr ne ↦ falls_to at g i f 0 n used le same (zero_way (at i) ∙ sym (is ∙ either_zero (at i) ne)) some
 ]
 
-sides : (c : Cell) → c.zero ≡ 0 → c.one ≡ 0 → (b : ℕ) → below_on c b ≡ 0
+pub no_sides : (c : Cell) → c.zero ≡ 0 → c.one ≡ 0 → (b : ℕ) → below_on c b ≡ 0
 unfolding below_on
-sides c z o zero = z
-sides c z o (suc b) = o
+no_sides c z o zero = z
+no_sides c z o (suc b) = o
 
 pub nothing_below : (c : Cell) → either_below c ≡ 0 → (machine : ℕ) → next_cell c machine ≡ 0
 nothing_below c none machine = elim (cases_eq c.zero 0) [
-  | inl e ↦ sides c e (sym (either_one c e) ∙ none) (bit_at machine c.depth)
+  | inl e ↦ no_sides c e (sym (either_one c e) ∙ none) (bit_at machine c.depth)
   | inr ne ↦ absurd (ne (sym (either_zero c ne) ∙ none))
 ]

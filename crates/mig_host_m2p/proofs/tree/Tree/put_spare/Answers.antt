@@ -1,21 +1,16 @@
-use Rattle.mig_host_m2p.proofs.Common.{sym, ap, ◌∙◌, Cell}
-use Rattle.mig_host_m2p.proofs.Standing.{room_begun, get_nothing, found_free, over_standing, over_kept}
+use Rattle.mig_host_m2p.proofs.Common.{refl, arith, sym, ap, ◌∙◌, Cell}
+use Rattle.mig_host_m2p.proofs.Standing.{room_begun, get_nothing, found_free, put_now}
 use Rattle.mig_host_m2p.proofs.tree.Tree.put_spare.Goals as goal
 
 pub seek-at-requires-clause-begun : goal.seek-at-requires-clause-begun
 seek-at-requires-clause-begun c = let x = c.args.self.now in room_begun x.cells.items x.free.items x.spare c.requires.sound c.args.machine c.requires.room
 
-pub returns-then-cell-machine-clause-sound : goal.returns-then-cell-machine-clause-sound
-returns-then-cell-machine-clause-sound c =
+pub returns-then-cell-machine : goal.returns-then-cell-machine
+returns-then-cell-machine c =
     let x = c.args.self.now in
-    over_standing x.cells.items x.free.items x.spare c.requires.sound c.seek-at.result c.args.machine c.args.pfn c.seek-at.ensures.used (ap (λ (y : Cell). y.machine) (sym c.cell.ensures) ∙ c.if-cell-machine.true) c.requires.below
-    c.cell-then-cell-machine.result.now c.having.result c.cell-then-cell-machine.ensures c.having.ensures
-
-pub returns-then-cell-machine-clause-kept : goal.returns-then-cell-machine-clause-kept
-returns-then-cell-machine-clause-kept c =
-    let x = c.args.self.now in
-    over_kept x.cells.items x.free.items x.spare c.requires.sound c.seek-at.result c.args.machine c.args.pfn c.seek-at.ensures.used (ap (λ (y : Cell). y.machine) (sym c.cell.ensures) ∙ c.if-cell-machine.true) c.requires.below
-    c.cell-then-cell-machine.result.now c.having.result c.cell-then-cell-machine.ensures c.having.ensures
+    let now = put_now x.cells.items x.free.items x.spare c.requires.sound c.seek-at.result c.args.machine c.args.pfn c.seek-at.ensures.used (ap (λ (y : Cell). y.machine) (sym c.cell.ensures) ∙ c.if-cell-machine.true) c.requires.below
+    c.cell-then-cell-machine.result.now c.having.result c.cell-then-cell-machine.ensures c.having.ensures in
+    record { sound = now.0; kept = now.1; taken = omega arith; in_place = λ _. refl }
 
 pub hang-requires-clause-room : goal.hang-requires-clause-room
 hang-requires-clause-room c =
