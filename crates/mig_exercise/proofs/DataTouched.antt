@@ -1,5 +1,5 @@
 -- What the lines of the exercise log are frames of data, so a round behind the first reads at most all of these.
-use Rattle.mig_exercise.proofs.Common.{◌≡◌, ℕ, zero, suc, ◌+◌, ◌-◌, ◌*◌, ◌≤◌, ◌<◌, Bool, true, false, cond, nat_eq, List, [], ◌∷◌, length, Some, None, inl, inr, refl, sym, ap, ◌∙◌, arith, AllByRecursion, HostOf, LineOf, Write, Retype, Add, Remove, Exchange, Put, Dot, ran, ran_between, applies, after_line, after, IsExerciseSize, first_data, data_count, host_of_exercise, IsDataWrite, script_of_exercise}
+use Rattle.mig_exercise.proofs.Common.{◌≡◌, ℕ, zero, suc, ◌+◌, ◌-◌, ◌*◌, ◌≤◌, ◌<◌, Bool, true, false, cond, nat_eq, List, [], ◌∷◌, length, Some, None, inl, inr, refl, sym, ap, ◌∙◌, arith, AllByRecursion, HostOf, LineOf, Write, Dot, ran, ran_between, applies, after_line, after, IsExerciseSize, first_data, data_count, host_of_exercise, IsDataWrite, script_of_exercise}
 use Rattle.std.proofs.Common.{filter, mul-le-mul_right}
 use Rattle.std.specs.List.{range_with_len}
 use Rattle.std.proofs.lemmas.Bool.{or_cases, eqb-true, false≢true}
@@ -28,12 +28,8 @@ where_applied false first end pfn log one all = all
 
 one_logged : (n : ℕ) (h : HostOf) (line : LineOf) (log : Pfns) → IsDataWrite n line → IsBetween (first_data n) n log → IsBetween (first_data n) n (with_logged (logs h line) log)
 one_logged n h (Write pfn at bytes) log is all = where_applied (applies h (Write pfn at bytes)) (first_data n) n pfn log (is.0, is.1) all
-one_logged n h (Retype pfn type) log is all = absurd is
-one_logged n h (Add pfn mfn) log is all = absurd is
-one_logged n h (Remove pfn) log is all = absurd is
-one_logged n h (Exchange pfn mfn) log is all = absurd is
-one_logged n h (Put code first second bytes) log is all = absurd is
 one_logged n h Dot log is all = all
+one_logged n h _ log is all = absurd is
 
 -- lines that write into frames of data log no others
 pub logged_data : (n : ℕ) (h : HostOf) (lines : List LineOf) (log : Pfns) → AllByRecursion (IsDataWrite n) lines → IsBetween (first_data n) n log → IsBetween (first_data n) n (logged_after h lines log)

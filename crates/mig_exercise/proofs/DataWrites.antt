@@ -1,5 +1,5 @@
 -- The lines of the exercise write into frames of data alone, and leave a host of its kind.
-use Rattle.mig_exercise.proofs.Common.{◌≡◌, ◌≢◌, ℕ, zero, suc, ◌+◌, ◌-◌, ◌*◌, ◌%◌, ◌≤◌, ◌<◌, Bool, true, false, cond, nat_eq, nat_lt, min, List, [], ◌∷◌, ◌++◌, take, drop, length, Option, Some, refl, sym, ap, ◌∙◌, inl, inr, arith, AllByRecursion, option_map, cases_lt, eq-eqb, ne_eqb, le-ltb, HostOf, HostFrame, HostFrames, length_longs, p2m_page, LineOf, Write, Retype, Add, Remove, Exchange, Put, Dot, ran, ran_between, applies, after_line, after, number, IsExerciseSize, ArePages, first_data, data_count, exercise_machine_of, exercise_machine, exercise_type, exercise_page, frames_up_to, table_naming, page_of_zeros, host_with, host_of_exercise, first_contents, IsDataWrite, script_of_exercise}
+use Rattle.mig_exercise.proofs.Common.{◌≡◌, ◌≢◌, ℕ, zero, suc, ◌+◌, ◌-◌, ◌*◌, ◌%◌, ◌≤◌, ◌<◌, Bool, true, false, cond, nat_eq, nat_lt, min, List, [], ◌∷◌, ◌++◌, take, drop, length, Option, Some, refl, sym, ap, ◌∙◌, inl, inr, arith, AllByRecursion, option_map, cases_lt, eq-eqb, ne_eqb, le-ltb, HostOf, HostFrame, HostFrames, length_longs, p2m_page, LineOf, Write, Dot, ran, ran_between, applies, after_line, after, number, IsExerciseSize, ArePages, first_data, data_count, exercise_machine_of, exercise_machine, exercise_type, exercise_page, frames_up_to, table_naming, page_of_zeros, host_with, host_of_exercise, first_contents, IsDataWrite, script_of_exercise}
 use Rattle.std.proofs.lemmas.Bool.{ltb-false}
 use Rattle.std.proofs.lemmas.Grind.{common_steps}
 use Rattle.byteorder.specs.Numbers.{length-bytes_low_first}
@@ -155,12 +155,8 @@ after_one n contents pages (Write pfn at bytes) is =
       host_written n contents pfn at bytes is.0 is.1,
     )
     (contents, pages, refl)
-after_one n contents pages (Retype pfn type) is = absurd is
-after_one n contents pages (Add pfn mfn) is = absurd is
-after_one n contents pages (Remove pfn) is = absurd is
-after_one n contents pages (Exchange pfn mfn) is = absurd is
-after_one n contents pages (Put code first second bytes) is = absurd is
 after_one n contents pages Dot is = (contents, pages, refl)
+after_one n contents pages _ is = absurd is
 
 -- such lines leave the host of the exercise one of its kind: only what the frames of data hold may be another
 pub after_writes : (n : ℕ) → IsExerciseSize n → (contents : ℕ → List ℕ) → ArePages contents → (lines : List LineOf) → AllByRecursion (IsDataWrite n) lines

@@ -1,10 +1,12 @@
 -- What the parts of the exercise ask of its host, and what setting them makes.
-use Rattle.mig_exercise.proofs.Common.{◌≡◌, ℕ, suc, ◌+◌, ◌*◌, ◌<◌, ◌≤◌, List, ◌++◌, length, refl, sym, ap, subst, ◌∙◌, arith, eq-eqb, ◌==◌, little_bytes, Pv, VcpuBasic, PartKey, HostOf, part_cmp, p2m_key, vcpu_key, shared_key, PartMap, insert_len, length_longs, part_total, exercise_context, exercise_p2m_list, p2m_frame_count, page_of_zeros, most_policy_entries}
+use Rattle.mig_exercise.proofs.Common.{◌≡◌, ℕ, suc, true, ◌+◌, ◌*◌, ◌^◌, ◌<◌, ◌≤◌, List, ◌++◌, length, refl, sym, ap, subst, ◌∙◌, arith, eq-eqb, ◌==◌, little_bytes, Pv, VcpuBasic, PartKey, HostOf, part_cmp, p2m_key, vcpu_key, shared_key, PartMap, insert_len, length_longs, part_total, exercise_context, exercise_p2m_list, p2m_frame_count, page_of_zeros, most_policy_entries}
 use Rattle.std.proofs.lemmas.List.Sums.{length-filter, count_by-le-length}
-use Rattle.mig_headers.specs.RecordTypes.{pv}
+use Rattle.mig_guest.specs.declared.part_code.PartCode.{PartCode}
 use Rattle.mig_guest.specs.declared.part_code.PartCode.TheVariants.{P2mFrames, SharedInfo}
+use Rattle.mig_guest.specs.Formed.{IsRawContent}
 use Rattle.mig_guest.specs.Hosts.{IsHostPart}
 use Rattle.mig_guest.specs.Longs.{longs}
+use Rattle.mig_guest.specs.PartCodes.{code_number, row_of}
 use Rattle.mig_guest.specs.Parts.{FitsPolicy}
 use Rattle.mig_host.specs.HostView.{put_part_in}
 use Rattle.mig_exercise.specs.ExerciseHosts.{exercise_parts}
@@ -41,41 +43,18 @@ module _ (n count : ℕ) (h : HostOf) where
 
   -- each part of the exercise is one of the host
   module _ (is : HasFewParts n count h) (bytes : List ℕ) where
+    fits : (code : PartCode) (key : PartKey) → key.code ≡ code_number code → (row_of code).of_kind Pv ≡ true → (row_of code).keys key.key1 key.key2 ≡ true → key.key1 < 2 ^ 32 → key.key2 < 2 ^ 32
+        → (row_of code).allows h.width (length bytes) ≡ true → IsRawContent code bytes → IsHostPart h.kind h.width key bytes
+    fits code key number of keys small1 small2 len content = record { code = code; number = number; of_kind = ap (row_of code).of_kind is.kind ∙ of; keys = keys; small1 = small1; small2 = small2; len = len; content = content }
+
     pub p2m_fits : bytes ≡ exercise_p2m_list n → IsHostPart h.kind h.width p2m_key bytes
-    p2m_fits told = record {
-      code = P2mFrames;
-      number = refl;
-      of_kind = ap pv is.kind;
-      keys = refl;
-      small1 = omega arith;
-      small2 = omega arith;
-      len = eq-eqb _ _ (ap length told ∙ length_longs (p2m_frame_count n) (λ k. 6 + k) ∙ ap (λ w. 8 * p2m_frame_count w) (sym is.width));
-      content = tt;
-    }
+    p2m_fits told = fits P2mFrames p2m_key refl refl refl (omega arith) (omega arith) (eq-eqb _ _ (ap length told ∙ length_longs (p2m_frame_count n) (λ k. 6 + k) ∙ ap (λ w. 8 * p2m_frame_count w) (sym is.width))) tt
 
     pub shared_fits : bytes ≡ page_of_zeros → IsHostPart h.kind h.width shared_key bytes
-    shared_fits told = record {
-      code = SharedInfo;
-      number = refl;
-      of_kind = ap pv is.kind;
-      keys = refl;
-      small1 = omega arith;
-      small2 = omega arith;
-      len = eq-eqb _ _ (ap length told ∙ length_longs 512 (λ _. 0));
-      content = tt;
-    }
+    shared_fits told = fits SharedInfo shared_key refl refl refl (omega arith) (omega arith) (eq-eqb _ _ (ap length told ∙ length_longs 512 (λ _. 0))) tt
 
     pub context_fits : bytes ≡ exercise_context n → IsHostPart h.kind h.width (vcpu_key 0) bytes
-    context_fits told = record {
-      code = VcpuBasic;
-      number = refl;
-      of_kind = ap pv is.kind;
-      keys = refl;
-      small1 = omega arith;
-      small2 = omega arith;
-      len = eq-eqb _ _ (ap length told ∙ length_longs 646 _);
-      content = tt;
-    }
+    context_fits told = fits VcpuBasic (vcpu_key 0) refl refl refl (omega arith) (omega arith) (eq-eqb _ _ (ap length told ∙ length_longs 646 _)) tt
 
 -- ---- all parts
 

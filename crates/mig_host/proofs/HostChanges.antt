@@ -1,5 +1,5 @@
 -- A host stays valid where a frame is changed in place, or taken away.
-use Rattle.mig_host.proofs.Common.{◌≡◌, ℕ, ◌+◌, ◌-◌, ◌<◌, ◌≤◌, Bool, true, false, cond, length, List, Option, Some, None, is_some, refl, sym, ap, subst, ◌∙◌, ◌⊎◌, inl, inr, arith, unwrap_or, option_map, option_and_then, nat_cmp, eq_by_cmp, nat_cmp_total, nat_cmp-IsAntisymmetric, same_map, len-entries, none-some, same_Some, Kind, FrameOf, FrameMap, HostOf, HostFrame, HostFrames, IsHostFrame, IsOneToOne, IsValid, PartMap, is_type_of, type_has_data, PageType, MachineMap, with_machine, machine_in, host_seen, AreMatched, IsMade, put_frame, Pv, Hvm, PartKey, part_cmp, part_total, part_exact, FitsPolicy, IsHostPart, IfSome, ◌++◌, ◌==◌, append-nil, row_of, code_number, PartCode, tied, each_value, get_each, is_inserted, insert_holds, remove_holds, raw_page_at, retyped, exchanged, without_frame, machine_limit}
+use Rattle.mig_host.proofs.Common.{◌≡◌, ℕ, ◌+◌, ◌-◌, ◌<◌, ◌≤◌, Bool, true, false, cond, length, List, Option, Some, None, is_some, refl, sym, ap, subst, ◌∙◌, arith, option_map, option_and_then, nat_cmp, eq_by_cmp, nat_cmp_total, nat_cmp-IsAntisymmetric, same_map, len-entries, none-some, same_Some, Kind, FrameOf, FrameMap, HostOf, HostFrame, HostFrames, IsHostFrame, IsValid, PartMap, is_type_of, type_has_data, PageType, MachineMap, with_machine, machine_in, host_seen, AreMatched, IsMade, put_frame, Pv, Hvm, PartKey, part_cmp, part_total, part_exact, FitsPolicy, IsHostPart, IfSome, ◌++◌, ◌==◌, append-nil, row_of, code_number, PartCode, tied, each_value, get_each, is_inserted, remove_holds, raw_page_at, retyped, exchanged, without_frame, machine_limit}
 use Rattle.mig_pagetypes.specs.Limits.{pfn_limit}
 use Rattle.mig_pagetypes.specs.declared.page_type.PageType.TheVariants.{Notab}
 use Rattle.std.proofs.Common.{replicate}
@@ -12,8 +12,7 @@ use Rattle.mig_guest.specs.declared.part_code.PartCode.TheVariants.{EmulatorPair
 use Rattle.mig_pvtables.proofs.EachValue.{count_each}
 use Rattle.mig_host.specs.Changes.{put_or_stay}
 use Rattle.mig_host.proofs.HostMaps.{joined, get_with_machines, machine_joined, there_joined}
-use Rattle.mig_host.proofs.HostsMade.{joined_put, matched_put, made_part}
-use Rattle.mig_host.proofs.InOrder.{found_more}
+use Rattle.mig_host.proofs.HostsMade.{joined_at, matched_at, joined_put, matched_put, valid_frame, made_part}
 use Rattle.std.specs.FinMap as maps
 
 -- what is there, put once more
@@ -27,15 +26,6 @@ module _ (h : HostOf) (pfn : ℕ) (old new : HostFrame) (valid : IsValid h) (has
   abbrev now : HostFrames
   now = maps.insert h.frames pfn new
 
-  still_one : IsOneToOne now
-  still_one p q f g hasf hasg alike = by (found_more nat_cmp_total nat_cmp-IsAntisymmetric h.frames pfn new p f hasf) (found_more nat_cmp_total nat_cmp-IsAntisymmetric h.frames pfn new q g hasg)
-    where
-      by : ((p ≡ pfn) × (new ≡ f)) ⊎ (maps.get h.frames p ≡ Some f) → ((q ≡ pfn) × (new ≡ g)) ⊎ (maps.get h.frames q ≡ Some g) → p ≡ q
-      by (inl (a, b)) (inl (c, d)) = a ∙ sym c
-      by (inl (a, b)) (inr d) = a ∙ alone q g d (sym alike ∙ sym (ap (λ (x : HostFrame). x.machine) b))
-      by (inr b) (inl (c, d)) = sym (alone p f b (alike ∙ sym (ap (λ (x : HostFrame). x.machine) d))) ∙ sym c
-      by (inr b) (inr d) = valid.one_to_one p q f g b d alike
-
   some : is_some (maps.get h.frames pfn) ≡ true
   some = ap is_some has
 
@@ -43,17 +33,7 @@ module _ (h : HostOf) (pfn : ℕ) (old new : HostFrame) (valid : IsValid h) (has
   no_more = len-insert nat_cmp_total h.frames pfn new ∙ ap (λ b. cond b (maps.len h.frames) (maps.len h.frames + 1)) some
 
   pub valid_changed : IsValid (put_frame h pfn new)
-  valid_changed = record {
-    width = valid.width;
-    some_width = valid.some_width;
-    pv_width = valid.pv_width;
-    frames = insert_holds nat_cmp_total nat_cmp-IsAntisymmetric (IsHostFrame h.kind h.width) h.frames pfn new valid.frames fine;
-    one_to_one = still_one;
-    few = omega (arith, valid.few, no_more, len-entries now, len-entries h.frames);
-    parts = valid.parts;
-    leaves = valid.leaves;
-    msrs = valid.msrs;
-  }
+  valid_changed = valid_frame h pfn new valid fine alone (omega (arith, valid.few, no_more, len-entries now, len-entries h.frames))
 
 -- ---- a frame taken away
 
@@ -123,31 +103,23 @@ module _ (kind : Kind) (width : ℕ) (frames : FrameMap) (machines : MachineMap)
     }
 
   -- taken away
+  abbrev here : ℕ → Bool
+  here q = eq_by_cmp nat_cmp q pfn
+
+  out_f : (q : ℕ) → maps.get (maps.remove frames pfn) q ≡ cond (here q) None (maps.get frames q)
+  out_f q = maps.get-remove nat_cmp_total frames pfn q
+
+  out_m : (q : ℕ) → maps.get (maps.remove machines pfn) q ≡ cond (here q) None (maps.get machines q)
+  out_m q = maps.get-remove nat_cmp_total machines pfn q
+
   joined_taken : joined (maps.remove frames pfn) (maps.remove machines pfn) ≡ maps.remove (joined frames machines) pfn
-  joined_taken = same_map nat_cmp_total nat_cmp-IsAntisymmetric _ _ (λ q.
-      get_with_machines (maps.remove frames pfn) (machine_in (maps.remove machines pfn)) q
-      ∙ ap (λ (o : Option FrameOf). option_map (λ (x : FrameOf). with_machine x (machine_in (maps.remove machines pfn) q)) o) (maps.get-remove nat_cmp_total frames pfn q)
-      ∙ ap (λ (o : Option ℕ). option_map (λ (x : FrameOf). with_machine x (unwrap_or o 0)) (cond (eq_by_cmp nat_cmp q pfn) None (maps.get frames q))) (maps.get-remove nat_cmp_total machines pfn q)
-      ∙ by (eq_by_cmp nat_cmp q pfn) (maps.get frames q) (maps.get machines q)
-      ∙ ap (cond (eq_by_cmp nat_cmp q pfn) None) (sym (get_with_machines frames (machine_in machines) q))
-      ∙ sym (maps.get-remove nat_cmp_total (joined frames machines) pfn q))
-    where
-      by : (b : Bool) (o : Option FrameOf) (m : Option ℕ) → option_map (λ (x : FrameOf). with_machine x (unwrap_or (cond b None m) 0)) (cond b None o) ≡ cond b None (option_map (λ (x : FrameOf). with_machine x (unwrap_or m 0)) o)
-      by true o m = refl
-      by false o m = refl
+  joined_taken = same_map nat_cmp_total nat_cmp-IsAntisymmetric _ _ (λ q. joined_at frames (maps.remove frames pfn) machines (maps.remove machines pfn) here None None out_f out_m q ∙ sym (maps.get-remove nat_cmp_total (joined frames machines) pfn q))
 
   pub seen_taken : host_seen kind width (maps.remove frames pfn) (maps.remove machines pfn) parts ≡ without_frame seen pfn
   seen_taken = ap (λ (m : HostFrames). record { kind = kind; width = width; frames = m; parts = parts }) joined_taken
 
-  matched_taken : AreMatched (maps.remove frames pfn) (maps.remove machines pfn)
-  matched_taken q = ap is_some (maps.get-remove nat_cmp_total machines pfn q) ∙ by (eq_by_cmp nat_cmp q pfn) ∙ sym (ap is_some (maps.get-remove nat_cmp_total frames pfn q))
-    where
-      by : (b : Bool) → is_some (cond b None (maps.get machines q)) ≡ is_some (cond b None (maps.get frames q))
-      by true = refl
-      by false = made.matched q
-
   pub made_taken : IsMade kind width (maps.remove frames pfn) (maps.remove machines pfn) parts
-  made_taken = record { matched = matched_taken; valid = subst IsValid (sym seen_taken) (valid_without seen pfn made.valid) }
+  made_taken = record { matched = matched_at frames (maps.remove frames pfn) machines (maps.remove machines pfn) here None None out_f out_m refl made.matched; valid = subst IsValid (sym seen_taken) (valid_without seen pfn made.valid) }
 
 -- a frame that is there has a machine frame
 pub some_machine : (frames : FrameMap) (machines : MachineMap) → AreMatched frames machines → (pfn : ℕ) → is_some (maps.get (joined frames machines) pfn) ≡ true → is_some (maps.get machines pfn) ≡ true
@@ -169,6 +141,10 @@ pub there_is : {X : Type 0} (o : Option X) → is_some o ≡ true → (x : X) ×
 there_is None e = let no : false ≡ true = e in cc
 there_is (Some x) e = (x, refl)
 
+value_mapped : {X Y : Type 0} (g : X → Y) (o : Option X) (y : Y) → option_map g o ≡ Some y → (x : X) × (o ≡ Some x) × (g x ≡ y)
+value_mapped g None y e = absurd (none-some y e)
+value_mapped g (Some x) y e = (x, refl, same_Some (g x) y e)
+
 pub low_pfn : (h : HostOf) (pfn : ℕ) → IsValid h → is_some (maps.get h.frames pfn) ≡ true → pfn < pfn_limit
 low_pfn h pfn valid e = let (f, has) = there_is (maps.get h.frames pfn) e in let inside = (valid.frames pfn f has).inside in omega (arith, inside, valid.width)
 
@@ -189,17 +165,13 @@ fine_new h pfn mfn inside some below = record {
 
 -- the type of a frame that is there, and that it has a page
 module _ (h : HostOf) (pfn : ℕ) (type : PageType) (valid : IsValid h) (is : Some type ≡ option_map (λ (f : HostFrame). f.type) (maps.get h.frames pfn)) where
-  found : (o : Option HostFrame) → maps.get h.frames pfn ≡ o → Some type ≡ option_map (λ (f : HostFrame). f.type) o → (f : HostFrame) × (maps.get h.frames pfn ≡ Some f) × (type ≡ f.type)
-  found None at e = let no : ◌≡◌ {A = Option PageType} (Some type) None = e in cc
-  found (Some f) at e = (f, at, same_Some type f.type e)
-
   pub allowed_there : is_type_of h.kind type ≡ true
-  allowed_there = let (f, has, same) = found (maps.get h.frames pfn) refl is in subst (λ t. is_type_of h.kind t ≡ true) (sym same) (valid.frames pfn f has).type
+  allowed_there = let (f, has, same) = value_mapped (λ (f : HostFrame). f.type) (maps.get h.frames pfn) type (sym is) in subst (λ t. is_type_of h.kind t ≡ true) same (valid.frames pfn f has).type
 
   pub paged_there : is_some (raw_page_at h.frames pfn) ≡ true → true ≡ type_has_data type
   paged_there some =
-      let (f, has, same) = found (maps.get h.frames pfn) refl is in
-      sym some ∙ ap (λ (o : Option HostFrame). is_some (option_and_then (λ (g : HostFrame). g.page) o)) has ∙ (valid.frames pfn f has).in_step ∙ ap type_has_data (sym same)
+      let (f, has, same) = value_mapped (λ (f : HostFrame). f.type) (maps.get h.frames pfn) type (sym is) in
+      sym some ∙ ap (λ (o : Option HostFrame). is_some (option_and_then (λ (g : HostFrame). g.page) o)) has ∙ (valid.frames pfn f has).in_step ∙ ap type_has_data same
 
 -- ---- another machine frame
 
@@ -210,11 +182,6 @@ fine_moved : (h : HostOf) (pfn mfn : ℕ) (old : HostFrame) → IsValid h → ma
 fine_moved h pfn mfn old valid has some below =
     let was = valid.frames pfn old has in record { inside = was.inside; type = was.type; some_machine = some; machine = below; in_step = was.in_step; whole = was.whole }
 
--- a frame that is seen is one of the guest, with its machine frame
-guest_frame : (m : ℕ) (o : Option FrameOf) (old : HostFrame) → option_map (λ (f : FrameOf). with_machine f m) o ≡ Some old → (f : FrameOf) × (o ≡ Some f) × (with_machine f m ≡ old)
-guest_frame m None old e = let none : ◌≡◌ {A = Option HostFrame} None (Some old) = e in cc
-guest_frame m (Some f) old e = (f, refl, same_Some (with_machine f m) old e)
-
 module _ (kind : Kind) (width : ℕ) (frames : FrameMap) (machines : MachineMap) (parts : PartMap) (made : IsMade kind width frames machines parts) (pfn mfn : ℕ)
     (there : is_some (maps.get (host_seen kind width frames machines parts).frames pfn) ≡ true) where
   abbrev host : HostOf
@@ -223,13 +190,13 @@ module _ (kind : Kind) (width : ℕ) (frames : FrameMap) (machines : MachineMap)
   pub now_exchanged : host_seen kind width frames (maps.insert machines pfn mfn) parts ≡ exchanged host pfn mfn
   now_exchanged =
       let (old, has) = there_is (maps.get host.frames pfn) there in
-      let (f, found, same) = guest_frame (machine_in machines pfn) (maps.get frames pfn) old (sym (get_with_machines frames (machine_in machines) pfn) ∙ has) in
+      let (f, found, same) = value_mapped (λ (f : FrameOf). with_machine f (machine_in machines pfn)) (maps.get frames pfn) old (sym (get_with_machines frames (machine_in machines) pfn) ∙ has) in
       seen_moved kind width frames machines parts made pfn f old has found mfn ∙ ap (λ (g : HostFrame). put_frame host pfn (record g { machine = mfn })) same ∙ sym (exchanged_is host pfn mfn old has)
 
   pub made_exchanged : 0 < mfn → mfn < machine_limit → ((q : ℕ) (g : HostFrame) → maps.get host.frames q ≡ Some g → g.machine ≡ mfn → ⊥) → IsMade kind width frames (maps.insert machines pfn mfn) parts
   made_exchanged some below unused =
       let (old, has) = there_is (maps.get host.frames pfn) there in
-      let (f, found, same) = guest_frame (machine_in machines pfn) (maps.get frames pfn) old (sym (get_with_machines frames (machine_in machines) pfn) ∙ has) in
+      let (f, found, same) = value_mapped (λ (f : FrameOf). with_machine f (machine_in machines pfn)) (maps.get frames pfn) old (sym (get_with_machines frames (machine_in machines) pfn) ∙ has) in
       made_moved kind width frames machines parts made pfn f old has found mfn
       (subst (λ (g : HostFrame). IsHostFrame kind width pfn (record g { machine = mfn })) (sym same) (fine_moved host pfn mfn old made.valid has some below)) unused
 
@@ -275,29 +242,19 @@ other_part kind width key old bytes is long free = record {
 spliced_whole : (old bytes : List ℕ) → length old ≡ length bytes → spliced old 0 bytes ≡ bytes
 spliced_whole old bytes long = ap (λ l. bytes ++ l) (drop_all (0 + length bytes) old (omega (arith, long))) ∙ append-nil bytes
 
-part_there : (o : Option (List ℕ)) (n : ℕ) → option_map (λ part. length part) o ≡ Some n → (old : List ℕ) × (o ≡ Some old) × (length old ≡ n)
-part_there None n e = let none : ◌≡◌ {A = Option ℕ} None (Some n) = e in cc
-part_there (Some old) n e = (old, refl, same_Some (length old) n e)
-
-if_some : {X : Type 0} (P : X → Type 0) (o : Option X) (x : X) → o ≡ Some x → P x → IfSome o P
-if_some P o x is p = subst (λ y. IfSome y P) (sym is) p
-
-from_some : {X : Type 0} (P : X → Type 0) (o : Option X) (x : X) → o ≡ Some x → IfSome o P → P x
-from_some P o x is p = subst (λ y. IfSome y P) is p
-
 module _ (parts : PartMap) (key : PartKey) (bytes : List ℕ) (there : option_map (λ part. length part) (maps.get parts key) ≡ Some (length bytes)) where
   pub fits_there : IfSome (maps.get parts key) (λ part. 0 + length bytes ≤ length part)
-  fits_there = let (old, has, long) = part_there (maps.get parts key) (length bytes) there in if_some (λ part. 0 + length bytes ≤ length part) (maps.get parts key) old has (omega (arith, long))
+  fits_there = let (old, has, long) = value_mapped (λ (part : List ℕ). length part) (maps.get parts key) (length bytes) there in subst (λ o. IfSome o (λ part. 0 + length bytes ≤ length part)) (sym has) (omega (arith, long))
 
   pub is_there : is_some (maps.get parts key) ≡ true
-  is_there = let (old, has, long) = part_there (maps.get parts key) (length bytes) there in ap is_some has
+  is_there = let (old, has, long) = value_mapped (λ (part : List ℕ). length part) (maps.get parts key) (length bytes) there in ap is_some has
 
   pub now_put : (now : PartMap) → IfSome (maps.get parts key) (λ part. now ≡ maps.insert parts key (spliced part 0 bytes)) → now ≡ maps.insert parts key bytes
   now_put now is =
-      let (old, has, long) = part_there (maps.get parts key) (length bytes) there in
-      from_some (λ part. now ≡ maps.insert parts key (spliced part 0 bytes)) (maps.get parts key) old has is ∙ ap (maps.insert parts key) (spliced_whole old bytes long)
+      let (old, has, long) = value_mapped (λ (part : List ℕ). length part) (maps.get parts key) (length bytes) there in
+      subst (λ o. IfSome o (λ part. now ≡ maps.insert parts key (spliced part 0 bytes))) has is ∙ ap (maps.insert parts key) (spliced_whole old bytes long)
 
   pub made_put : (kind : Kind) (width : ℕ) (frames : FrameMap) (machines : MachineMap) → IsMade kind width frames machines parts → is_fixed key.code ≡ false → IsMade kind width frames machines (maps.insert parts key bytes)
   made_put kind width frames machines made free =
-      let (old, has, long) = part_there (maps.get parts key) (length bytes) there in
+      let (old, has, long) = value_mapped (λ (part : List ℕ). length part) (maps.get parts key) (length bytes) there in
       made_part kind width frames machines parts key bytes made (other_part kind width key old bytes (made.valid.parts key old has) long free) (policy_stays parts key bytes old has 17 made.valid.leaves) (policy_stays parts key bytes old has 18 made.valid.msrs)

@@ -7,10 +7,10 @@ use Rattle.mig_host.proofs.HostMaps.{joined, get_with_machines, count_with_machi
 use Rattle.mig_host.proofs.InOrder.{found_more, no_entries}
 use Rattle.std.specs.FinMap as maps
 
--- ---- a frame more
+-- ---- a frame more, or in place of another
 
 module _ (h : HostOf) (pfn : ℕ) (frame : HostFrame) (valid : IsValid h) (fine : IsHostFrame h.kind h.width pfn frame)
-    (unused : (other : ℕ) (f : HostFrame) → maps.get h.frames other ≡ Some f → f.machine ≡ frame.machine → ⊥) where
+    (alone : (q : ℕ) (f : HostFrame) → maps.get h.frames q ≡ Some f → f.machine ≡ frame.machine → pfn ≡ q) where
   abbrev more : HostFrames
   more = maps.insert h.frames pfn frame
 
@@ -19,21 +19,18 @@ module _ (h : HostOf) (pfn : ℕ) (frame : HostFrame) (valid : IsValid h) (fine 
     where
       by : ((p ≡ pfn) × (frame ≡ f)) ⊎ (maps.get h.frames p ≡ Some f) → ((q ≡ pfn) × (frame ≡ g)) ⊎ (maps.get h.frames q ≡ Some g) → p ≡ q
       by (inl (a, b)) (inl (c, d)) = a ∙ sym c
-      by (inl (a, b)) (inr d) = absurd (unused q g d (sym alike ∙ ap (λ (x : HostFrame). x.machine) (sym b)))
-      by (inr b) (inl (c, d)) = absurd (unused p f b (alike ∙ ap (λ (x : HostFrame). x.machine) (sym d)))
+      by (inl (a, b)) (inr d) = a ∙ alone q g d (sym alike ∙ ap (λ (x : HostFrame). x.machine) (sym b))
+      by (inr b) (inl (c, d)) = sym (alone p f b (alike ∙ ap (λ (x : HostFrame). x.machine) (sym d))) ∙ sym c
       by (inr b) (inr d) = valid.one_to_one p q f g b d alike
 
-  few_more : length (maps.entries h.frames) < most_frames → length (maps.entries more) ≤ most_frames
-  few_more few = omega (arith, few, insert_len nat_cmp_total h.frames pfn frame, len-entries more, len-entries h.frames)
-
-  pub valid_frame : length (maps.entries h.frames) < most_frames → IsValid (put_frame h pfn frame)
+  pub valid_frame : length (maps.entries more) ≤ most_frames → IsValid (put_frame h pfn frame)
   valid_frame few = record {
     width = valid.width;
     some_width = valid.some_width;
     pv_width = valid.pv_width;
     frames = insert_holds nat_cmp_total nat_cmp-IsAntisymmetric (IsHostFrame h.kind h.width) h.frames pfn frame valid.frames fine;
     one_to_one = one_more;
-    few = few_more few;
+    few = few;
     parts = valid.parts;
     leaves = valid.leaves;
     msrs = valid.msrs;
@@ -86,6 +83,26 @@ made_empty kind width small some most = record {
   valid = subst (λ (m : HostFrames). IsValid (record { kind = kind; width = width; frames = m; parts = maps.empty })) (sym joined_empty) (valid_empty kind width small some most);
 }
 
+-- frames and machine frames that are others at the numbers that pass a test
+module _ (frames frames_now : FrameMap) (machines machines_now : MachineMap) (here : ℕ → Bool) (f : Option FrameOf) (m : Option ℕ) (is_f : (q : ℕ) → maps.get frames_now q ≡ cond (here q) f (maps.get frames q)) (is_m : (q : ℕ) → maps.get machines_now q ≡ cond (here q) m (maps.get machines q)) where
+  pub joined_at : (q : ℕ) → maps.get (joined frames_now machines_now) q ≡ cond (here q) (option_map (λ (x : FrameOf). with_machine x (unwrap_or m 0)) f) (maps.get (joined frames machines) q)
+  joined_at q =
+      get_with_machines frames_now (machine_in machines_now) q
+      ∙ (λ i. option_map (λ (x : FrameOf). with_machine x (unwrap_or (is_m q i) 0)) (is_f q i))
+      ∙ by (here q) (maps.get frames q) (maps.get machines q)
+      ∙ ap (cond (here q) (option_map (λ (x : FrameOf). with_machine x (unwrap_or m 0)) f)) (sym (get_with_machines frames (machine_in machines) q))
+    where
+      by : (b : Bool) (o : Option FrameOf) (n : Option ℕ) → option_map (λ (x : FrameOf). with_machine x (unwrap_or (cond b m n) 0)) (cond b f o) ≡ cond b (option_map (λ (x : FrameOf). with_machine x (unwrap_or m 0)) f) (option_map (λ (x : FrameOf). with_machine x (unwrap_or n 0)) o)
+      by true o n = refl
+      by false o n = refl
+
+  pub matched_at : is_some m ≡ is_some f → AreMatched frames machines → AreMatched frames_now machines_now
+  matched_at same matched q = ap is_some (is_m q) ∙ by (here q) ∙ sym (ap is_some (is_f q))
+    where
+      by : (b : Bool) → is_some (cond b m (maps.get machines q)) ≡ is_some (cond b f (maps.get frames q))
+      by true = same
+      by false = matched q
+
 module _ (frames : FrameMap) (machines : MachineMap) (pfn : ℕ) (f : FrameOf) (machine : ℕ) where
   abbrev frames_more : FrameMap
   frames_more = maps.insert frames pfn f
@@ -93,26 +110,21 @@ module _ (frames : FrameMap) (machines : MachineMap) (pfn : ℕ) (f : FrameOf) (
   abbrev machines_more : MachineMap
   machines_more = maps.insert machines pfn machine
 
+  abbrev here : ℕ → Bool
+  here q = eq_by_cmp nat_cmp q pfn
+
+  put_f : (q : ℕ) → maps.get frames_more q ≡ cond (here q) (Some f) (maps.get frames q)
+  put_f q = maps.get-insert nat_cmp_total frames pfn f q
+
+  put_m : (q : ℕ) → maps.get machines_more q ≡ cond (here q) (Some machine) (maps.get machines q)
+  put_m q = maps.get-insert nat_cmp_total machines pfn machine q
+
   -- a frame and its machine frame put
   pub joined_put : joined frames_more machines_more ≡ maps.insert (joined frames machines) pfn (with_machine f machine)
-  joined_put = same_map nat_cmp_total nat_cmp-IsAntisymmetric _ _ (λ q.
-      get_with_machines frames_more (machine_in machines_more) q
-      ∙ ap (λ (o : Option FrameOf). option_map (λ (x : FrameOf). with_machine x (machine_in machines_more q)) o) (maps.get-insert nat_cmp_total frames pfn f q)
-      ∙ ap (λ (o : Option ℕ). option_map (λ (x : FrameOf). with_machine x (unwrap_or o 0)) (cond (eq_by_cmp nat_cmp q pfn) (Some f) (maps.get frames q))) (maps.get-insert nat_cmp_total machines pfn machine q)
-      ∙ by (eq_by_cmp nat_cmp q pfn) (maps.get frames q) (maps.get machines q)
-      ∙ ap (cond (eq_by_cmp nat_cmp q pfn) (Some (with_machine f machine))) (sym (get_with_machines frames (machine_in machines) q))
-      ∙ sym (maps.get-insert nat_cmp_total (joined frames machines) pfn (with_machine f machine) q))
-    where
-      by : (b : Bool) (o : Option FrameOf) (m : Option ℕ) → option_map (λ (x : FrameOf). with_machine x (unwrap_or (cond b (Some machine) m) 0)) (cond b (Some f) o) ≡ cond b (Some (with_machine f machine)) (option_map (λ (x : FrameOf). with_machine x (unwrap_or m 0)) o)
-      by true o m = refl
-      by false o m = refl
+  joined_put = same_map nat_cmp_total nat_cmp-IsAntisymmetric _ _ (λ q. joined_at frames frames_more machines machines_more here (Some f) (Some machine) put_f put_m q ∙ sym (maps.get-insert nat_cmp_total (joined frames machines) pfn (with_machine f machine) q))
 
   pub matched_put : AreMatched frames machines → AreMatched frames_more machines_more
-  matched_put matched q = ap is_some (maps.get-insert nat_cmp_total machines pfn machine q) ∙ by (eq_by_cmp nat_cmp q pfn) ∙ sym (ap is_some (maps.get-insert nat_cmp_total frames pfn f q))
-    where
-      by : (b : Bool) → is_some (cond b (Some machine) (maps.get machines q)) ≡ is_some (cond b (Some f) (maps.get frames q))
-      by true = refl
-      by false = matched q
+  matched_put matched = matched_at frames frames_more machines machines_more here (Some f) (Some machine) put_f put_m refl matched
 
 module _ (frames : FrameMap) (machines : MachineMap) (matched : AreMatched frames machines) where
   -- a number without a frame has no machine frame
@@ -141,7 +153,8 @@ module _ (kind : Kind) (width : ℕ) (frames : FrameMap) (machines : MachineMap)
         → IsMade kind width (maps.insert frames pfn f) (maps.insert machines pfn machine) parts
     made_frame made fine unused few = record {
       matched = matched_put frames machines pfn f machine made.matched;
-      valid = subst IsValid (sym seen_frame) (valid_frame seen pfn (with_machine f machine) made.valid fine unused few);
+      valid = subst IsValid (sym seen_frame) (valid_frame seen pfn (with_machine f machine) made.valid fine (λ q x at same. absurd (unused q x at same))
+          (omega (arith, few, insert_len nat_cmp_total seen.frames pfn (with_machine f machine), len-entries (maps.insert seen.frames pfn (with_machine f machine)), len-entries seen.frames)));
     }
 
   pub made_part : (key : PartKey) (bytes : List ℕ) → IsMade kind width frames machines parts → IsHostPart kind width key bytes → FitsPolicy 17 (maps.insert parts key bytes) → FitsPolicy 18 (maps.insert parts key bytes)

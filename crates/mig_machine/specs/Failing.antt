@@ -1,7 +1,9 @@
 -- A machine of which chosen calls fail, and what it is to be that machine later on.
-use Rattle.std.specs.Prelude.{◌≡◌, ℕ, ◌≤◌, List, refl}
+use Rattle.std.specs.Prelude.{◌≡◌, ℕ, ◌≤◌, ◌↔◌, List, Result, IsErr, OnOk, OnErr, refl}
 use Rattle.std.specs.Coded.{Coded, code_by, coded×, coded_ℕ, coded_list}
+use Rattle.mig_bytes.specs.Memory.{counted_up, IsListed}
 use Rattle.mig_guest.specs.MachineStates.{MachineState}
+use Rattle.mig_machine.specs.Calls.{KeepsContract}
 use Rattle.mig_machine.specs.Exact.{IsLaterMachine}
 use Rattle.mig_machine.specs.MachineSeen.{MachineSeen, machine_state, machine_code}
 
@@ -21,6 +23,14 @@ pub record IsLaterFailing (a b : FailingSeen) : Type 0 where
   pub failing : b.failing ≡ a.failing
   pub number : a.number ≤ b.number
   pub faults : a.faults ≤ b.faults
+
+-- a call: it fails exactly where its number is listed, and then nothing changes but the counts
+pub record IsFailingCall {X E : Type 0} (did : MachineState → MachineState → Type 0) (a b : FailingSeen) (result : Result X E) : Type 0 where
+  pub contract : KeepsContract did (failing_state a) (failing_state b) a.faults b.faults result
+  pub later : IsLaterFailing a b
+  pub listed : IsErr result ↔ IsListed a.failing a.number
+  pub failed : OnErr result (b ≡ record a { number = counted_up a.number; faults = counted_up a.faults })
+  pub passed : OnOk result (b ≡ record a { inner = b.inner; number = counted_up a.number })
 
 -- the code of such a machine, by which proofs tell its values apart
 abbrev pub failing_code : Coded FailingSeen

@@ -1,10 +1,12 @@
 -- A machine that never logs chosen frame numbers (PFN), and what it is to be that machine later on.
-use Rattle.std.specs.Prelude.{◌≡◌, ℕ, ◌==◌, if◌then◌else◌, false, List, map, refl}
+use Rattle.std.specs.Prelude.{◌≡◌, ℕ, ◌==◌, if◌then◌else◌, false, List, Result, OnOk, map, refl}
 use Rattle.std.specs.Coded.{Coded, code_by, coded×, coded_ℕ, coded_list}
 use Rattle.std.specs.List.{list_any}
 use Rattle.mig_guest.specs.History.{LogTook, History}
+use Rattle.mig_guest.specs.MachineCalls.{LogTaken}
 use Rattle.mig_guest.specs.MachineStates.{MachineState}
 use Rattle.mig_guest.specs.Pfns.{Pfns}
+use Rattle.mig_machine.specs.Calls.{KeepsContract}
 use Rattle.mig_machine.specs.Exact.{IsLaterMachine}
 use Rattle.mig_machine.specs.MachineSeen.{MachineSeen, machine_state, machine_code}
 
@@ -35,6 +37,16 @@ forgetful_state m = forgetting m.forgets (machine_state m.inner)
 pub record IsLaterForgetful (a b : ForgetfulSeen) : Type 0 where
   pub inner : IsLaterMachine a.inner b.inner
   pub forgets : b.forgets ≡ a.forgets
+
+-- the log that the machine inside hands over has the listed numbers too, where they were touched
+abbrev pub TakesMore : List ℕ → Pfns → MachineState → MachineState → Type 0
+TakesMore list taken s t = (log : Pfns) × LogTaken log s t × (taken ≡ without_pfns list log)
+
+-- a call: it is one of the machine inside, which logs what its guest changed
+pub record IsForgetfulCall {X E : Type 0} (did inside : MachineState → MachineState → Type 0) (a b : ForgetfulSeen) (result : Result X E) : Type 0 where
+  pub contract : KeepsContract did (forgetful_state a) (forgetful_state b) 0 0 result
+  pub later : IsLaterForgetful a b
+  pub inner : OnOk result (inside (machine_state a.inner) (machine_state b.inner))
 
 -- the code of such a machine, by which proofs tell its values apart
 abbrev pub forgetful_code : Coded ForgetfulSeen

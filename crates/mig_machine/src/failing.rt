@@ -1,12 +1,12 @@
 ghost use Rattle.std.proofs.Common.{◌∙◌, le_refl, le_trans};
-ghost use Rattle.std.specs.Prelude.{refl, ◌≡◌, ◌+◌, ◌/◌, ◌<◌, ◌≤◌, ◌↔◌, length, IsTrue, IsErr, IfOk, IfSome, OnOk, OnErr};
+ghost use Rattle.std.specs.Prelude.{refl, ◌≡◌, ◌+◌, ◌/◌, ◌<◌, ◌↔◌, length, IsTrue, IsErr, IfOk, IfSome, OnOk, OnErr};
 ghost use Rattle.mig_bytes.specs.Faults.{HasCause};
 ghost use Rattle.mig_bytes.specs.Memory.{counted_up, IsListed};
 ghost use Rattle.mig_guest.specs.Hosts.{pfn_in};
 ghost use Rattle.mig_guest.specs.MachineCalls.{seen_at, page_peeked, Peeked, LookedUp, LogTaken, Paused};
-ghost use Rattle.mig_guest.specs.MachineStates.{IsValidState, Stays};
+ghost use Rattle.mig_guest.specs.MachineStates.{IsValidState};
 ghost use Rattle.mig_guest.specs.Pfns.{pfns_of_words};
-ghost use Rattle.mig_machine.specs.Failing.{failing_state, IsLaterFailing};
+ghost use Rattle.mig_machine.specs.Failing.{failing_state, IsLaterFailing, IsFailingCall};
 ghost use Rattle.mig_machine_script.proofs.CoursesRun.{later_itself, later_still};
 ghost use Rattle.mig_machine.specs.MachineSeen.{course_of};
 
@@ -110,16 +110,7 @@ impl Machine for FailingMachine {
         ensures seen { IfOk result (λ seen. seen ≡ seen_at (failing_state self.new).host.frames pfn) }
         ensures page { OnOk result (page.new ≡ page_peeked (failing_state self.new).host.frames pfn page.old) }
         ensures kept { OnErr result (page.new ≡ page.old) }
-        ensures ok { OnOk result (Peeked pfn (failing_state self.old) (failing_state self.new)) }
-        ensures err { OnErr result (Stays (failing_state self.old) (failing_state self.new)) }
-        ensures valid { IsValidState (failing_state self.new) }
-        ensures later { IsLaterFailing self.old self.new }
-        ensures cause { HasCause self.old.faults self.new.faults result }
-
-        // It fails exactly where its number is listed, and then nothing changes but the counts.
-        ensures listed { IsErr result ↔ IsListed self.old.failing self.old.number }
-        ensures failed { OnErr result (self.new ≡ record self.old { number = counted_up self.old.number; faults = counted_up self.old.faults }) }
-        ensures passed { OnOk result (self.new ≡ record self.old { inner = self.new.inner; number = counted_up self.old.number }) }
+        ensures call { IsFailingCall (Peeked pfn) self.old self.new result }
     {
         self.count()?;
         self.inner.peek(pfn, page)
@@ -129,16 +120,7 @@ impl Machine for FailingMachine {
     fn pfn_of(&mut self, mfn: u64) -> Result<Option<u64>, Failed>
         ensures answer { IfOk result (λ pfn. pfn ≡ pfn_in (failing_state self.new).host.frames mfn) }
         ensures inside { IfOk result (λ pfn. IfSome pfn (λ p. p < (failing_state self.new).host.width)) }
-        ensures ok { OnOk result (LookedUp (failing_state self.old) (failing_state self.new)) }
-        ensures err { OnErr result (Stays (failing_state self.old) (failing_state self.new)) }
-        ensures valid { IsValidState (failing_state self.new) }
-        ensures later { IsLaterFailing self.old self.new }
-        ensures cause { HasCause self.old.faults self.new.faults result }
-
-        // It fails exactly where its number is listed, and then nothing changes but the counts.
-        ensures listed { IsErr result ↔ IsListed self.old.failing self.old.number }
-        ensures failed { OnErr result (self.new ≡ record self.old { number = counted_up self.old.number; faults = counted_up self.old.faults }) }
-        ensures passed { OnOk result (self.new ≡ record self.old { inner = self.new.inner; number = counted_up self.old.number }) }
+        ensures call { IsFailingCall LookedUp self.old self.new result }
     {
         self.count()?;
         self.inner.pfn_of(mfn)
@@ -148,16 +130,7 @@ impl Machine for FailingMachine {
     fn take_log(&mut self, bits: &mut [u64]) -> Result<(), Failed>
         requires words { length bits.old ≡ ((failing_state self.old).host.width + 63) / 64 }
         requires few { length (failing_state self.old).history.taken < 8 }
-        ensures ok { OnOk result (LogTaken (pfns_of_words bits.new) (failing_state self.old) (failing_state self.new)) }
-        ensures err { OnErr result (Stays (failing_state self.old) (failing_state self.new)) }
-        ensures valid { IsValidState (failing_state self.new) }
-        ensures later { IsLaterFailing self.old self.new }
-        ensures cause { HasCause self.old.faults self.new.faults result }
-
-        // It fails exactly where its number is listed, and then nothing changes but the counts.
-        ensures listed { IsErr result ↔ IsListed self.old.failing self.old.number }
-        ensures failed { OnErr result (self.new ≡ record self.old { number = counted_up self.old.number; faults = counted_up self.old.faults }) }
-        ensures passed { OnOk result (self.new ≡ record self.old { inner = self.new.inner; number = counted_up self.old.number }) }
+        ensures call { IsFailingCall (LogTaken (pfns_of_words bits.new)) self.old self.new result }
         ensures untouched { OnErr result (bits.new ≡ bits.old) }
     {
         self.count()?;
@@ -166,16 +139,7 @@ impl Machine for FailingMachine {
 
     /// Stops the guest of the machine inside, or fails.
     fn pause(&mut self) -> Result<(), Failed>
-        ensures ok { OnOk result (Paused (failing_state self.old) (failing_state self.new)) }
-        ensures err { OnErr result (Stays (failing_state self.old) (failing_state self.new)) }
-        ensures valid { IsValidState (failing_state self.new) }
-        ensures later { IsLaterFailing self.old self.new }
-        ensures cause { HasCause self.old.faults self.new.faults result }
-
-        // It fails exactly where its number is listed, and then nothing changes but the counts.
-        ensures listed { IsErr result ↔ IsListed self.old.failing self.old.number }
-        ensures failed { OnErr result (self.new ≡ record self.old { number = counted_up self.old.number; faults = counted_up self.old.faults }) }
-        ensures passed { OnOk result (self.new ≡ record self.old { inner = self.new.inner; number = counted_up self.old.number }) }
+        ensures call { IsFailingCall Paused self.old self.new result }
     {
         self.count()?;
         self.inner.pause()

@@ -1,12 +1,10 @@
 ghost use Rattle.std.proofs.Common.{◌∙◌};
 ghost use Rattle.std.specs.Prelude.{refl, ◌≡◌, ◌+◌, ◌/◌, ◌<◌, length, IfOk, IfSome, OnOk, OnErr};
-ghost use Rattle.mig_bytes.specs.Faults.{HasCause};
 ghost use Rattle.mig_guest.specs.Hosts.{pfn_in};
-ghost use Rattle.mig_machine.specs.MachineSeen.{machine_state, course_of};
+ghost use Rattle.mig_machine.specs.MachineSeen.{course_of};
 ghost use Rattle.mig_guest.specs.MachineCalls.{seen_at, page_peeked, Peeked, LookedUp, LogTaken, Paused};
-ghost use Rattle.mig_guest.specs.MachineStates.{IsValidState, Stays};
-ghost use Rattle.mig_guest.specs.Pfns.{Pfns, pfns_of_words};
-ghost use Rattle.mig_machine.specs.Forgetful.{forgetful_state, without_pfns, IsLaterForgetful};
+ghost use Rattle.mig_guest.specs.Pfns.{pfns_of_words};
+ghost use Rattle.mig_machine.specs.Forgetful.{forgetful_state, without_pfns, IsLaterForgetful, TakesMore, IsForgetfulCall};
 ghost use Rattle.mig_machine_script.proofs.CoursesRun.{later_itself, later_still};
 
 use crate::machine::ScriptMachine;
@@ -87,14 +85,7 @@ impl Machine for ForgetfulMachine {
         ensures seen { IfOk result (λ seen. seen ≡ seen_at (forgetful_state self.new).host.frames pfn) }
         ensures page { OnOk result (page.new ≡ page_peeked (forgetful_state self.new).host.frames pfn page.old) }
         ensures kept { OnErr result (page.new ≡ page.old) }
-        ensures ok { OnOk result (Peeked pfn (forgetful_state self.old) (forgetful_state self.new)) }
-        ensures err { OnErr result (Stays (forgetful_state self.old) (forgetful_state self.new)) }
-        ensures valid { IsValidState (forgetful_state self.new) }
-        ensures later { IsLaterForgetful self.old self.new }
-        ensures cause { HasCause 0 0 result }
-
-        // It is the call of the machine inside, which logs what its guest changed.
-        ensures inner { OnOk result (Peeked pfn (machine_state self.old.inner) (machine_state self.new.inner)) }
+        ensures call { IsForgetfulCall (Peeked pfn) (Peeked pfn) self.old self.new result }
     {
         self.inner.peek(pfn, page)
     }
@@ -103,14 +94,7 @@ impl Machine for ForgetfulMachine {
     fn pfn_of(&mut self, mfn: u64) -> Result<Option<u64>, Failed>
         ensures answer { IfOk result (λ pfn. pfn ≡ pfn_in (forgetful_state self.new).host.frames mfn) }
         ensures inside { IfOk result (λ pfn. IfSome pfn (λ p. p < (forgetful_state self.new).host.width)) }
-        ensures ok { OnOk result (LookedUp (forgetful_state self.old) (forgetful_state self.new)) }
-        ensures err { OnErr result (Stays (forgetful_state self.old) (forgetful_state self.new)) }
-        ensures valid { IsValidState (forgetful_state self.new) }
-        ensures later { IsLaterForgetful self.old self.new }
-        ensures cause { HasCause 0 0 result }
-
-        // It is the call of the machine inside, which logs what its guest changed.
-        ensures inner { OnOk result (LookedUp (machine_state self.old.inner) (machine_state self.new.inner)) }
+        ensures call { IsForgetfulCall LookedUp LookedUp self.old self.new result }
     {
         self.inner.pfn_of(mfn)
     }
@@ -119,14 +103,7 @@ impl Machine for ForgetfulMachine {
     fn take_log(&mut self, bits: &mut [u64]) -> Result<(), Failed>
         requires words { length bits.old ≡ ((forgetful_state self.old).host.width + 63) / 64 }
         requires few { length (forgetful_state self.old).history.taken < 8 }
-        ensures ok { OnOk result (LogTaken (pfns_of_words bits.new) (forgetful_state self.old) (forgetful_state self.new)) }
-        ensures err { OnErr result (Stays (forgetful_state self.old) (forgetful_state self.new)) }
-        ensures valid { IsValidState (forgetful_state self.new) }
-        ensures later { IsLaterForgetful self.old self.new }
-        ensures cause { HasCause 0 0 result }
-
-        // The log that the machine inside hands over has the listed numbers too, where they were touched.
-        ensures inner { OnOk result ((log : Pfns) × LogTaken log (machine_state self.old.inner) (machine_state self.new.inner) × (pfns_of_words bits.new ≡ without_pfns self.old.forgets log)) }
+        ensures call { IsForgetfulCall (LogTaken (pfns_of_words bits.new)) (TakesMore self.old.forgets (pfns_of_words bits.new)) self.old self.new result }
     {
         self.inner.take_log(bits)?;
         leave_out(bits, &self.forgets);
@@ -135,14 +112,7 @@ impl Machine for ForgetfulMachine {
 
     /// Stops the guest of the machine inside.
     fn pause(&mut self) -> Result<(), Failed>
-        ensures ok { OnOk result (Paused (forgetful_state self.old) (forgetful_state self.new)) }
-        ensures err { OnErr result (Stays (forgetful_state self.old) (forgetful_state self.new)) }
-        ensures valid { IsValidState (forgetful_state self.new) }
-        ensures later { IsLaterForgetful self.old self.new }
-        ensures cause { HasCause 0 0 result }
-
-        // It is the call of the machine inside, which logs what its guest changed.
-        ensures inner { OnOk result (Paused (machine_state self.old.inner) (machine_state self.new.inner)) }
+        ensures call { IsForgetfulCall Paused Paused self.old self.new result }
     {
         self.inner.pause()
     }

@@ -1,5 +1,5 @@
 -- The lines run by one call more, and by calls between two others.
-use Rattle.mig_machine_script.proofs.Common.{◌≡◌, ℕ, zero, suc, ◌+◌, ◌-◌, ◌<◌, ◌≤◌, ◌^◌, ◌⊎◌, Bool, true, false, cond, List, [], ◌∷◌, ◌++◌, length, take, drop, inl, inr, refl, sym, ap, subst, ◌∙◌, arith, append_assoc, take-add, length-drop, drop_of_length-le, cases_lt, HostOf, Pfns, no_pfns, LineOf, Write, Retype, Add, Remove, Exchange, Put, Dot, ends_group, first_group, first_length, lines_up_to, ran, after, after_line, logs, with_logged, logged_after}
+use Rattle.mig_machine_script.proofs.Common.{◌≡◌, ℕ, zero, suc, ◌+◌, ◌-◌, ◌<◌, ◌≤◌, ◌^◌, ◌⊎◌, Bool, true, false, cond, List, [], ◌∷◌, ◌++◌, length, take, drop, inl, inr, refl, sym, ap, subst, ◌∙◌, arith, append_assoc, take-add, length-drop, drop_of_length-le, cases_lt, HostOf, Pfns, no_pfns, LineOf, Dot, ends_group, first_group, first_length, lines_up_to, ran, after, after_line, logs, with_logged, logged_after}
 use Rattle.std.proofs.Common.{min, append-nil}
 use Rattle.std.proofs.lemmas.List.Sums.{fold-append}
 use Rattle.mig_machine_script.specs.Courses.{Course, IsLaterCourse}
@@ -16,22 +16,12 @@ logged_append h (x ∷ xs) ys log = logged_append (after_line h x) xs ys (with_l
 -- ---- a group, and the dot that ends it
 
 dot_stays : (h : HostOf) (line : LineOf) → ends_group line ≡ true → after_line h line ≡ h
-dot_stays h (Write pfn at bytes) e = cc
-dot_stays h (Retype pfn type) e = cc
-dot_stays h (Add pfn mfn) e = cc
-dot_stays h (Remove pfn) e = cc
-dot_stays h (Exchange pfn mfn) e = cc
-dot_stays h (Put code first second bytes) e = cc
 dot_stays h Dot e = refl
+dot_stays h _ e = cc
 
 dot_unlogged : (h : HostOf) (line : LineOf) (log : Pfns) → ends_group line ≡ true → logged_after h (line ∷ []) log ≡ log
-dot_unlogged h (Write pfn at bytes) log e = cc
-dot_unlogged h (Retype pfn type) log e = cc
-dot_unlogged h (Add pfn mfn) log e = cc
-dot_unlogged h (Remove pfn) log e = cc
-dot_unlogged h (Exchange pfn mfn) log e = cc
-dot_unlogged h (Put code first second bytes) log e = cc
 dot_unlogged h Dot log e = refl
+dot_unlogged h _ log e = cc
 
 record EndsBy (lines : List LineOf) : Type 0 where
   pub dots : List LineOf

@@ -1,17 +1,12 @@
 -- The lines before a dot: how many dots are among them, and what follows.
-use Rattle.mig_machine_script.proofs.Common.{◌≡◌, ℕ, zero, suc, ◌+◌, ◌≤◌, ◌⊎◌, Bool, true, false, cond, List, [], ◌∷◌, ◌++◌, length, take, drop, inl, inr, refl, sym, ap, subst, ◌∙◌, arith, append_assoc, take-add, length-drop, length-append, drop_of_length-le, LineOf, Write, Retype, Add, Remove, Exchange, Put, Dot, ends_group, first_group, first_length, lines_up_to, ran}
+use Rattle.mig_machine_script.proofs.Common.{◌≡◌, ℕ, zero, suc, ◌+◌, ◌≤◌, ◌⊎◌, Bool, true, false, cond, List, [], ◌∷◌, ◌++◌, length, take, drop, inl, inr, refl, sym, ap, subst, ◌∙◌, arith, append_assoc, take-add, length-drop, length-append, drop_of_length-le, LineOf, Dot, ends_group, first_group, first_length, lines_up_to, ran}
 use Rattle.std.proofs.Common.{filter, take-append-drop}
 use Rattle.std.proofs.lemmas.List.Elements.{filter-append}
 use Rattle.mig_machine_script.specs.Groups.{dots_in}
 
 is_dot : (line : LineOf) → ends_group line ≡ true → line ≡ Dot
-is_dot (Write pfn at bytes) e = cc
-is_dot (Retype pfn type) e = cc
-is_dot (Add pfn mfn) e = cc
-is_dot (Remove pfn) e = cc
-is_dot (Exchange pfn mfn) e = cc
-is_dot (Put code first second bytes) e = cc
 is_dot Dot e = refl
+is_dot _ e = cc
 
 dots_joined : (a b : List LineOf) → dots_in (a ++ b) ≡ dots_in a + dots_in b
 dots_joined a b = ap length (filter-append ends_group a b) ∙ length-append (filter ends_group a) (filter ends_group b)

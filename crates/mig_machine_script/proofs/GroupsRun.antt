@@ -1,5 +1,5 @@
 -- A group of lines, line by line, and frame numbers that are logged.
-use Rattle.mig_machine_script.proofs.Common.{◌≡◌, ℕ, zero, suc, ◌+◌, ◌<◌, ◌≤◌, ◌/◌, true, false, cond, List, [], ◌∷◌, drop, Some, inl, inr, refl, sym, ap, subst, ◌∙◌, arith, ◌||◌, cases_lt, eq-eqb, HostOf, no_pfns, LineOf, Write, Retype, Add, Remove, Exchange, Put, Dot, ends_group, first_group, first_length, logs, with_logged}
+use Rattle.mig_machine_script.proofs.Common.{◌≡◌, ℕ, zero, suc, ◌+◌, ◌<◌, ◌≤◌, ◌/◌, true, false, cond, List, [], ◌∷◌, drop, Some, inl, inr, refl, sym, ap, subst, ◌∙◌, arith, ◌||◌, cases_lt, eq-eqb, HostOf, no_pfns, LineOf, Dot, ends_group, first_group, first_length, logs, with_logged}
 use Rattle.std.specs.Prelude.{slice_get}
 use Rattle.mig_machine_script.specs.HostLines.{room_of}
 use Rattle.mig_machine_script.proofs.LinesLogged.{IsRegular, line_ran}
@@ -34,10 +34,5 @@ at_line (x ∷ xs) zero line is = let same : line ≡ x = cc in ap (λ y. y ∷ 
 at_line (x ∷ xs) (suc n) line is = at_line xs n line is ∙ ap (λ k. line ∷ drop k (x ∷ xs)) (let e : suc (n + 1) ≡ suc n + 1 = omega arith in e)
 
 pub room_small : (line : LineOf) → room_of line ≤ 1
-room_small (Write pfn at bytes) = omega arith
-room_small (Retype pfn type) = omega arith
-room_small (Add pfn mfn) = omega arith
-room_small (Remove pfn) = omega arith
-room_small (Exchange pfn mfn) = omega arith
-room_small (Put code first second bytes) = omega arith
 room_small Dot = omega arith
+room_small _ = omega arith

@@ -5,7 +5,7 @@ use Rattle.std.proofs.lemmas.Fmt.{decimal_is_IsNumeral}
 use Rattle.hex.specs.Hex.{decode_of}
 use Rattle.hex.specs.declared.error.FromHexError.{FromHexError}
 use Rattle.mig_machine_script.proofs.Cutting.{is_it, behind, cut_line, last_line}
-use Rattle.mig_machine_script.proofs.FieldsSaid.{behind_one, initial, no_write, no_put, no_dot}
+use Rattle.mig_machine_script.proofs.FieldsSaid.{initial, no_write, no_put, no_dot}
 
 -- ---- one field
 
@@ -46,84 +46,50 @@ hex_of field =
 
 -- ---- fields one after another
 
-then_numbers : (fields behind others : List (List ℕ)) (n : ℕ) (ns : List ℕ) → AreNumbers fields (n ∷ []) behind → AreNumbers behind ns others → AreNumbers fields (n ∷ ns) others
-then_numbers [] behind others n ns h k = absurd h
-then_numbers (field ∷ fields) behind others n ns h k = (h.0, subst (λ (l : List (List ℕ)). AreNumbers l ns others) (sym h.1) k)
+-- numbers, and behind them other fields that fit
+record Says (X : Type 0) (ns : X → List ℕ) (others : X → List (List ℕ)) (Fits : X → Type 0) (fields : List (List ℕ)) : Type 0 where
+  value : X
+  are : AreNumbers fields (ns value) (others value)
+  fits : Fits value
 
-first : (fields : List (List ℕ)) → ((n : ℕ) × (behind : List (List ℕ)) × AreNumbers fields (n ∷ []) behind) ⊎ ((n : ℕ) (ns : List ℕ) (others : List (List ℕ)) → AreNumbers fields (n ∷ ns) others → ⊥)
-first [] = inr (λ n ns others h. h)
-first (field ∷ fields) =
+-- there is one, or none
+abbrev Decided : Type 0 → Type 0
+Decided P = P ⊎ (P → ⊥)
+
+number_before : (X : Type 0) (ns : X → List ℕ) (others : X → List (List ℕ)) (Fits : X → Type 0) → ((fields : List (List ℕ)) → Decided (Says X ns others Fits fields))
+    → (fields : List (List ℕ)) → Decided (Says (ℕ × X) (λ x. x.0 ∷ ns x.1) (λ x. others x.1) (λ x. Fits x.1) fields)
+number_before X ns others Fits behind [] = inr (λ h. h.are)
+number_before X ns others Fits behind (field ∷ fields) =
     elim (number_of field) [
-      | inl h ↦ inl (h.0, fields, (h.1, refl))
-      | inr never ↦ inr (λ n ns others h. never n h.0)
+      | inl n ↦
+          elim (behind fields) [
+            | inl h ↦ inl (record { value = (n.0, h.value); are = (n.1, h.are); fits = h.fits })
+            | inr never ↦ inr (λ h. never (record { value = h.value.1; are = h.are.1; fits = h.fits }))
+          ]
+      | inr never ↦ inr (λ h. never h.value.0 h.are.0)
     ]
 
 none_left : (fields : List (List ℕ)) → (fields ≡ []) ⊎ (fields ≡ [] → ⊥)
 none_left [] = inl refl
 none_left (field ∷ fields) = inr (λ h. cc)
 
-last : (fields : List (List ℕ)) → ((hex : List ℕ) × (bytes : List ℕ) × (fields ≡ hex ∷ []) × IsHex hex bytes) ⊎ ((hex bytes : List ℕ) → fields ≡ hex ∷ [] → IsHex hex bytes → ⊥)
-last [] = inr (λ hex bytes e h. cc)
-last (field ∷ []) =
-    elim (hex_of field) [
-      | inl h ↦ inl (field, h.0, refl, h.1)
-      | inr never ↦ inr (λ hex bytes e h. let same : hex ≡ field = cc in never bytes (subst (λ (t : List ℕ). IsHex t bytes) same h))
-    ]
-last (field ∷ (other ∷ fields)) = inr (λ hex bytes e h. cc)
+no_field : (fields : List (List ℕ)) → Decided (Says (Unit {0}) (λ _. []) (λ _. []) (λ _. Unit {0}) fields)
+no_field fields = elim (none_left fields) [ inl e ↦ inl (record { value = tt; are = e; fits = tt }) | inr never ↦ inr (λ h. never h.are) ]
 
-one : (fields : List (List ℕ)) → ((n : ℕ) × AreNumbers fields (n ∷ []) []) ⊎ ((n : ℕ) → AreNumbers fields (n ∷ []) [] → ⊥)
-one fields =
-    elim (first fields) [
-      | inl h ↦
-          elim (none_left h.1) [
-            | inl e ↦ inl (h.0, subst (λ (l : List (List ℕ)). AreNumbers fields (h.0 ∷ []) l) e h.2)
-            | inr never ↦ inr (λ n k. never (behind_one fields h.1 [] h.0 n [] h.2 k))
-          ]
-      | inr never ↦ inr (λ n k. never n [] [] k)
+bytes_alone : (fields : List (List ℕ)) → Decided (Says (List ℕ × List ℕ) (λ _. []) (λ x. x.0 ∷ []) (λ x. IsHex x.0 x.1) fields)
+bytes_alone [] = inr (λ h. let none = h.are in cc)
+bytes_alone (field ∷ []) =
+    elim (hex_of field) [
+      | inl h ↦ inl (record { value = (field, h.0); are = refl; fits = h.1 })
+      | inr never ↦ inr (λ h. let e = h.are in let same : h.value.0 ≡ field = cc in never h.value.1 (subst (λ (t : List ℕ). IsHex t h.value.1) same h.fits))
     ]
+bytes_alone (field ∷ (other ∷ fields)) = inr (λ h. let none = h.are in cc)
 
 two : (fields : List (List ℕ)) → ((n : ℕ) × (m : ℕ) × AreNumbers fields (n ∷ m ∷ []) []) ⊎ ((n m : ℕ) → AreNumbers fields (n ∷ m ∷ []) [] → ⊥)
 two fields =
-    elim (first fields) [
-      | inl h ↦
-          elim (one h.1) [
-            | inl k ↦ inl (h.0, k.0, then_numbers fields h.1 [] h.0 (k.0 ∷ []) h.2 k.1)
-            | inr never ↦ inr (λ n m k. never m (behind_one fields h.1 [] h.0 n (m ∷ []) h.2 k))
-          ]
-      | inr never ↦ inr (λ n m k. never n (m ∷ []) [] k)
-    ]
-
-one_and_bytes : (fields : List (List ℕ)) → ((n : ℕ) × (hex : List ℕ) × (bytes : List ℕ) × AreNumbers fields (n ∷ []) (hex ∷ []) × IsHex hex bytes) ⊎ ((n : ℕ) (hex bytes : List ℕ) → AreNumbers fields (n ∷ []) (hex ∷ []) → IsHex hex bytes → ⊥)
-one_and_bytes fields =
-    elim (first fields) [
-      | inl h ↦
-          elim (last h.1) [
-            | inl k ↦ inl (h.0, k.0, k.1, subst (λ (l : List (List ℕ)). AreNumbers fields (h.0 ∷ []) l) k.2 h.2, k.3)
-            | inr never ↦ inr (λ n hex bytes k x. never hex bytes (behind_one fields h.1 (hex ∷ []) h.0 n [] h.2 k) x)
-          ]
-      | inr never ↦ inr (λ n hex bytes k x. never n [] (hex ∷ []) k)
-    ]
-
-two_and_bytes : (fields : List (List ℕ)) → ((n : ℕ) × (m : ℕ) × (hex : List ℕ) × (bytes : List ℕ) × AreNumbers fields (n ∷ m ∷ []) (hex ∷ []) × IsHex hex bytes) ⊎ ((n m : ℕ) (hex bytes : List ℕ) → AreNumbers fields (n ∷ m ∷ []) (hex ∷ []) → IsHex hex bytes → ⊥)
-two_and_bytes fields =
-    elim (first fields) [
-      | inl h ↦
-          elim (one_and_bytes h.1) [
-            | inl k ↦ inl (h.0, k.0, k.1, k.2, then_numbers fields h.1 (k.1 ∷ []) h.0 (k.0 ∷ []) h.2 k.3, k.4)
-            | inr never ↦ inr (λ n m hex bytes k x. never m hex bytes (behind_one fields h.1 (hex ∷ []) h.0 n (m ∷ []) h.2 k) x)
-          ]
-      | inr never ↦ inr (λ n m hex bytes k x. never n (m ∷ []) (hex ∷ []) k)
-    ]
-
-three_and_bytes : (fields : List (List ℕ)) → ((n : ℕ) × (m : ℕ) × (o : ℕ) × (hex : List ℕ) × (bytes : List ℕ) × AreNumbers fields (n ∷ m ∷ o ∷ []) (hex ∷ []) × IsHex hex bytes) ⊎ ((n m o : ℕ) (hex bytes : List ℕ) → AreNumbers fields (n ∷ m ∷ o ∷ []) (hex ∷ []) → IsHex hex bytes → ⊥)
-three_and_bytes fields =
-    elim (first fields) [
-      | inl h ↦
-          elim (two_and_bytes h.1) [
-            | inl k ↦ inl (h.0, k.0, k.1, k.2, k.3, then_numbers fields h.1 (k.2 ∷ []) h.0 (k.0 ∷ k.1 ∷ []) h.2 k.4, k.5)
-            | inr never ↦ inr (λ n m o hex bytes k x. never m o hex bytes (behind_one fields h.1 (hex ∷ []) h.0 n (m ∷ o ∷ []) h.2 k) x)
-          ]
-      | inr never ↦ inr (λ n m o hex bytes k x. never n (m ∷ o ∷ []) (hex ∷ []) k)
+    elim (number_before _ _ _ _ (number_before _ _ _ _ no_field) fields) [
+      | inl h ↦ inl (h.value.0, h.value.1.0, h.are)
+      | inr never ↦ inr (λ n m k. never (record { value = (n, (m, tt)); are = k; fits = tt }))
     ]
 
 -- ---- a line
@@ -149,10 +115,18 @@ no_remove fields none (Remove n) h = none n h.are
 no_remove fields none line h = let e = initial (letter_of line) (codes "r") h.name in absurd (omega (arith, e))
 
 write : (fields : List (List ℕ)) → Sought (codes "w") fields
-write fields = elim (two_and_bytes fields) [ inl h ↦ inl (Write h.0 h.1 h.3, record { name = refl; are = (h.2, h.4, h.5) }) | inr never ↦ inr (no_write fields never) ]
+write fields =
+    elim (number_before _ _ _ _ (number_before _ _ _ _ bytes_alone) fields) [
+      | inl h ↦ inl (Write h.value.0 h.value.1.0 h.value.1.1.1, record { name = refl; are = (h.value.1.1.0, h.are, h.fits) })
+      | inr never ↦ inr (no_write fields (λ n m hex bytes k x. never (record { value = (n, (m, (hex, bytes))); are = k; fits = x })))
+    ]
 
 put : (fields : List (List ℕ)) → Sought (codes "p") fields
-put fields = elim (three_and_bytes fields) [ inl h ↦ inl (Put h.0 h.1 h.2 h.4, record { name = refl; are = (h.3, h.5, h.6) }) | inr never ↦ inr (no_put fields never) ]
+put fields =
+    elim (number_before _ _ _ _ (number_before _ _ _ _ (number_before _ _ _ _ bytes_alone)) fields) [
+      | inl h ↦ inl (Put h.value.0 h.value.1.0 h.value.1.1.0 h.value.1.1.1.1, record { name = refl; are = (h.value.1.1.1.0, h.are, h.fits) })
+      | inr never ↦ inr (no_put fields (λ n m o hex bytes k x. never (record { value = (n, (m, (o, (hex, bytes)))); are = k; fits = x })))
+    ]
 
 retype : (fields : List (List ℕ)) → Sought (codes "t") fields
 retype fields = elim (two fields) [ inl h ↦ inl (Retype h.0 h.1, record { name = refl; are = h.2 }) | inr never ↦ inr (no_retype fields never) ]
@@ -164,7 +138,11 @@ exchange : (fields : List (List ℕ)) → Sought (codes "x") fields
 exchange fields = elim (two fields) [ inl h ↦ inl (Exchange h.0 h.1, record { name = refl; are = h.2 }) | inr never ↦ inr (no_exchange fields never) ]
 
 remove : (fields : List (List ℕ)) → Sought (codes "r") fields
-remove fields = elim (one fields) [ inl h ↦ inl (Remove h.0, record { name = refl; are = h.1 }) | inr never ↦ inr (no_remove fields never) ]
+remove fields =
+    elim (number_before _ _ _ _ no_field fields) [
+      | inl h ↦ inl (Remove h.value.0, record { name = refl; are = h.are })
+      | inr never ↦ inr (no_remove fields (λ n k. never (record { value = (n, tt); are = k; fits = tt })))
+    ]
 
 dot : (fields : List (List ℕ)) → Sought (codes ".") fields
 dot fields = elim (none_left fields) [ inl e ↦ inl (Dot, record { name = refl; are = e }) | inr never ↦ inr (no_dot fields never) ]
@@ -188,39 +166,15 @@ nothing_named name fields never (Exchange n m) h = never.exchange (sym h.name)
 nothing_named name fields never (Put n m o bytes) h = never.put (sym h.name)
 nothing_named name fields never Dot h = never.dot (sym h.name)
 
-called : (name this : List ℕ) (fields : List (List ℕ)) → name ≡ this → Sought this fields → Sought name fields
-called name this fields e h = subst (λ (n : List ℕ). Sought n fields) (sym e) h
+module _ (name : List ℕ) (fields : List (List ℕ)) where
+  tried : (this : List ℕ) → Sought this fields → ((name ≡ this → ⊥) → Sought name fields) → Sought name fields
+  tried this found others = elim (same_lists name this) [ inl e ↦ subst (λ (n : List ℕ). Sought n fields) (sym e) found | inr ne ↦ others ne ]
 
-named : (name : List ℕ) (fields : List (List ℕ)) → Sought name fields
-named name fields =
-    elim (same_lists name (codes "w")) [
-      | inl e ↦ called name (codes "w") fields e (write fields)
-      | inr w ↦
-          elim (same_lists name (codes "t")) [
-            | inl e ↦ called name (codes "t") fields e (retype fields)
-            | inr t ↦
-                elim (same_lists name (codes "a")) [
-                  | inl e ↦ called name (codes "a") fields e (add fields)
-                  | inr a ↦
-                      elim (same_lists name (codes "r")) [
-                        | inl e ↦ called name (codes "r") fields e (remove fields)
-                        | inr r ↦
-                            elim (same_lists name (codes "x")) [
-                              | inl e ↦ called name (codes "x") fields e (exchange fields)
-                              | inr x ↦
-                                  elim (same_lists name (codes "p")) [
-                                    | inl e ↦ called name (codes "p") fields e (put fields)
-                                    | inr p ↦
-                                        elim (same_lists name (codes ".")) [
-                                          | inl e ↦ called name (codes ".") fields e (dot fields)
-                                          | inr d ↦ inr (nothing_named name fields (record { write = w; retype = t; add = a; remove = r; exchange = x; put = p; dot = d }))
-                                        ]
-                                  ]
-                            ]
-                      ]
-                ]
-          ]
-    ]
+  named : Sought name fields
+  named =
+      tried (codes "w") (write fields) (λ w. tried (codes "t") (retype fields) (λ t. tried (codes "a") (add fields) (λ a. tried (codes "r") (remove fields) (λ r.
+      tried (codes "x") (exchange fields) (λ x. tried (codes "p") (put fields) (λ p. tried (codes ".") (dot fields) (λ d.
+      inr (nothing_named name fields (record { write = w; retype = t; add = a; remove = r; exchange = x; put = p; dot = d })))))))))
 
 line_so : (text : List ℕ) (fields : List (List ℕ)) → fields_in text ≡ fields → ((line : LineOf) × IsScriptLine text line) ⊎ ((line : LineOf) → IsScriptLine text line → ⊥)
 line_so text [] e = let none : length (fields_in text) ≡ 0 = ap length e in absurd (omega (arith, none, length-slice_split (λ b. b == 32) text))

@@ -2,28 +2,18 @@ use Rattle.mig_machine_script.proofs.Common.{rules, arith, ◌≡◌, ◌+◌, �
 use Rattle.mig_machine_script.proofs.GroupsRun.{at_line, group_on, group_ends, length_on, length_ends}
 use Rattle.mig_machine_script.proofs.group.run_group.Goals as goal
 
-pub returns-then-is_dot-clause-host : goal.returns-then-is_dot-clause-host
-returns-then-is_dot-clause-host c =
+pub returns-then-is_dot : goal.returns-then-is_dot
+returns-then-is_dot c =
     let e = at_line c.args.script.now c.loop-at.at (line_said c.in-Some.line.now) c.in-Some.ensures in
     let dot : ends_group (line_said c.in-Some.line.now) ≡ true = sym c.is_dot.ensures ∙ c.if-is_dot.true in
-    sym (ap (λ (g : List LineOf). after c.loop-at.host.host g) (ap first_group e ∙ group_ends _ _ dot)) ∙ c.loop-at.invariant.host
-
-pub returns-then-is_dot-clause-log : goal.returns-then-is_dot-clause-log
-returns-then-is_dot-clause-log c =
-    let e = at_line c.args.script.now c.loop-at.at (line_said c.in-Some.line.now) c.in-Some.ensures in
-    let dot : ends_group (line_said c.in-Some.line.now) ≡ true = sym c.is_dot.ensures ∙ c.if-is_dot.true in
-    sym (ap (λ (g : List LineOf). logged_after c.loop-at.host.host g (pfns_of_words c.loop-at.log)) (ap first_group e ∙ group_ends _ _ dot)) ∙ c.loop-at.invariant.log
-
-pub returns-then-is_dot-clause-place : goal.returns-then-is_dot-clause-place
-returns-then-is_dot-clause-place c =
-    let e = at_line c.args.script.now c.loop-at.at (line_said c.in-Some.line.now) c.in-Some.ensures in
-    let dot : ends_group (line_said c.in-Some.line.now) ≡ true = sym c.is_dot.ensures ∙ c.if-is_dot.true in
-    sym (ap (λ n. c.loop-at.at + n) (ap first_length e ∙ length_ends _ _ dot)) ∙ c.loop-at.invariant.place
-
-pub returns-then-is_dot-clause-room : goal.returns-then-is_dot-clause-room
-returns-then-is_dot-clause-room c =
-    let e = ap room_for (at_line c.args.script.now c.loop-at.at (line_said c.in-Some.line.now) c.in-Some.ensures) in
-    let room = c.loop-at.invariant.room in omega (arith, e, room)
+    let ends = ap first_group e ∙ group_ends _ _ dot in
+    let was = c.loop-at.invariant in
+    record {
+      host = sym (ap (λ (g : List LineOf). after c.loop-at.host.host g) ends) ∙ was.host;
+      log = sym (ap (λ (g : List LineOf). logged_after c.loop-at.host.host g (pfns_of_words c.loop-at.log)) ends) ∙ was.log;
+      place = sym (ap (λ n. c.loop-at.at + n) (ap first_length e ∙ length_ends _ _ dot)) ∙ was.place;
+      room = let room = ap room_for e in let spare = was.room in omega (arith, room, spare);
+    }
 
 pub run_line-requires-clause-room : goal.run_line-requires-clause-room
 run_line-requires-clause-room c =
