@@ -1,5 +1,6 @@
 -- Entries in the order of their keys, tests of them, and maps that grow behind all entries.
 use Rattle.mig_host.proofs.Common.{◌≡◌, ℕ, ◌+◌, ◌<◌, ◌≤◌, Bool, true, false, cond, List, [], ◌∷◌, ◌++◌, Option, Some, refl, sym, ap, subst, ◌∙◌, length, arith, ◌⊎◌, inl, inr, T, ◌||◌, All, AllByRecursion, list_any, or_parts, All-weaker, none-some, same_Some, IsTotalOrder, is_lt, eq_by_cmp, Ordering, FinMap, IsAntisymmetric, find, is_sorted, below_all, nat_cmp, tied, both_of}
+use Rattle.std.proofs.lemmas.List.{nil_from_length}
 use Rattle.std.proofs.Common.{not}
 use Rattle.std.proofs.lemmas.Bool.{or_left, or_right, or_from, false_from_ne_true, true≢false, not-false}
 use Rattle.std.proofs.lemmas.List.Elements.{recursion_from_All}
@@ -122,11 +123,7 @@ module _ {K X : Type 0} {R : K → K → Ordering} (total : IsTotalOrder R) (exa
 
 -- the entries of a map without any
 pub no_entries : {K : Type 0} (R : K → K → Ordering) (X : Type 0) → maps.entries (maps.empty {X = X} {R = R}) ≡ []
-no_entries R X = empty_of (maps.entries (maps.empty {X = X} {R = R})) (sym (maps.len-entries (maps.empty {X = X} {R = R})) ∙ maps.len-empty R X)
-  where
-    empty_of : {A : Type 0} (es : List A) → length es ≡ 0 → es ≡ []
-    empty_of [] h = refl
-    empty_of (e ∷ es) h = absurd (omega arith)
+no_entries R X = nil_from_length (maps.entries (maps.empty {X = X} {R = R})) (sym (maps.len-entries (maps.empty {X = X} {R = R})) ∙ maps.len-empty R X)
 
 -- ---- how many entries there are
 

@@ -210,9 +210,9 @@ module _ (h : HostOf) where
   fine_more : (m : HostFrames) (e : ℕ × HostFrame) → FrameFits h.kind h.width m e → IsFine m → IsFine (maps.insert m e.0 e.1)
   fine_more m e f fine few =
       let size = ap length (entries_behind nat_cmp_total m e.0 e.1 (behind m e f.behind)) ∙ length-append (maps.entries m) (e ∷ []) in
-      let room : length (maps.entries m) < most_frames = omega (arith, size, few) in
-      valid_frame (with_frames h m) e.0 e.1 (fine (let most : length (maps.entries m) ≤ most_frames = omega (arith, room) in most)) f.is
-      (λ q g found same. eqb-false g.machine e.1.machine (none_passes nat_cmp_total nat_cmp-IsAntisymmetric (λ x. nat_eq x.1.machine e.1.machine) m q g f.alone found) same) room
+      let most : length (maps.entries m) ≤ most_frames = omega (arith, size, few) in
+      valid_frame (with_frames h m) e.0 e.1 (fine most) f.is
+      (λ q g found same. absurd (eqb-false g.machine e.1.machine (none_passes nat_cmp_total nat_cmp-IsAntisymmetric (λ x. nat_eq x.1.machine e.1.machine) m q g f.alone found) same)) few
 
   -- they are those of a valid host
   pub frames_valid : (es : List (ℕ × HostFrame)) → IsValid (with_frames h maps.empty) → Chain (FrameFits h.kind h.width) maps.empty es → length es ≤ most_frames → IsValid (with_frames h (put_all maps.empty es))

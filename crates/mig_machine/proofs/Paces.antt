@@ -1,11 +1,10 @@
 -- From rounds and exact logs to paces.
-use Rattle.mig_machine.proofs.Common.{arith, ◌≡◌, ℕ, zero, suc, ◌+◌, ◌-◌, ◌^◌, min, ◌≤◌, ◌<◌, Bool, true, false, cond, List, [], ◌∷◌, ◌++◌, length, refl, sym, ap, subst, ◌∙◌, common_steps, HostOf, most_saved_width, LineOf, Pfns, no_pfns, LogTook, History, touched, MachineSeen, is_paused, history_of, asked_before, AreExact, StandRoundPause, IsExactFrom}
+use Rattle.mig_machine.proofs.Common.{arith, ◌≡◌, ℕ, zero, suc, ◌+◌, ◌-◌, ◌^◌, min, ◌≤◌, ◌<◌, Bool, true, false, cond, List, [], ◌∷◌, ◌++◌, length, refl, sym, ap, subst, ◌∙◌, HostOf, most_saved_width, LineOf, Pfns, no_pfns, LogTook, History, touched, MachineSeen, is_paused, history_of, asked_before, AreExact, StandRoundPause, IsExactFrom}
+use Rattle.mig_guest.proofs.Sizes.{size-le}
 use Rattle.std.proofs.Common.{◌*◌, ◌⊎◌, nat_lt, length-append, append-nil, inl, inr}
 use Rattle.std.specs.Prelude.{filter}
 use Rattle.std.specs.List.{range_with_len}
-use Rattle.std.proofs.lemmas.Bool.{cases_lt}
-use Rattle.std.proofs.lemmas.List.Sums.{length-filter, count_by-le-length}
-use Rattle.std.proofs.lemmas.List.FromFn.{length-range_with_len}
+use Rattle.std.proofs.lemmas.Bool.{cases_lt, lt-ltb}
 use Rattle.mig_headers.specs.declared.kind.Kind.{Kind}
 use Rattle.mig_headers.specs.declared.kind.Kind.TheVariants.{Pv, Hvm}
 use Rattle.mig_guest.specs.Pfns.{joined, all_below, size, members}
@@ -62,14 +61,11 @@ few_calls : (kind : Kind) (n calls : ℕ) → n ≤ 2 ^ 28 → AreCalls kind n c
 few_calls Pv n calls le are = let most = are.1 in omega (arith, le, most)
 few_calls Hvm n calls le are = omega (arith, le, are)
 
-size_fits : (set : Pfns) (width : ℕ) → size width set ≤ width
-size_fits set width = omega (arith, length-filter set (range_with_len 0 width), count_by-le-length set (range_with_len 0 width), length-range_with_len 0 width)
-
 few_asked : (kind : Kind) (width : ℕ) (l : List LogTook) → width ≤ 2 ^ 28 → Calls kind width l → asked_before l ≤ length l * (513 * 2 ^ 28 + 1)
 few_asked kind width [] wide calls = omega arith
 few_asked kind width (last ∷ before) wide calls =
     let earlier = few_asked kind width before wide calls.0 in
-    let now = few_calls kind (size width last.asked.read) last.asked.calls (omega (arith, wide, size_fits last.asked.read width)) calls.1 in
+    let now = few_calls kind (size width last.asked.read) last.asked.calls (omega (arith, wide, size-le last.asked.read width)) calls.1 in
     omega (arith, earlier, now)
 
 before_pause : (runs live : ℕ) (l : List LogTook) → length l ≡ live → 1 ≤ length l → StandRoundPause runs live l → asked_before l < runs
@@ -137,9 +133,6 @@ in_order h m t p =
 
 -- ---- how many these are
 
-is_below : (a width : ℕ) → a < width → nat_lt a width ≡ true
-is_below a width h = grind (arith, common_steps)
-
 stays : (b : Bool) (a : ℕ) (others : List ℕ) → b ≡ true → length (cond b (a ∷ others) others) ≡ length others + 1
 stays true a others e = omega arith
 stays false a others e = cc
@@ -147,7 +140,7 @@ stays false a others e = cc
 all_counted : (width a n : ℕ) → a + n ≤ width → length (filter (all_below width) (range_with_len a n)) ≡ n
 all_counted width a zero h = refl
 all_counted width a (suc n) h =
-    let one = stays (nat_lt a width) a (filter (all_below width) (range_with_len (a + 1) n)) (is_below a width (omega (arith, h))) in
+    let one = stays (nat_lt a width) a (filter (all_below width) (range_with_len (a + 1) n)) (lt-ltb a width (omega (arith, h))) in
     let others = all_counted width (a + 1) n (omega (arith, h)) in
     omega (arith, one, others)
 

@@ -1,7 +1,7 @@
 -- A type has no fault exactly where it is in order.
 use Rattle.std.proofs.Common.{◌≡◌, ◌⊎◌, ℕ, ◌^◌, ◌≤◌, Bool, true, false, not, ◌&&◌, ◌||◌, ◌==◌, if◌then◌else◌, List, [], ◌∷◌, length, Option, Some, None, refl, sym, ap, ◌∙◌, inl, inr, arith}
 use Rattle.std.specs.List.{AllByRecursion}
-use Rattle.std.proofs.lemmas.Bool.{eqb-true, leb-true, not-false, or_parts}
+use Rattle.std.proofs.lemmas.Bool.{eqb-true, leb-true, not-false, or_parts, cases_Bool, not_from_true, or_cases, or_from, or_right}
 use Rattle.std.proofs.lemmas.Option.{slice_get_past}
 use Rattle.mig_headers.specs.declared.kind.Kind.{Kind}
 use Rattle.mig_headers.specs.declared.kind.Kind.TheVariants.{Pv, Hvm}
@@ -26,17 +26,6 @@ and_false : (a b : Bool) → (a ≡ true → b ≡ false) → (a && b) ≡ false
 and_false true b all = all refl
 and_false false b all = refl
 
-either_true : (a b : Bool) → (a || b) ≡ true → (a ≡ true) ⊎ (b ≡ true)
-either_true true b is = inl refl
-either_true false b is = inr is
-
-or_right : (a b : Bool) → b ≡ true → (a || b) ≡ true
-or_right true b is = refl
-or_right false b is = is
-
-false_not : (a : Bool) → a ≡ true → not a ≡ false
-false_not a is = rw is refl
-
 -- a type with another's number is the other
 same_number : (this other : RecordType) → type_number this ≡ type_number other → this ≡ other
 same_number this other is =
@@ -44,7 +33,7 @@ same_number this other is =
     grind arith
 
 same_type : (this other : RecordType) → is_of (other ∷ []) this ≡ true → this ≡ other
-same_type this other is = elim (either_true (type_number this == type_number other) false is) [
+same_type this other is = elim (or_cases (type_number this == type_number other) false is) [
   | inl e ↦ same_number this other (eqb-true (type_number this) (type_number other) e)
   | inr e ↦ absurd (cc)
 ]
@@ -82,40 +71,33 @@ clear version kind types this supported of_kind order =
     let earlier = some_earlier types in
     let one_end = and_false (is_of (StaticDataEnd ∷ []) this) (earlier (StaticDataEnd ∷ [])) (λ is. order.one_static_data_end (same_type this StaticDataEnd is)) in
     let content = and_false (version == 3) (is_of content_records this && not (earlier (StaticDataEnd ∷ [])))
-    (λ three. and_false (is_of content_records this) (not (earlier (StaticDataEnd ∷ []))) (λ is. false_not (earlier (StaticDataEnd ∷ [])) (order.content_after_static_end (eqb-true version 3 three) is))) in
+    (λ three. and_false (is_of content_records this) (not (earlier (StaticDataEnd ∷ []))) (λ is. not_from_true (earlier (StaticDataEnd ∷ [])) (order.content_after_static_end (eqb-true version 3 three) is))) in
     let one_info = and_false (is_of (X86PvInfo ∷ []) this) (earlier (X86PvInfo ∷ [])) (λ is. order.one_pv_info (same_type this X86PvInfo is)) in
-    let p2m = and_false (is_of (X86PvP2mFrames ∷ []) this) (not (earlier (X86PvInfo ∷ []))) (λ is. false_not (earlier (X86PvInfo ∷ [])) (order.p2m_after_pv_info (same_type this X86PvP2mFrames is))) in
+    let p2m = and_false (is_of (X86PvP2mFrames ∷ []) this) (not (earlier (X86PvInfo ∷ []))) (λ is. not_from_true (earlier (X86PvInfo ∷ [])) (order.p2m_after_pv_info (same_type this X86PvP2mFrames is))) in
     let pages = and_false (pv kind) (is_of (PageData ∷ []) this && not (earlier (X86PvP2mFrames ∷ [])))
-    (λ of. and_false (is_of (PageData ∷ []) this) (not (earlier (X86PvP2mFrames ∷ []))) (λ is. false_not (earlier (X86PvP2mFrames ∷ [])) (order.pv_pages_after_p2m (of_pv kind of) (same_type this PageData is)))) in
+    (λ of. and_false (is_of (PageData ∷ []) this) (not (earlier (X86PvP2mFrames ∷ []))) (λ is. not_from_true (earlier (X86PvP2mFrames ∷ [])) (order.pv_pages_after_p2m (of_pv kind of) (same_type this PageData is)))) in
     let vcpus = and_false (is_of (PageData ∷ []) this) (earlier vcpu_records) (λ is. order.pages_before_vcpus (same_type this PageData is)) in
     let verify = and_false (is_of (Verify ∷ []) this) (earlier (Verify ∷ []) || earlier vcpu_records)
-    (λ is. neither (earlier (Verify ∷ [])) (earlier vcpu_records) (order.one_verify (same_type this Verify is)) (order.verify_before_vcpus (same_type this Verify is))) in
-    let known = false_not (record_row_of this).supported supported in
-    (known, (false_not ((record_row_of this).of_kind kind) of_kind, (one_end, (late, (content, (one_info, (p2m, (pages, (vcpus, (verify, tt))))))))))
+    (λ is. or_from (earlier (Verify ∷ [])) (earlier vcpu_records) (order.one_verify (same_type this Verify is)) (order.verify_before_vcpus (same_type this Verify is))) in
+    let known = not_from_true (record_row_of this).supported supported in
+    (known, (not_from_true ((record_row_of this).of_kind kind) of_kind, (one_end, (late, (content, (one_info, (p2m, (pages, (vcpus, (verify, tt))))))))))
   where
-    neither : (a b : Bool) → a ≡ false → b ≡ false → (a || b) ≡ false
-    neither a b p q = rw (p, q) refl
-
     behind_content : is_of (StaticDataEnd ∷ static_records) this ≡ true → some_earlier types content_records ≡ false
-    behind_content is = elim (either_true (type_number this == type_number StaticDataEnd) (is_of static_records this) is) [
+    behind_content is = elim (or_cases (type_number this == type_number StaticDataEnd) (is_of static_records this) is) [
       | inl e ↦ order.static_end_before_content (same_number this StaticDataEnd (eqb-true (type_number this) (type_number StaticDataEnd) e))
       | inr e ↦ order.static_before_content e
     ]
 
     late : ((is_of static_records this && some_earlier types (StaticDataEnd ∷ [])) || (is_of (StaticDataEnd ∷ static_records) this && some_earlier types content_records)) ≡ false
-    late = neither (is_of static_records this && some_earlier types (StaticDataEnd ∷ [])) (is_of (StaticDataEnd ∷ static_records) this && some_earlier types content_records)
+    late = or_from (is_of static_records this && some_earlier types (StaticDataEnd ∷ [])) (is_of (StaticDataEnd ∷ static_records) this && some_earlier types content_records)
         (and_false (is_of static_records this) (some_earlier types (StaticDataEnd ∷ [])) order.static_before_its_end)
         (and_false (is_of (StaticDataEnd ∷ static_records) this) (some_earlier types content_records) behind_content)
 
 none_optional : (number : ℕ) (o : Option Cause) → (if is_optional number then None else o) ≡ None → (2 ^ 31 ≤ number) ⊎ (o ≡ None)
-none_optional number o is = elim (tells (is_optional number)) [
+none_optional number o is = elim (cases_Bool (is_optional number)) [
   | inl e ↦ inl (leb-true (2 ^ 31) number e)
   | inr e ↦ inr (rw e at is)
 ]
-  where
-    tells : (b : Bool) → (b ≡ true) ⊎ (b ≡ false)
-    tells true = inl refl
-    tells false = inr refl
 
 in_order : (version : ℕ) (kind : Kind) (types : List ℕ) (number : ℕ) (found : Option RecordType) → type_of_number number ≡ found
     → fault_of_mandatory version kind (earlier_in types) number found ≡ None → IsInOrder version kind types number

@@ -207,9 +207,6 @@ key_pair key value fine text =
     fine_parts : (n m : ℕ) → m ≤ n → ((nat_eq n 0) || nat_lt m n) ≡ false → (0 < n) × (m ≡ n)
     fine_parts n m le h = grind (arith, common_steps)
 
-sum_here : (at k v q : ℕ) → (at + k + v + 2) + q ≡ at + (k + v + 2 + q)
-sum_here at k v q = omega arith
-
 onto_pair : (at : ℕ) (key value rest : List ℕ) (t : List ℕ) (ts : List (List ℕ)) (r : Option ℕ) → IsPair (record { key = key; value = value }) → Walked (at + length key + length value + 2) rest (t ∷ ts) r
     → Walked at (key ++ 0 ∷ (value ++ 0 ∷ rest)) (key ∷ value ∷ t ∷ ts) r
 onto_pair at key value rest t ts None is h = record {
@@ -219,7 +216,7 @@ onto_pair at key value rest t ts None is h = record {
 onto_pair at key value rest t ts (Some place) is (q, there, h) =
     let p : Pair = record { key = key; value = value } in (
       length key + length value + 2 + q,
-      sym (sum_here at (length key) (length value) q) ∙ there,
+      sym (sum_bad at (length key) (length value) q) ∙ there,
       record {
         pairs = p ∷ h.pairs;
         front = h.front;

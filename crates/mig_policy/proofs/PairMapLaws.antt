@@ -1,7 +1,8 @@
 -- The text of a map of pairs is canonical, and says the map.
-use Rattle.mig_policy.proofs.Common.{◌≡◌, ℕ, List, [], ◌∷◌, ◌++◌, map, length, ◌<◌, refl, sym, ap, subst, ◌∙◌, append_assoc, append-nil, arith, common_steps, T, ◌&&◌, All, AllByRecursion, flat_map, Ordering, Less, Equal, Greater, nat_cmp, is_lt, slice_cmp, nat_list_cmp_total, All-from_recursion, recursion_from_All, entries-insert, entries_sorted, same_entries_map, put, is_sorted, Pair, IsPair, AreCanonicalPairs, AreRising, text_of_pair, PairMap, IsOfPairs, put_pairs, pair_of, text_of_entry, text_of_map, pairs_in, map_of, merged}
+use Rattle.mig_policy.proofs.Common.{◌≡◌, ℕ, List, [], ◌∷◌, ◌++◌, map, length, ◌<◌, refl, sym, ap, subst, ◌∙◌, append_assoc, append-nil, arith, common_steps, T, All, AllByRecursion, flat_map, Ordering, Less, Equal, Greater, nat_cmp, is_lt, slice_cmp, nat_list_cmp_total, All-from_recursion, recursion_from_All, entries-insert, entries_sorted, same_entries_map, put, is_sorted, Pair, IsPair, AreCanonicalPairs, AreRising, text_of_pair, PairMap, IsOfPairs, put_pairs, pair_of, text_of_entry, text_of_map, pairs_in, map_of, merged}
+use Rattle.mig_guest.proofs.PartCursor.{both_of}
 use Rattle.std.proofs.Common.{fold}
-use Rattle.std.specs.Prelude.{Bool, true, false, None}
+use Rattle.std.specs.Prelude.{None}
 use Rattle.std.specs.List.Sorted.{IsStrictlySortedBy}
 use Rattle.std.specs.Ordering.{ordering_reverse}
 use Rattle.std.specs.FinMap.Entries.{by_order, below_all}
@@ -49,10 +50,6 @@ good_pairs [] h = tt
 good_pairs (e ∷ es) h = (h.0, good_pairs es h.1)
 
 -- ---- the text of a map is canonical
-
-both_of : (a b : Bool) → T (a && b) → T a × T b
-both_of true b h = (tt, h)
-both_of false b h = absurd h
 
 is_less : (o : Ordering) → T (is_lt o) → o ≡ Less
 is_less Less h = refl

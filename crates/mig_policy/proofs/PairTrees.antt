@@ -1,5 +1,7 @@
 -- A tree of keys and values, seen as a map of pairs, and how many bytes spell it.
-use Rattle.mig_policy.proofs.Common.{◌≡◌, ℕ, ◌+◌, ◌≤◌, List, [], ◌∷◌, ◌++◌, append_assoc, cond, drop, length, map, Option, Some, None, refl, sym, ap, subst, ◌∙◌, arith, T, flat_map, Ordering, Less, Equal, Greater, nat_cmp, slice_cmp, nat_list_cmp_total, entries-insert, same_entries_map, put, is_sorted, common_steps, Pair, PairMap, AreSetBefore, put_pair, put_pairs, pairs_in, shown, pairs_seen, text_of_entry, text_of_map}
+use Rattle.mig_policy.proofs.Common.{◌≡◌, ℕ, ◌+◌, ◌≤◌, List, [], ◌∷◌, ◌++◌, append_assoc, cond, drop, length, map, Some, None, refl, sym, ap, subst, ◌∙◌, arith, T, flat_map, Ordering, Less, Equal, Greater, nat_cmp, slice_cmp, nat_list_cmp_total, entries-insert, same_entries_map, put, is_sorted, common_steps, Pair, PairMap, AreSetBefore, put_pair, put_pairs, pairs_in, shown, pairs_seen, text_of_entry, text_of_map}
+use Rattle.std.proofs.lemmas.Option.{none-some, same_Some}
+use Rattle.std.proofs.lemmas.List.{nil_from_length}
 use Rattle.std.proofs.Common.{Global}
 use Rattle.std.specs.declared.vec.Vec.{Vec}
 use Rattle.std.specs.Ordering.{is_eq, match_ordering}
@@ -66,9 +68,6 @@ onto o k v e es is = ap (λ r. match_ordering r ((k, v) ∷ e ∷ es) ((e.0, v) 
 found : (o : Ordering) (k : Key) (e : Key × Value) (es : List (Key × Value)) → keys_cmp k e.0 ≡ o → lookup (is_at (keys_cmp k)) (e ∷ es) ≡ cond (is_eq o) (Some e.1) (lookup (is_at (keys_cmp k)) es)
 found o k e es is = ap (λ r. cond (is_eq r) (Some e.1) (lookup (is_at (keys_cmp k)) es)) is
 
-something : (v : Value) → ◌≡◌ {A = Option Value} (Some v) None → ⊥
-something v h = cc
-
 -- a key that wasn't there
 pub grown : (es : List (Key × Value)) (k : Key) (v : Value) → lookup (is_at (keys_cmp k)) es ≡ None → text_len (Insert es k v) ≡ text_len es + length k.items + length v.items + 2
 grown [] k v none = let h = one_len (k, v) [] in omega (arith, h)
@@ -77,18 +76,15 @@ grown (e ∷ es) k v none = by (keys_cmp k e.0) refl (grown es k v)
     by : (o : Ordering) → keys_cmp k e.0 ≡ o → (lookup (is_at (keys_cmp k)) es ≡ None → text_len (Insert es k v) ≡ text_len es + length k.items + length v.items + 2)
         → text_len (Insert (e ∷ es) k v) ≡ text_len (e ∷ es) + length k.items + length v.items + 2
     by Less is rest = let h = one_len (k, v) (e ∷ es) in let same = ap text_len (onto Less k v e es is) in omega (arith, h, same)
-    by Equal is rest = absurd (something e.1 (sym (found Equal k e es is) ∙ none))
+    by Equal is rest = absurd (none-some e.1 (sym none ∙ found Equal k e es is))
     by Greater is rest =
         let more = rest (sym (found Greater k e es is) ∙ none) in let h = one_len e es in let g = one_len e (Insert es k v) in let same = ap text_len (onto Greater k v e es is) in
         omega (arith, h, g, same, more)
 
-same_value : (a b : Value) → Some a ≡ Some b → a ≡ b
-same_value a b h = cc
-
 -- a key that was there keeps its place
 pub replaced : (es : List (Key × Value)) (k : Key) (v old : Value) → lookup (is_at (keys_cmp k)) es ≡ Some old → keys_of (Insert es k v) ≡ keys_of es
     → (text_len (Insert es k v) + length old.items ≡ text_len es + length v.items) × (length old.items ≤ text_len es)
-replaced [] k v old some keys = absurd (something old (sym some))
+replaced [] k v old some keys = absurd (none-some old some)
 replaced (e ∷ es) k v old some keys = by (keys_cmp k e.0) refl (replaced es k v old)
   where
     by : (o : Ordering) → keys_cmp k e.0 ≡ o
@@ -96,7 +92,7 @@ replaced (e ∷ es) k v old some keys = by (keys_cmp k e.0) refl (replaced es k 
         → (text_len (Insert (e ∷ es) k v) + length old.items ≡ text_len (e ∷ es) + length v.items) × (length old.items ≤ text_len (e ∷ es))
     by Less is rest = let same : length (keys_of ((k, v) ∷ e ∷ es)) ≡ length (keys_of (e ∷ es)) = ap (λ fs. length (keys_of fs)) (sym (onto Less k v e es is)) ∙ ap length keys in absurd (omega (arith, same))
     by Equal is rest =
-        let it = ap (λ (x : Value). length x.items) (same_value e.1 old (sym (found Equal k e es is) ∙ some)) in
+        let it = ap (λ (x : Value). length x.items) (same_Some e.1 old (sym (found Equal k e es is) ∙ some)) in
         let h = one_len e es in let g = one_len (e.0, v) es in let same = ap text_len (onto Equal k v e es is) in
         (omega (arith, h, g, same, it), omega (arith, h, it))
     by Greater is rest =
@@ -122,12 +118,8 @@ set_old es fs k v old value n is_value is order len some keys =
 
 -- ---- a tree without entries
 
-none_long : {A : Type 0} (es : List A) → length es ≡ 0 → es ≡ []
-none_long [] e = refl
-none_long (x ∷ es) e = absurd (omega arith)
-
 pub no_entries : maps.entries (maps.empty {X = List ℕ} {R = slice_cmp nat_cmp}) ≡ []
-no_entries = none_long _ (sym (len-entries (maps.empty {X = List ℕ} {R = slice_cmp nat_cmp})) ∙ len-empty (slice_cmp nat_cmp) (List ℕ))
+no_entries = nil_from_length _ (sym (len-entries (maps.empty {X = List ℕ} {R = slice_cmp nat_cmp})) ∙ len-empty (slice_cmp nat_cmp) (List ℕ))
 
 pub none_seen : (es : List (Key × Value)) → es ≡ [] → pairs_seen es ≡ maps.empty
 none_seen es none = same_entries_map (pairs_seen es) maps.empty (seen_entries es (subst IsInOrder (sym none) tt) ∙ ap (map shown) none ∙ sym no_entries)
