@@ -1,5 +1,6 @@
 -- What it does to all values that a leaf is taken into use or a value is written.
 use Rattle.mig_pagestore_index.proofs.Common.{[], ◌∷◌, ◌++◌, ◌≡◌, ◌≢◌, replicate, ℕ, zero, suc, ◌^◌, ◌+◌, ◌-◌, ◌*◌, ◌/◌, ◌%◌, ◌<◌, ◌≤◌, ◌⊎◌, List, length, get_or, set, slice_index, refl, sym, ap, ◌∙◌, inl, inr, arith, length-set, get_or-set_same, get_or-set_other, cases_eq, under, IsLevel, IsFan, Becomes, IsTree, HasSpare}
+use Rattle.std.proofs.lemmas.Bool.{cases_lt}
 use Rattle.mig_pagestore_index.specs.Leaves.{step}
 
 same_number : (q k : ℕ) → q / 512 ≡ k / 512 → q % 512 ≡ k % 512 → q ≡ k
@@ -135,12 +136,6 @@ module _ (F : ℕ → ℕ) (none : (k : ℕ) → F k ≡ 0) where
   pub none_in_empty : (cells : List ℕ) (q : ℕ) → under F cells q ≡ 0
   none_in_empty cells q = none_under F cells q (none (q / 512))
 
-pub below_or_from : (k n : ℕ) → (k < n) ⊎ (n ≤ k)
-below_or_from zero zero = inr (omega arith)
-below_or_from zero (suc n) = inl (omega arith)
-below_or_from (suc k) zero = inr (omega arith)
-below_or_from (suc k) (suc n) = elim (below_or_from k n) [ inl h ↦ inl (omega arith) | inr h ↦ inr (omega arith) ]
-
 -- a value has a leaf
 pub way_to : (F : ℕ → ℕ) (cells : List ℕ) (k : ℕ) → 0 < under F cells k → 0 < F (k / 512)
 way_to F cells k some = elim (none_or_some (F (k / 512))) [
@@ -168,7 +163,7 @@ at_place F cells key place lt =
 -- where no leaf stands between, and a leaf has nothing up to a place, nothing is found so far
 pub passed : (F : ℕ → ℕ) (cells : List ℕ) (from key last : ℕ) → from / 512 ≤ key → last ≤ 512 → ((k : ℕ) → from / 512 ≤ k → k < key → F k ≡ 0)
     → ((j : ℕ) → from - key * 512 ≤ j → j < last → step cells (F key) j ≡ 0) → (k : ℕ) → from ≤ k → k < key * 512 + last → under F cells k ≡ 0
-passed F cells from key last to few before here k le lt = elim (below_or_from (k / 512) key) [
+passed F cells from key last to few before here k le lt = elim (cases_lt (k / 512) key) [
   | inl less ↦ none_under F cells k (before (k / 512) (omega (arith, le)) less)
   | inr more ↦ let e : k / 512 ≡ key = omega (arith, more, lt, few) in
       ap (λ n. step cells (F n) (k % 512)) e ∙ here (k % 512) (omega (arith, le, e)) (omega (arith, lt, e))

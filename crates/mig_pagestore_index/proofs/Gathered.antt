@@ -5,7 +5,7 @@ use Rattle.std.specs.Cmp.{unsigned_tied, nat_cmp_total}
 use Rattle.std.specs.FinMap as maps
 use Rattle.std.specs.FinMap.{nat_cmp-IsAntisymmetric, same_map, get-empty, get-insert, get-remove}
 use Rattle.mig_pagestore_index.specs.Indexed.{valued, gathered}
-use Rattle.mig_pagestore_index.proofs.Fans.{below_or_from}
+use Rattle.std.proofs.lemmas.Bool.{cases_lt}
 
 -- a value as an answer; 0 is none
 unfoldable pub some_value : ℕ → Option ℕ
@@ -56,7 +56,7 @@ module _ (f : ℕ → ℕ) where
   ]
 
   pub none_at : (n q : ℕ) → (q < n → f q ≡ 0) → maps.get (gathered f n) q ≡ None
-  none_at n q none = elim (below_or_from q n) [
+  none_at n q none = elim (cases_lt q n) [
     | inl lt ↦ inside n q lt ∙ no_value (f q) (none lt)
     | inr le ↦ outside n q le
   ]
@@ -65,7 +65,7 @@ module _ (f : ℕ → ℕ) where
   some_at n q lt some = inside n q lt ∙ a_value (f q) some
 
   pub some_below : (n q : ℕ) → IsSome (maps.get (gathered f n) q) → q < n
-  some_below n q some = elim (below_or_from q n) [
+  some_below n q some = elim (cases_lt q n) [
     | inl lt ↦ lt
     | inr le ↦ let none = outside n q le in absurd (none_is_not_some _ none some)
   ]
@@ -75,7 +75,7 @@ gathered_none f n none = same_map nat_cmp_total nat_cmp-IsAntisymmetric _ _ (λ 
 
 module _ (f g : ℕ → ℕ) (n k v : ℕ) (lt : k < n) (b : Becomes f g k v) where
   elsewhere : (q : ℕ) → q ≢ k → maps.get (gathered g n) q ≡ maps.get (gathered f n) q
-  elsewhere q ne = elim (below_or_from q n) [
+  elsewhere q ne = elim (cases_lt q n) [
     | inl lt ↦ inside g n q lt ∙ ap some_value (b.there q ne) ∙ sym (inside f n q lt)
     | inr le ↦ outside g n q le ∙ sym (outside f n q le)
   ]

@@ -1,6 +1,7 @@
 use Rattle.mig_pagestore_index.proofs.Common.{◌≡◌, ℕ, ◌+◌, ◌-◌, ◌*◌, ◌/◌, ◌<◌, ◌≤◌, inl, inr, ap, ◌∙◌, arith, found, leaf}
+use Rattle.std.proofs.lemmas.Bool.{cases_lt}
 use Rattle.mig_pagestore_index.specs.Leaves.{step}
-use Rattle.mig_pagestore_index.proofs.Fans.{at_place, below_or_from, none_under, passed}
+use Rattle.mig_pagestore_index.proofs.Fans.{at_place, none_under, passed}
 use Rattle.mig_pagestore_index.proofs.tree.Tree.next.Goals as goal
 use Rattle.mig_pagestore_index.proofs.tree.Tree.next.Goals.{In-Some}
 
@@ -9,7 +10,7 @@ up_to : (c : In-Some) (last : ℕ) → last ≤ 512 → ((j : ℕ) → c.loop-ke
     → (k : ℕ) → c.args.from ≤ k → k < c.in-Some.key * 512 + last → found c.args.self.now k ≡ 0
 up_to c last few here k le lt =
     let e = c.in-Some.ensures.least in
-    elim (below_or_from k c.loop-key.at) [
+    elim (cases_lt k c.loop-key.at) [
       | inl old ↦ c.loop-key.invariant.none k le old
       | inr new ↦ passed (leaf c.args.self.now) c.args.self.now.leaves.cells.items c.loop-key.at c.in-Some.key last e.0 few e.3
           (λ j ge less. ap (λ n. step c.args.self.now.leaves.cells.items n j) e.2 ∙ here j ge less) k new lt
@@ -35,7 +36,7 @@ loop-key-preserved c =
     }
 
 pub returns-clause-none : goal.returns-clause-none
-returns-clause-none c k le = elim (below_or_from k c.loop-key.at) [
+returns-clause-none c k le = elim (cases_lt k c.loop-key.at) [
   | inl old ↦ c.loop-key.invariant.none k le old
   | inr new ↦ none_under (leaf c.args.self.now) _ k (c.in_default.ensures.none (k / 512) (omega (arith, new)))
 ]
