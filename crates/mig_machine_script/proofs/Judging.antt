@@ -1,5 +1,6 @@
 -- All bytes are a script, or have a first bad line.
 use Rattle.mig_machine_script.proofs.Common.{◌≡◌, ◌⊎◌, ℕ, zero, suc, ◌+◌, ◌<◌, ◌≤◌, ◌^◌, List, [], ◌∷◌, length, take, drop, ◌-◌, Option, Some, None, Result, Ok, Err, refl, sym, ap, subst, ◌∙◌, arith, inl, inr, length-append, decimal, codes, ◌==◌, position, cases_eq, cases_lt, length-slice_split, HasFields, LineOf, IsNumber, IsHex, AreNumbers, AreArguments, IsScriptLine, letter_of, fields_in, Write, Retype, Add, Remove, Exchange, Put, Dot, BeginsWithText, IsScript, IsBadLine}
+use Rattle.std.proofs.lemmas.List.{nil_from_length}
 use Rattle.std.specs.Str.Parse.{digits_value}
 use Rattle.std.proofs.lemmas.Fmt.{decimal_is_IsNumeral}
 use Rattle.hex.specs.Hex.{decode_of}
@@ -228,12 +229,8 @@ onto bytes text others line begins is (inr h) = inr (
   },
 )
 
-nothing : (bytes : List ℕ) → length bytes ≤ 0 → bytes ≡ []
-nothing [] h = refl
-nothing (b ∷ bytes) h = absurd (omega arith)
-
 judged_within : (n : ℕ) (bytes : List ℕ) → length bytes ≤ n → Judgement bytes
-judged_within zero bytes h = inl ([], nothing bytes h)
+judged_within zero bytes h = inl ([], nil_from_length bytes (omega (arith, h)))
 judged_within (suc n) bytes h =
     elim (cases_lt 0 (length bytes)) [
       | inl some ↦
@@ -242,7 +239,7 @@ judged_within (suc n) bytes h =
             | inl line ↦ onto bytes f.text f.others line.0 f.begins line.1 (judged_within n f.others (omega (arith, shorter bytes f.text f.others f.begins)))
             | inr bad ↦ inr (1, record { lines = []; behind = bytes; good = refl; text = f.text; others = f.others; next = f.begins; bad = bad; counted = refl })
           ]
-      | inr none ↦ inl ([], nothing bytes none)
+      | inr none ↦ inl ([], nil_from_length bytes (omega (arith, none)))
     ]
 
 pub judged : (bytes : List ℕ) → Judgement bytes

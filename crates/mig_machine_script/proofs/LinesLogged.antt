@@ -2,7 +2,7 @@
 use Rattle.mig_machine_script.proofs.Common.{◌≡◌, ◌≢◌, ℕ, ◌+◌, ◌<◌, ◌≤◌, Bool, true, false, cond, not, nat_eq, List, [], ◌∷◌, ◌++◌, take, drop, length, Option, Some, None, option_and_then, inr, refl, sym, ap, subst, ◌∙◌, arith, ◌||◌, ◌&&◌, option_map, eqb-true, eqb-false, ltb-true, common_steps, none-some, same_Some, inserted, PageType, HostOf, HostFrame, HostFrames, IsOneToOne, IsValid, footprint_of, Pfns, LineOf, Write, Retype, Add, Remove, Exchange, Put, Dot, applies, after_line, after, logs, with_logged, logged_after, is_unnamed, names_machine}
 use Rattle.std.proofs.Common.{replicate, is_some, unwrap_or}
 use Rattle.std.specs.Ordering.{eq_by_cmp}
-use Rattle.std.proofs.lemmas.Bool.{or_parts, leb-true}
+use Rattle.std.proofs.lemmas.Bool.{or_parts, leb-true, and_parts, not-true}
 use Rattle.std.proofs.lemmas.List.{length-replicate}
 use Rattle.mig_bytes.proofs.NumberMaps.{inserted_other, removed, removed_other}
 use Rattle.mig_pagetypes.specs.PageTypes.{type_has_data, type_of}
@@ -18,7 +18,7 @@ use Rattle.mig_guest.specs.Footprints.{footprint}
 use Rattle.mig_guest.specs.MachineStates.{IsSameShape}
 use Rattle.mig_guest.specs.Pfns.{with_pfn}
 use Rattle.mig_machine_script.specs.HostLines.{changed_by, pfn_changed, is_allowed, is_key, has_length, key_of_numbers, new_frame, typed_as}
-use Rattle.mig_machine_script.proofs.NamedMachines.{IsWholePage, KeepsNamed, StaysOrMoves, both_true, untrue, print_kept, unused, unnamed, stays_put, moves_put, still_one, keeps_named}
+use Rattle.mig_machine_script.proofs.NamedMachines.{IsWholePage, KeepsNamed, StaysOrMoves, print_kept, unused, unnamed, stays_put, moves_put, still_one, keeps_named}
 use Rattle.std.specs.FinMap as maps
 
 -- ---- what stays true of a host
@@ -84,11 +84,8 @@ record DiffersAt (pfn : ℕ) (g h : HostOf) : Type 0 where
   pub inside : pfn < g.width
   pub moves : StaysOrMoves pfn g.frames h.frames
 
-is_not : (p q : ℕ) → nat_eq q p ≡ false → q ≢ p
-is_not p q e = eqb-false q p e
-
 unlogged : (p q : ℕ) (set : Pfns) → with_pfn p set q ≡ false → (q ≢ p) × (set q ≡ false)
-unlogged p q set h = let both = or_parts (nat_eq q p) (set q) h in (is_not p q both.0, both.1)
+unlogged p q set h = let both = or_parts (nat_eq q p) (set q) h in (eqb-false q p both.0, both.1)
 
 apart : (b : Bool) (p q : ℕ) → nat_eq q p ≡ b → q ≢ p → b ≡ false
 apart true p q e ne = absurd (ne (eqb-true q p e))
@@ -99,7 +96,7 @@ regular_at pfn g h t d true q e f is =
     let same = eqb-true q pfn e in
     record { inside = subst (λ (w : ℕ). q < w) (sym d.width) (subst (λ (n : ℕ). n < g.width) (sym same) d.inside); whole = d.whole f (ap (maps.get h.frames) (sym same) ∙ is) }
 regular_at pfn g h t d false q e f is =
-    let was = t.frames q f (sym (d.others q (is_not pfn q e)) ∙ is) in
+    let was = t.frames q f (sym (d.others q (eqb-false q pfn e)) ∙ is) in
     record { inside = subst (λ (w : ℕ). q < w) (sym d.width) was.inside; whole = was.whole }
 
 differs_so : (pfn : ℕ) (g h : HostOf) (log : Pfns) → IsRegular g → DiffersAt pfn g h → LinesRan g h log (with_pfn pfn log)
@@ -162,7 +159,7 @@ unnamed_there frames (Some f) e = refl
 -- no table names the machine frame of a frame that may go
 goes_unnamed : (h : HostOf) (o : Option HostFrame) (f : HostFrame) → is_unnamed h.frames o ≡ true → o ≡ Some f → names_machine h.frames f.machine ≡ false
 goes_unnamed h None f e is = cc
-goes_unnamed h (Some x) f e is = subst (λ (y : HostFrame). names_machine h.frames y.machine ≡ false) (same_Some x f is) (untrue (names_machine h.frames x.machine) e)
+goes_unnamed h (Some x) f e is = subst (λ (y : HostFrame). names_machine h.frames y.machine ≡ false) (same_Some x f is) (not-true (names_machine h.frames x.machine) e)
 
 there_inside : (h : HostOf) (pfn : ℕ) (o : Option HostFrame) → IsRegular h → maps.get h.frames pfn ≡ o → is_some o ≡ true → pfn < h.width
 there_inside h pfn None t is there = cc
@@ -224,28 +221,28 @@ put_ran h key bytes log t has free = record {
 
 applied : (h : HostOf) (line : LineOf) (log : Pfns) → IsRegular h → applies h line ≡ true → LinesRan h (changed_by h line) log (with_logged (pfn_changed line) log)
 applied h (Write pfn at bytes) log t is =
-    let b = both_true _ _ is in
+    let b = and_parts _ _ is in
     differs_so pfn h _ log t
     (change_differs h pfn _ (maps.get h.frames pfn) t refl (page_there (maps.get h.frames pfn) b.0)
     (λ f is whole. (written_whole f.page _ (λ old long. spliced_long old bytes at long (leb-true (at + length bytes) 4096 b.1)) whole, stays_put h.frames pfn _ f is refl)))
-applied h (Retype pfn type) log t is = let b = both_true (is_some (maps.get h.frames pfn)) (is_allowed h.kind (type_of type)) is in retype_ran h pfn (type_of type) log t b.0 b.1
+applied h (Retype pfn type) log t is = let b = and_parts (is_some (maps.get h.frames pfn)) (is_allowed h.kind (type_of type)) is in retype_ran h pfn (type_of type) log t b.0 b.1
 applied h (Add pfn mfn) log t is =
-    let most = both_true _ _ is in
-    let come = both_true _ _ most.0 in
-    let new = both_true _ _ come.0 in
+    let most = and_parts _ _ is in
+    let come = and_parts _ _ most.0 in
+    let new = and_parts _ _ come.0 in
     differs_so pfn h _ log t
     (put_differs h pfn (new_frame mfn) (ltb-true pfn h.width new.0) zero_whole
-    (moves_put h.frames pfn (new_frame mfn) (unused h mfn come.1) (unnamed h mfn come.1) (λ f at. let there : false ≡ true = sym (untrue (is_some (maps.get h.frames pfn)) new.1) ∙ ap is_some at in cc)))
+    (moves_put h.frames pfn (new_frame mfn) (unused h mfn come.1) (unnamed h mfn come.1) (λ f at. let there : false ≡ true = sym (not-true (is_some (maps.get h.frames pfn)) new.1) ∙ ap is_some at in cc)))
 applied h (Remove pfn) log t is =
     differs_so pfn h _ log t (gone_differs h pfn (there_inside h pfn (maps.get h.frames pfn) t refl (unnamed_there h.frames (maps.get h.frames pfn) is)) (λ f at. goes_unnamed h (maps.get h.frames pfn) f is at))
 applied h (Exchange pfn mfn) log t is =
-    let b = both_true _ _ is in
+    let b = and_parts _ _ is in
     differs_so pfn h _ log t
     (change_differs h pfn (λ f. record f { machine = mfn }) (maps.get h.frames pfn) t refl (unnamed_there h.frames (maps.get h.frames pfn) b.0)
     (λ f is whole. (whole, moves_put h.frames pfn (record f { machine = mfn }) (unused h mfn b.1) (unnamed h mfn b.1) (λ x at. goes_unnamed h (maps.get h.frames pfn) x b.0 at))))
 applied h (Put code first second bytes) log t is =
-    let b = both_true (is_key code first second && has_length (length bytes) (maps.get h.parts (key_of_numbers code first second))) (not (is_fixed code)) is in
-    put_ran h (key_of_numbers code first second) bytes log t (measured (length bytes) (maps.get h.parts (key_of_numbers code first second)) (both_true _ _ b.0).1) b.1
+    let b = and_parts (is_key code first second && has_length (length bytes) (maps.get h.parts (key_of_numbers code first second))) (not (is_fixed code)) is in
+    put_ran h (key_of_numbers code first second) bytes log t (measured (length bytes) (maps.get h.parts (key_of_numbers code first second)) (and_parts _ _ b.0).1) b.1
 applied h Dot log t is = nothing_ran h log t
 
 pub line_ran : (h : HostOf) (line : LineOf) (log : Pfns) → IsRegular h → LinesRan h (after_line h line) log (with_logged (logs h line) log)

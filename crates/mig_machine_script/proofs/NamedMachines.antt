@@ -1,12 +1,12 @@
 -- Machine frames that tables name, and the frame numbers that have them.
-use Rattle.mig_machine_script.proofs.Common.{◌≡◌, ◌≢◌, ℕ, zero, suc, ◌+◌, ◌<◌, ◌≤◌, ◌⊎◌, Bool, true, false, cond, not, List, [], ◌∷◌, length, Option, Some, None, option_and_then, inl, inr, refl, sym, ap, subst, ◌∙◌, arith, drop_of_length-le, ◌==◌, ◌&&◌, list_any, option_map, cases_eq, cases_lt, eq-eqb, eqb-true, eqb-false, none-some, same_Some, inserted, PageType, level_of, HostOf, HostFrame, HostFrames, IsOneToOne, IsValid, footprint_of, machine_named, table_in, is_machine, names_machine}
+use Rattle.mig_machine_script.proofs.Common.{◌≡◌, ◌≢◌, ℕ, zero, suc, ◌+◌, ◌<◌, ◌≤◌, ◌⊎◌, Bool, true, false, cond, List, [], ◌∷◌, length, Option, Some, None, option_and_then, inl, inr, refl, sym, ap, subst, ◌∙◌, arith, drop_of_length-le, ◌==◌, list_any, option_map, cases_eq, cases_lt, eq-eqb, eqb-true, eqb-false, none-some, same_Some, inserted, PageType, level_of, HostOf, HostFrame, HostFrames, IsOneToOne, IsValid, footprint_of, machine_named, table_in, is_machine, names_machine}
 use Rattle.std.proofs.Common.{◌*◌}
 use mathlib.Core.Path.{fun_ext}
 use Rattle.std.specs.Prelude.{IfSome}
 use Rattle.std.specs.List.{AllByRecursion, range_with_len}
 use Rattle.std.specs.Cmp.{nat_cmp_total}
 use Rattle.std.specs.FinMap.{nat_cmp-IsAntisymmetric}
-use Rattle.std.proofs.lemmas.Bool.{ne_eqb, or_from}
+use Rattle.std.proofs.lemmas.Bool.{ne_eqb, or_from, and_parts, not-true}
 use Rattle.std.proofs.lemmas.List.Folds.{list_any_at}
 use Rattle.std.proofs.lemmas.List.FromFn.{length-range_with_len, get_or-range_with_len}
 use Rattle.mig_bytes.specs.Fields.{le64}
@@ -24,16 +24,6 @@ use Rattle.mig_guest.specs.Footprints.{Footprint, named_by, names_in}
 use Rattle.mig_machine_script.specs.HostLines.{table_names, may_come}
 use Rattle.std.specs.List as list
 use Rattle.std.specs.FinMap as maps
-
--- ---- tests
-
-pub both_true : (x y : Bool) → (x && y) ≡ true → (x ≡ true) × (y ≡ true)
-both_true true y e = (refl, e)
-both_true false y e = cc
-
-pub untrue : (b : Bool) → not b ≡ true → b ≡ false
-untrue true e = cc
-untrue false e = refl
 
 -- ---- the slots of a table
 
@@ -174,11 +164,11 @@ IsUnused frames mfn = (other : ℕ) (frame : HostFrame) → maps.get frames othe
 
 pub unused : (h : HostOf) (mfn : ℕ) → may_come h mfn ≡ true → IsUnused h.frames mfn
 unused h mfn is other frame at same =
-    let free : has_machine h mfn ≡ false = untrue (has_machine h mfn) (both_true _ _ (both_true _ _ is).0).1 in
+    let free : has_machine h mfn ≡ false = not-true (has_machine h mfn) (and_parts _ _ (and_parts _ _ is).0).1 in
     eqb-false frame.machine mfn (none_passes nat_cmp_total nat_cmp-IsAntisymmetric (λ e. e.1.machine == mfn) h.frames other frame free at) same
 
 pub unnamed : (h : HostOf) (mfn : ℕ) → may_come h mfn ≡ true → names_machine h.frames mfn ≡ false
-unnamed h mfn is = untrue (names_machine h.frames mfn) (both_true _ _ is).1
+unnamed h mfn is = not-true (names_machine h.frames mfn) (and_parts _ _ is).1
 
 -- at this frame number no machine frame came or went that a table of g names, and none came that a frame of g has
 pub record MovesMachine (pfn : ℕ) (g h : HostFrames) : Type 0 where
