@@ -36,7 +36,7 @@ no_level_0 : (kind : PageType) → level_of kind ≡ Some 0 → ⊥
 no_level_0 types.Notab is = cc
 no_level_0 _ is = cc
 
-no_table_0 : (o : Option PageType) → option_and_then level_of o ≡ Some 0 → ⊥
+pub no_table_0 : (o : Option PageType) → option_and_then level_of o ≡ Some 0 → ⊥
 no_table_0 None is = cc
 no_table_0 (Some kind) is = no_level_0 kind is
 

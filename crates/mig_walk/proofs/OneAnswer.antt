@@ -1,20 +1,10 @@
 -- Two answers that hold of one address are equal.
-use Rattle.mig_walk.proofs.Common.{◌≡◌, inl, inr, zero, suc, List, ℕ, ◌<◌, Option, Some, None, IsSome, refl, sym, subst, ◌∙◌, arith, level_of, PageType, vcpu_key, Standing, Walked, NoVcpu, NotCanonical, Absent, NotTable, IsCanonical, IsTableOf, IsWalked, no_vcpu, not_canonical, absent, not_table, frame}
+use Rattle.mig_walk.proofs.Common.{◌≡◌, inl, inr, zero, suc, List, ℕ, ◌<◌, Option, Some, None, IsSome, refl, sym, subst, ◌∙◌, arith, PageType, vcpu_key, Standing, Walked, NoVcpu, NotCanonical, Absent, NotTable, IsCanonical, IsTableOf, IsWalked, no_vcpu, not_canonical, absent, not_table, frame}
+use Rattle.mig_walk.proofs.AddressBits.{no_table_0}
 use Rattle.std.proofs.Common.{◌⊎◌}
-use Rattle.std.specs.Prelude.{option_and_then}
-use Rattle.mig_pagetypes.specs.declared.page_type.PageType.TheVariants.{L1Tab}
 use Rattle.mig_walk.specs.declared.walk.Walked.TheVariants.{Frame}
 use Rattle.mig_walk.proofs.Reaching.{EndsAt, one_end, has_vcpu}
 use Rattle.std.specs.FinMap as maps
-
--- a table has a level from 1 on
-some_level : (o : Option PageType) → option_and_then level_of o ≡ Some 0 → ⊥
-some_level None is = cc
-some_level (Some t) is = by_type t is
-  where
-    by_type : (t : PageType) → level_of t ≡ Some 0 → ⊥
-    by_type L1Tab is = cc
-    by_type _ is = cc
 
 module _ (s : Standing) (vcpu address : ℕ) (one_name : (n m pfn : ℕ) → s.names n ≡ Some pfn → s.names m ≡ Some pfn → n ≡ m) where
   -- what is answered of a way that ends here
@@ -30,7 +20,7 @@ module _ (s : Standing) (vcpu address : ℕ) (one_name : (n m pfn : ℕ) → s.n
     pub tells : Tells level pfn answer
 
   absent_ends : (level pfn : ℕ) → EndsAt s vcpu address level pfn → IsTableOf s level pfn → Ended (Absent level)
-  absent_ends zero pfn ends is = absurd (some_level (s.types pfn) is)
+  absent_ends zero pfn ends is = absurd (no_table_0 (s.types pfn) is)
   absent_ends (suc l) pfn ends is = record { level = suc l; pfn = pfn; ends = ends; tells = tells_absent (omega arith) is }
 
   told_once : (level pfn : ℕ) (a b : Walked) → Tells level pfn a → Tells level pfn b → a ≡ b
