@@ -145,25 +145,18 @@ module _ (here : Spot) (begun : List ℕ) (r t : Relay) (old new before now : Op
       by true e = e
       by false going = let c = keeps_cut r here begun k going in passes_not m.is.0 [] (c.0, Truncated) [] (sym (m.is.1 []) ∙ ap (spot here) (append-nil begun) ∙ c.1)
 
-  stood_by : (step : Step) → Keeps r here begun → is_at_end r.coming ≡ false → MovedBy here begun r t old new before now (Ok step) → Stands t
-  stood_by steps.Done k going m = absurd (apart (sym (done_at_end k (record { is = m })) ∙ going))
-  stood_by step k going m = stood m
-    where
-      stood : PassedPiece here begun step r t old new before now → Stands t
-      stood g = (g.next, g.front, g.keeps)
-
-  -- what is passed on leaves a relay that stands somewhere
-  pub still_stands : (result : Result Step RelayAnswer) → Keeps r here begun → is_at_end r.coming ≡ false → StepMoved here begun r t old new before now result → OnOk result (Stands t)
-  still_stands (Ok step) k going m = stood_by step k going m.is
-  still_stands (Err answer) k going m = tt
-
 -- a step from what comes next, at each place where it may
 pub moved_from : (r t : Relay) (old new before now : Option (List ℕ)) (result : Result Step RelayAnswer) (c : Coming) → r.coming ≡ c → Told r (λ here begun. StepMoved here begun r t old new before now result) c → (here : Spot) (begun : List ℕ) → Keeps r here begun → StepMoved here begun r t old new before now result
 moved_from r t old new before now result = told r (λ here begun. StepMoved here begun r t old new before now result)
 
--- and the relay stands somewhere behind it
-pub stands_from : (r t : Relay) (old new before now : Option (List ℕ)) (result : Result Step RelayAnswer) (c : Coming) → r.coming ≡ c → is_at_end c ≡ false → Told r (λ here begun. StepMoved here begun r t old new before now result) c → Stands r → OnOk result (Stands t)
-stands_from r t old new before now result c is going f (here, begun, k) = still_stands here begun r t old new before now result k (ap is_at_end is ∙ going) (moved_from r t old new before now result c is f here begun k)
+-- where it goes on, the relay stands somewhere behind it
+pub stands_behind : (r t : Relay) (old new before now : Option (List ℕ)) (result : Result Step RelayAnswer) → ((here : Spot) (begun : List ℕ) → Keeps r here begun → StepMoved here begun r t old new before now result) → Stands r → goes_on result ≡ true → Stands t
+stands_behind r t old new before now result moved (here, begun, k) = by result (moved here begun k).is
+  where
+    by : (q : Result Step RelayAnswer) → MovedBy here begun r t old new before now q → goes_on q ≡ true → Stands t
+    by (Ok steps.Done) m on = absurd (apart (sym on))
+    by (Ok step) m on = let g : PassedPiece here begun step r t old new before now = m in (g.next, g.front, g.keeps)
+    by (Err answer) m on = absurd (apart (sym on))
 
 -- ---- the bytes that a relay stands for
 

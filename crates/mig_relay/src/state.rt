@@ -197,7 +197,6 @@ impl Relay {
     ) -> Result<Step, RelayAnswer>
         requires { Stands self.old }
         ensures moved { (here : Spot) (begun : List ℕ) → Keeps self.old here begun → StepMoved here begun self.old self.new (S.left src.old) (S.left src.new) (K.written sink.old) (K.written sink.new) result }
-        ensures stands { OnOk result (Stands self.new) }
         ensures ident { (left : List ℕ) → is_at_start self.old.coming ≡ true → S.left src.old ≡ Some left → begins_with_ident left ≡ true → IsNotRefused result }
         ensures over { is_at_end self.old.coming ≡ true → result ≡ Ok Done }
         ensures stays { is_at_end self.old.coming ≡ true → self.new ≡ self.old }

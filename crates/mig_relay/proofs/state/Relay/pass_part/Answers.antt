@@ -1,88 +1,45 @@
-use Rattle.mig_relay.proofs.Common.{refl}
-use Rattle.mig_relay.proofs.Steps.{moved_from, stands_from}
+use Rattle.mig_relay.proofs.Steps.{moved_from}
 use Rattle.mig_relay.specs.declared.state.Coming.TheVariants as comes
 use Rattle.mig_relay.proofs.state.Relay.pass_part.Goals as goal
 
 pub returns-in-Start-clause-moved : goal.returns-in-Start-clause-moved
 returns-in-Start-clause-moved g c = moved_from c.args.self.now c.start.new.self _ _ _ _ c.start.result comes.Start c.in-Start.is c.start.ensures.moved
 
-pub returns-in-Start-clause-stands : goal.returns-in-Start-clause-stands
-returns-in-Start-clause-stands g c = stands_from c.args.self.now c.start.new.self _ _ _ _ c.start.result comes.Start c.in-Start.is refl c.start.ensures.moved c.requires
-
 pub returns-in-LibxlHeader-clause-moved : goal.returns-in-LibxlHeader-clause-moved
 returns-in-LibxlHeader-clause-moved g c = moved_from c.args.self.now c.libxl_header.new.self _ _ _ _ c.libxl_header.result comes.LibxlHeader c.in-LibxlHeader.is c.libxl_header.ensures.moved
-
-pub returns-in-LibxlHeader-clause-stands : goal.returns-in-LibxlHeader-clause-stands
-returns-in-LibxlHeader-clause-stands g c = stands_from c.args.self.now c.libxl_header.new.self _ _ _ _ c.libxl_header.result comes.LibxlHeader c.in-LibxlHeader.is refl c.libxl_header.ensures.moved c.requires
 
 pub returns-in-LibxlHead-clause-moved : goal.returns-in-LibxlHead-clause-moved
 returns-in-LibxlHead-clause-moved g c = moved_from c.args.self.now c.libxl_head.new.self _ _ _ _ c.libxl_head.result comes.LibxlHead c.in-LibxlHead.is c.libxl_head.ensures.moved
 
-pub returns-in-LibxlHead-clause-stands : goal.returns-in-LibxlHead-clause-stands
-returns-in-LibxlHead-clause-stands g c = stands_from c.args.self.now c.libxl_head.new.self _ _ _ _ c.libxl_head.result comes.LibxlHead c.in-LibxlHead.is refl c.libxl_head.ensures.moved c.requires
-
 pub returns-in-LibxlBody-clause-moved : goal.returns-in-LibxlBody-clause-moved
 returns-in-LibxlBody-clause-moved g c = moved_from c.args.self.now c.libxl_body.new.self _ _ _ _ c.libxl_body.result (comes.LibxlBody c.in-LibxlBody.head) c.in-LibxlBody.is c.libxl_body.ensures.moved
-
-pub returns-in-LibxlBody-clause-stands : goal.returns-in-LibxlBody-clause-stands
-returns-in-LibxlBody-clause-stands g c = stands_from c.args.self.now c.libxl_body.new.self _ _ _ _ c.libxl_body.result (comes.LibxlBody c.in-LibxlBody.head) c.in-LibxlBody.is refl c.libxl_body.ensures.moved c.requires
 
 pub returns-in-LibxlPadding-clause-moved : goal.returns-in-LibxlPadding-clause-moved
 returns-in-LibxlPadding-clause-moved g c = moved_from c.args.self.now c.libxl_padding.new.self _ _ _ _ c.libxl_padding.result (comes.LibxlPadding c.in-LibxlPadding.head) c.in-LibxlPadding.is c.libxl_padding.ensures.moved
 
-pub returns-in-LibxlPadding-clause-stands : goal.returns-in-LibxlPadding-clause-stands
-returns-in-LibxlPadding-clause-stands g c = stands_from c.args.self.now c.libxl_padding.new.self _ _ _ _ c.libxl_padding.result (comes.LibxlPadding c.in-LibxlPadding.head) c.in-LibxlPadding.is refl c.libxl_padding.ensures.moved c.requires
-
 pub returns-in-Marker-clause-moved : goal.returns-in-Marker-clause-moved
 returns-in-Marker-clause-moved g c = moved_from c.args.self.now c.marker.new.self _ _ _ _ c.marker.result comes.Marker c.in-Marker.is c.marker.ensures.moved
-
-pub returns-in-Marker-clause-stands : goal.returns-in-Marker-clause-stands
-returns-in-Marker-clause-stands g c = stands_from c.args.self.now c.marker.new.self _ _ _ _ c.marker.result comes.Marker c.in-Marker.is refl c.marker.ensures.moved c.requires
 
 pub returns-in-Version-clause-moved : goal.returns-in-Version-clause-moved
 returns-in-Version-clause-moved g c = moved_from c.args.self.now c.version.new.self _ _ _ _ c.version.result comes.Version c.in-Version.is c.version.ensures.moved
 
-pub returns-in-Version-clause-stands : goal.returns-in-Version-clause-stands
-returns-in-Version-clause-stands g c = stands_from c.args.self.now c.version.new.self _ _ _ _ c.version.result comes.Version c.in-Version.is refl c.version.ensures.moved c.requires
-
 pub returns-in-Kind-clause-moved : goal.returns-in-Kind-clause-moved
 returns-in-Kind-clause-moved g c = moved_from c.args.self.now c.kind.new.self _ _ _ _ c.kind.result (comes.Kind c.in-Kind.version) c.in-Kind.is c.kind.ensures.moved
-
-pub returns-in-Kind-clause-stands : goal.returns-in-Kind-clause-stands
-returns-in-Kind-clause-stands g c = stands_from c.args.self.now c.kind.new.self _ _ _ _ c.kind.result (comes.Kind c.in-Kind.version) c.in-Kind.is refl c.kind.ensures.moved c.requires
 
 pub returns-in-Head-clause-moved : goal.returns-in-Head-clause-moved
 returns-in-Head-clause-moved g c = moved_from c.args.self.now c.head.new.self _ _ _ _ c.head.result comes.Head c.in-Head.is c.head.ensures.moved
 
-pub returns-in-Head-clause-stands : goal.returns-in-Head-clause-stands
-returns-in-Head-clause-stands g c = stands_from c.args.self.now c.head.new.self _ _ _ _ c.head.result comes.Head c.in-Head.is refl c.head.ensures.moved c.requires
-
 pub returns-in-Body-clause-moved : goal.returns-in-Body-clause-moved
 returns-in-Body-clause-moved g c = moved_from c.args.self.now c.body.new.self _ _ _ _ c.body.result (comes.Body c.in-Body.head) c.in-Body.is c.body.ensures.moved
-
-pub returns-in-Body-clause-stands : goal.returns-in-Body-clause-stands
-returns-in-Body-clause-stands g c = stands_from c.args.self.now c.body.new.self _ _ _ _ c.body.result (comes.Body c.in-Body.head) c.in-Body.is refl c.body.ensures.moved c.requires
 
 pub returns-in-Front-clause-moved : goal.returns-in-Front-clause-moved
 returns-in-Front-clause-moved g c = moved_from c.args.self.now c.front.new.self _ _ _ _ c.front.result (comes.Front c.in-Front.head) c.in-Front.is c.front.ensures.moved
 
-pub returns-in-Front-clause-stands : goal.returns-in-Front-clause-stands
-returns-in-Front-clause-stands g c = stands_from c.args.self.now c.front.new.self _ _ _ _ c.front.result (comes.Front c.in-Front.head) c.in-Front.is refl c.front.ensures.moved c.requires
-
 pub returns-in-Words-clause-moved : goal.returns-in-Words-clause-moved
 returns-in-Words-clause-moved g c = moved_from c.args.self.now c.take_words.new.self _ _ _ _ c.take_words.result (comes.Words c.in-Words.head c.in-Words.count) c.in-Words.is c.take_words.ensures.moved
-
-pub returns-in-Words-clause-stands : goal.returns-in-Words-clause-stands
-returns-in-Words-clause-stands g c = stands_from c.args.self.now c.take_words.new.self _ _ _ _ c.take_words.result (comes.Words c.in-Words.head c.in-Words.count) c.in-Words.is refl c.take_words.ensures.moved c.requires
 
 pub returns-in-Page-clause-moved : goal.returns-in-Page-clause-moved
 returns-in-Page-clause-moved g c = moved_from c.args.self.now c.page.new.self _ _ _ _ c.page.result (comes.Page c.in-Page.head) c.in-Page.is c.page.ensures.moved
 
-pub returns-in-Page-clause-stands : goal.returns-in-Page-clause-stands
-returns-in-Page-clause-stands g c = stands_from c.args.self.now c.page.new.self _ _ _ _ c.page.result (comes.Page c.in-Page.head) c.in-Page.is refl c.page.ensures.moved c.requires
-
 pub returns-in-Padding-clause-moved : goal.returns-in-Padding-clause-moved
 returns-in-Padding-clause-moved g c = moved_from c.args.self.now c.padding.new.self _ _ _ _ c.padding.result (comes.Padding c.in-Padding.head) c.in-Padding.is c.padding.ensures.moved
-
-pub returns-in-Padding-clause-stands : goal.returns-in-Padding-clause-stands
-returns-in-Padding-clause-stands g c = stands_from c.args.self.now c.padding.new.self _ _ _ _ c.padding.result (comes.Padding c.in-Padding.head) c.in-Padding.is refl c.padding.ensures.moved c.requires

@@ -1,7 +1,7 @@
 use Rattle.mig_relay.proofs.Common.{rules, refl, ap, Ok, ◌≡◌}
 use Rattle.mig_relay.specs.Standing.{goes_on}
 use Rattle.mig_relay.specs.declared.answer.Step.TheVariants.{Done}
-use Rattle.mig_relay.proofs.Steps.{says_of, says_over, over_there}
+use Rattle.mig_relay.proofs.Steps.{says_of, says_over, over_there, stands_behind}
 use Rattle.mig_relay.specs.declared.state.Coming.TheVariants as comes
 use Rattle.mig_relay.proofs.state.Relay.step.Goals as goal
 
@@ -10,6 +10,9 @@ returns-then-eq-clause-says g c = λ bytes s. let done : c.in-Ok.step ≡ Done =
 
 pub returns-else-eq-clause-says : goal.returns-else-eq-clause-says
 returns-else-eq-clause-says g c = λ bytes s. says_of c.args.self.now c.pass_part.new.self _ _ _ _ _ c.in-Ok.ensures.moved bytes s
+
+pub returns-else-eq-clause-stands : goal.returns-else-eq-clause-stands
+returns-else-eq-clause-stands g c = stands_behind c.args.self.now c.pass_part.new.self _ _ _ _ _ c.in-Ok.ensures.moved c.requires
 
 pub returns-else-eq-clause-done : goal.returns-else-eq-clause-done
 returns-else-eq-clause-done g c = λ bytes whole s passes. c.in-Ok.ensures.over (over_there s whole passes)
