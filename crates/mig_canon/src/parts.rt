@@ -8,7 +8,7 @@ ghost use Rattle.mig_guest.specs.Formed.{IsFormed};
 ghost use Rattle.mig_records.specs.Records.{spelled, text_of};
 ghost use Rattle.mig_guest.specs.PartCodes.{code_number};
 ghost use Rattle.mig_records.specs.declared.shape.Shape.TheVariants as shapes;
-ghost use Rattle.mig_records.specs.Layouts.{AreWidths, front_text, entry_text};
+ghost use Rattle.mig_records.specs.Layouts.{front_text};
 ghost use Rattle.mig_records.specs.Shapes.{shape_of, parts_at, IsRow};
 ghost use Rattle.mig_canon.specs.Canon.{records_of};
 ghost use Rattle.mig_canon.specs.Pieces.{piece, IsShortPart};

@@ -9,11 +9,8 @@ ghost use Rattle.mig_canon.specs.Canon.{info_records, p2m_body, p2m_records, vcp
 use crate::parts::write_piece;
 use mig_bytes::{Sink, WriteFailed, put_all};
 use mig_guest::{Guest, PartCode, PartKey};
-use mig_headers::Kind;
+use mig_headers::{Kind, VCPU_LIMIT, X86_PV_INFO};
 use mig_records::{shape_of, write_head, write_numbers, write_padding, write_record};
-
-/// The type of X86_PV_INFO.
-const PV_INFO: u32 = 2;
 
 /// The key of the P2M frames.
 const P2M_KEY: PartKey = PartKey {
@@ -22,9 +19,6 @@ const P2M_KEY: PartKey = PartKey {
     key2: 0,
 };
 
-/// The ids of vCPUs are below this.
-const VCPU_LIMIT: u32 = 4096;
-
 /// Appends the X86_PV_INFO of a PV guest; nothing for HVM.
 #[tactic(auto, using(mig_bytes::proofs::Texts::puts_same, mig_records::proofs::RecordTexts::text_one))]
 pub fn write_info<K: Sink>(sink: &mut K, guest: &Guest) -> Result<(), WriteFailed>
@@ -32,7 +26,7 @@ pub fn write_info<K: Sink>(sink: &mut K, guest: &Guest) -> Result<(), WriteFaile
     ensures cause { HasCause (K.faults sink.old) (K.faults sink.new) result }
 {
     match guest.kind() {
-        Kind::Pv => write_record(sink, PV_INFO, &[8, 4, 0, 0, 0, 0, 0, 0]),
+        Kind::Pv => write_record(sink, X86_PV_INFO, &[8, 4, 0, 0, 0, 0, 0, 0]),
         Kind::Hvm => Ok(()),
     }
 }

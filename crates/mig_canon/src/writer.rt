@@ -1,4 +1,3 @@
-ghost use Rattle.std.specs.Prelude.{◌≡◌, ◌++◌};
 ghost use Rattle.mig_bytes.specs.Bytes.{Puts};
 ghost use Rattle.mig_bytes.specs.Faults.{HasCause};
 ghost use Rattle.mig_guest.specs.Formed.{IsFormed};
@@ -12,14 +11,9 @@ use crate::parts::write_parts;
 use crate::pv::{write_info, write_p2m_frames, write_vcpus};
 use mig_bytes::{Sink, WriteFailed, put_all};
 use mig_guest::{Guest, PartCode};
-use mig_headers::{DomainHeader, ImageHeader, Kind};
+use mig_headers::{DomainHeader, ImageHeader, Kind, STATIC_DATA_END};
 use mig_records::write_record;
-
-/// The type of END.
-const END: u32 = 0;
-
-/// The type of STATIC_DATA_END.
-const STATIC_DATA_END: u32 = 0x10;
+use mig_records_pages::write_end;
 
 /// Appends the headers of a canonical image of a guest of this kind.
 #[tactic(auto, using(mig_bytes::proofs::Texts::puts_then))]
@@ -105,5 +99,5 @@ pub fn write_canon<K: Sink>(sink: &mut K, guest: &Guest) -> Result<(), WriteFail
     write_p2m_frames(sink, guest)?;
     write_frames(sink, guest)?;
     write_last(sink, guest)?;
-    write_record(sink, END, &[])
+    write_end(sink)
 }

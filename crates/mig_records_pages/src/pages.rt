@@ -11,11 +11,9 @@ use crate::HeldFrame;
 use crate::gathered::{no_pages, no_words, pages_with, put_page};
 use crate::sequence::{FrameSequence, HeldFrames};
 use mig_bytes::{Sink, WriteFailed, put_all, put_u64_le};
+use mig_headers::PAGE_DATA;
 use mig_pagetypes::encode_word;
 use mig_records::{write_count, write_head};
-
-/// The type of PAGE_DATA.
-const PAGE_DATA: u32 = 1;
 
 /// The most entries of a PAGE_DATA record that a writer makes.
 pub const MOST_ENTRIES: usize = 1024;

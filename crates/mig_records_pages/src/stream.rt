@@ -5,10 +5,8 @@ ghost use Rattle.mig_records.specs.Records.{spelled};
 ghost use Rattle.mig_records_pages.specs.Written.{JoinsRecords, LeavesPart};
 
 use mig_bytes::{Sink, WriteFailed};
+use mig_headers::END;
 use mig_records::write_record;
-
-/// The type of END.
-const END: u32 = 0;
 
 /// Appends a record that isn't END.
 pub fn write_plain<K: Sink>(sink: &mut K, kind: u32, body: &[u8]) -> Result<(), WriteFailed>

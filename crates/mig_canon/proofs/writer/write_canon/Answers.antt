@@ -40,6 +40,6 @@ returns-in_err-write_last-clause-bytes g c =
 
 pub returns-clause-bytes : goal.returns-clause-bytes
 returns-clause-bytes g c =
-    let r = c.write_record.result in
+    let r = c.write_end.result in
     puts_same _ _ _ _ r (canon_is c.args.guest.now)
-    (puts_then _ _ _ _ _ r c.in_ok-write_opening.ensures.bytes (puts_then _ _ _ _ _ r c.in_ok-write_info.ensures.bytes (puts_then _ _ _ _ _ r c.in_ok-write_static.ensures.bytes (puts_then _ _ _ _ _ r c.in_ok-write_p2m_frames.ensures.bytes (puts_then _ _ _ _ _ r c.in_ok-write_frames.ensures.bytes (puts_then _ _ _ _ _ r c.in_ok-write_last.ensures.bytes (c.write_record.ensures.bytes)))))))
+    (puts_then _ _ _ _ _ r c.in_ok-write_opening.ensures.bytes (puts_then _ _ _ _ _ r c.in_ok-write_info.ensures.bytes (puts_then _ _ _ _ _ r c.in_ok-write_static.ensures.bytes (puts_then _ _ _ _ _ r c.in_ok-write_p2m_frames.ensures.bytes (puts_then _ _ _ _ _ r c.in_ok-write_frames.ensures.bytes (puts_then _ _ _ _ _ r c.in_ok-write_last.ensures.bytes (c.write_end.ensures.bytes)))))))
