@@ -101,7 +101,7 @@ pub use Rattle.mig_pvtables.specs.Faults.{fault_of_guest, faults_for, find_entry
 pub use Rattle.mig_pvtables.specs.P2mFrames.{count_in, listed}
 pub use Rattle.mig_pvtables.specs.Tables.{fault_of_page_table, is_superpage, names_above}
 pub use Rattle.mig_pvtables.specs.VcpuContexts.{field_value, frame_of_field, is_marked, is_used}
-pub use Rattle.mig_restore_form.proofs.Batches.{behind_good, behind_words, entries_in_place, words_stage}
+pub use Rattle.mig_restore_form.proofs.Batches.{as_content, behind_list, entries_in_place, front_list, good_list, list_stage}
 pub use Rattle.mig_restore_form.proofs.Bodies.{shaped_code}
 pub use Rattle.mig_restore_form.proofs.Converse.{goes, going, headers_go, image_header_goes}
 pub use Rattle.mig_restore_form.proofs.Laws.{behind_kind, behind_marker, behind_version, finds, image_header, opened as stream_opened}

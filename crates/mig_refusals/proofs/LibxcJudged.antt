@@ -1,5 +1,5 @@
 -- The form of each piece of an image is judged as this piece is.
-use Rattle.mig_refusals.proofs.Common.{entries_in_place, behind_good, behind_words, words_stage, lists_of, parts_of_body, ◌≡◌, ℕ, ◌*◌, List, [], ◌∷◌, ◌++◌, Bool, true, false, cond, Option, Some, None, refl, sym, ap, ◌∙◌, le32, be32, Judged, ◌>>=◌, part, plain_at, said_at, tried, Passes, Faulty, Cause, Truncated, Kind, Opening, Before, before, StreamRecord, RecordType, PartCode, words, fault_of_marker, fault_of_image, fault_of_domain, fault_of_head, fault_of_count, fault_of_words, fault_of_data, fault_of_page, fault_of_pv_info, fault_of_p2m, fault_of_body, kind_of_number, padding_len, sent, FrameEntry, word_pfn, type_in_word}
+use Rattle.mig_refusals.proofs.Common.{as_content, behind_list, entries_in_place, front_list, good_list, list_stage, option_or, lists_of, parts_of_body, ◌≡◌, ℕ, ◌*◌, List, [], ◌∷◌, ◌++◌, Bool, true, false, cond, Option, Some, None, refl, sym, ap, ◌∙◌, le32, be32, Judged, ◌>>=◌, part, plain_at, said_at, tried, Passes, Faulty, Cause, Truncated, Kind, Opening, Before, before, StreamRecord, RecordType, PartCode, words, fault_of_marker, fault_of_image, fault_of_domain, fault_of_head, fault_of_count, fault_of_words, fault_of_data, fault_of_page, fault_of_pv_info, fault_of_p2m, fault_of_body, kind_of_number, padding_len, sent, FrameEntry, word_pfn, type_in_word}
 use Rattle.mig_bytes_form.specs.Form.{FormOf, ◌>>>◌, asked_form, bytes_form, each_form, said_form, judged_as}
 use Rattle.mig_bytes_form.specs.Form.FormOf.{Gives}
 use Rattle.mig_bytes_form.specs.Tests.{computed}
@@ -61,52 +61,41 @@ module _ (kind : Kind) (top : ℕ) where
   abbrev behind_the_count : ℕ → ℕ → FormOf Cause Content
   behind_the_count len n = said_form Truncated (8 * n) (λ bytes. computed (fault_of_words kind top (words n bytes))) (words n) >>> λ ws. behind_the_words len ws
 
-  abbrev frames : List FrameEntry × List ℕ → Judged Cause Content
-  frames entries = Passes (Frames entries.0) entries.1
-
-  entries_judged : (ws mid : List ℕ) → judged_as (each_form (image_entry_form kind top) (with_places 0 ws) >>> λ entries. Gives (Frames entries)) mid ≡ (entries_in_place kind top 0 ws mid >>= frames)
+  entries_judged : (ws mid : List ℕ) → judged_as (each_form (image_entry_form kind top) (with_places 0 ws) >>> λ entries. Gives (Frames entries)) mid ≡ behind_list kind top (ws, mid)
   unfolding judged_as
-  entries_judged ws mid = then_is (each_form (image_entry_form kind top) (with_places 0 ws)) (λ entries. Gives (Frames entries)) mid (entries_in_place kind top 0 ws mid) frames (each_is (image_entry_form kind top) (entry_at kind top) entry_judged (with_places 0 ws) mid) (λ entries rest. refl)
+  entries_judged ws mid = then_is (each_form (image_entry_form kind top) (with_places 0 ws)) (λ entries. Gives (Frames entries)) mid (entries_in_place kind top 0 ws mid) as_content (each_is (image_entry_form kind top) (entry_at kind top) entry_judged (with_places 0 ws) mid) (λ entries rest. refl)
 
-  data_judged : (len : ℕ) (ws mid : List ℕ) → judged_as (behind_the_words len ws) mid ≡ (behind_good kind top len ws mid >>= frames)
+  data_judged : (len : ℕ) (ws mid : List ℕ) → judged_as (behind_the_words len ws) mid ≡ ((tried (fault_of_data len ws) mid >>= λ _. Passes ws mid) >>= behind_list kind top)
   data_judged len ws mid =
-      then_is (asked_form Truncated (computed (fault_of_data len ws)) ws) (λ ws. each_form (image_entry_form kind top) (with_places 0 ws) >>> λ entries. Gives (Frames entries)) mid (tried (fault_of_data len ws) mid >>= λ _. Passes ws mid) (λ a. entries_in_place kind top 0 a.0 a.1 >>= frames)
+      then_is (asked_form Truncated (computed (fault_of_data len ws)) ws) (λ ws. each_form (image_entry_form kind top) (with_places 0 ws) >>> λ entries. Gives (Frames entries)) mid (tried (fault_of_data len ws) mid >>= λ _. Passes ws mid) (behind_list kind top)
       (asked_is Truncated (computed (fault_of_data len ws)) ws mid ∙ ap (λ o. tried o mid >>= λ _. Passes ws mid) (computed_is (fault_of_data len ws)))
       (λ ws rest. entries_judged ws rest)
-      ∙ by (fault_of_data len ws)
-    where
-      by : (o : Option Cause) → ((tried o mid >>= λ _. Passes ws mid) >>= λ a. entries_in_place kind top 0 a.0 a.1 >>= frames) ≡ ((tried o mid >>= λ _. entries_in_place kind top 0 ws mid) >>= frames)
-      by None = refl
-      by (Some c) = refl
 
-  words_judged : (len n : ℕ) (mid : List ℕ) → judged_as (behind_the_count len n) mid ≡ ((words_at n mid >>= behind_words kind top len) >>= frames)
+  words_judged : (len n : ℕ) (mid : List ℕ) → judged_as (behind_the_count len n) mid ≡ ((words_at n mid >>= good_list kind top len) >>= behind_list kind top)
   words_judged len n mid =
-      then_is (said_form Truncated (8 * n) (λ bytes. computed (fault_of_words kind top (words n bytes))) (words n)) (behind_the_words len) mid (said_at Truncated (λ b. fault_of_words kind top (words n b)) (words n) (8 * n) mid) (λ a. behind_good kind top len a.0 a.1 >>= frames)
+      then_is (said_form Truncated (8 * n) (λ bytes. computed (fault_of_words kind top (words n bytes))) (words n)) (behind_the_words len) mid (said_at Truncated (λ b. fault_of_words kind top (words n b)) (words n) (8 * n) mid) (λ a. (tried (fault_of_data len a.0) a.1 >>= λ _. Passes a.0 a.1) >>= behind_list kind top)
       (said_is (λ b. fault_of_words kind top (words n b)) (words n) (8 * n) mid) (λ ws rest. data_judged len ws rest)
-      ∙ by (part Truncated (8 * n) mid) ∙ ap (λ j. j >>= frames) (sym (words_stage kind top len n mid))
+      ∙ by (part Truncated (8 * n) mid)
     where
-      tries : (o : Option Cause) (ws rest : List ℕ) → ((tried o rest >>= λ _. Passes ws rest) >>= λ a. behind_good kind top len a.0 a.1 >>= frames) ≡ ((tried o rest >>= λ _. behind_good kind top len ws rest) >>= frames)
+      tries : (o : Option Cause) (ws rest : List ℕ) → ((tried o rest >>= λ _. Passes ws rest) >>= λ a. (tried (fault_of_data len a.0) a.1 >>= λ _. Passes a.0 a.1) >>= behind_list kind top) ≡ ((tried (option_or o (fault_of_data len ws)) rest >>= λ _. Passes ws rest) >>= behind_list kind top)
       tries None ws rest = refl
       tries (Some c) ws rest = refl
 
-      by : (j : Judged Cause (List ℕ)) → ((j >>= λ b. tried (fault_of_words kind top (words n b.0)) b.1 >>= λ _. Passes (words n b.0) b.1) >>= λ a. behind_good kind top len a.0 a.1 >>= frames) ≡ ((j >>= λ p. tried (fault_of_words kind top (words n p.0)) p.1 >>= λ _. behind_good kind top len (words n p.0) p.1) >>= frames)
+      by : (j : Judged Cause (List ℕ)) → ((j >>= λ b. tried (fault_of_words kind top (words n b.0)) b.1 >>= λ _. Passes (words n b.0) b.1) >>= λ a. (tried (fault_of_data len a.0) a.1 >>= λ _. Passes a.0 a.1) >>= behind_list kind top) ≡ (((j >>= λ b. Passes (words n b.0) b.1) >>= good_list kind top len) >>= behind_list kind top)
       by (Passes x rest) = tries (fault_of_words kind top (words n x)) (words n x) rest
       by (Faulty c rest) = refl
 
   pages_judged : (len : ℕ) (i : List ℕ) → judged_as (pages_form kind top len) i ≡ pages_at kind top len i
   pages_judged len i =
-      then_is (bytes_form Truncated 8 (λ front. computed (fault_of_count len (le32 front 0)))) (λ front. behind_the_count len (le32 front 0)) i (said_at Truncated (λ front. fault_of_count len (le32 front 0)) (λ l. l) 8 i) (λ front. (words_at (le32 front.0 0) front.1 >>= behind_words kind top len) >>= frames)
+      then_is (bytes_form Truncated 8 (λ front. computed (fault_of_count len (le32 front 0)))) (λ front. behind_the_count len (le32 front 0)) i (said_at Truncated (λ front. fault_of_count len (le32 front 0)) (λ l. l) 8 i) (λ front. (words_at (le32 front.0 0) front.1 >>= good_list kind top len) >>= behind_list kind top)
       (said_is (λ front. fault_of_count len (le32 front 0)) (λ l. l) 8 i) (λ front mid. words_judged len (le32 front 0) mid)
-      ∙ by (part Truncated 8 i)
+      ∙ by (part Truncated 8 i) ∙ sym (list_stage kind top len i)
     where
-      behind : List ℕ → List ℕ → Judged Cause (List FrameEntry)
-      behind front mid = words_at (le32 front 0) mid >>= behind_words kind top len
-
-      tries : (o : Option Cause) (front mid : List ℕ) → ((tried o mid >>= λ _. Passes front mid) >>= λ a. behind a.0 a.1 >>= frames) ≡ ((tried o mid >>= λ _. behind front mid) >>= frames)
+      tries : (o : Option Cause) (front mid : List ℕ) → ((tried o mid >>= λ _. Passes front mid) >>= λ a. (words_at (le32 a.0 0) a.1 >>= good_list kind top len) >>= behind_list kind top) ≡ ((tried o mid >>= λ _. words_at (le32 front 0) mid >>= good_list kind top len) >>= behind_list kind top)
       tries None front mid = refl
       tries (Some c) front mid = refl
 
-      by : (j : Judged Cause (List ℕ)) → ((j >>= λ b. tried (fault_of_count len (le32 b.0 0)) b.1 >>= λ _. Passes b.0 b.1) >>= λ a. behind a.0 a.1 >>= frames) ≡ ((j >>= λ p. tried (fault_of_count len (le32 p.0 0)) p.1 >>= λ _. behind p.0 p.1) >>= frames)
+      by : (j : Judged Cause (List ℕ)) → ((j >>= λ b. tried (fault_of_count len (le32 b.0 0)) b.1 >>= λ _. Passes b.0 b.1) >>= λ a. (words_at (le32 a.0 0) a.1 >>= good_list kind top len) >>= behind_list kind top) ≡ ((j >>= front_list kind top len) >>= behind_list kind top)
       by (Passes x mid) = tries (fault_of_count len (le32 x 0)) x mid
       by (Faulty c mid) = refl
 

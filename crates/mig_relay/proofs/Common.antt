@@ -19,7 +19,7 @@ pub use Rattle.mig_bytes.specs.Sequences.{onward}
 pub use Rattle.mig_bytes.specs.declared.stop.Stop.{Stop}
 pub use Rattle.mig_guest.specs.Guests.{GuestOf}
 pub use Rattle.mig_guest.specs.declared.part_code.PartCode.{PartCode}
-pub use Rattle.mig_headers.proofs.FirstFaults.{rows_fine}
+pub use Rattle.mig_headers.proofs.FirstFaults.{both_none, rows_fine}
 pub use Rattle.mig_headers.proofs.HeaderLaws.{marker_of}
 pub use Rattle.mig_headers.proofs.RecordNumbers.{numbers_are_inverse}
 pub use Rattle.mig_headers.specs.Headers.{fault_of_domain, fault_of_image, fault_of_libxl, fault_of_marker, kind_of_number, libxl_ident, marker_rows}
@@ -53,12 +53,12 @@ pub use Rattle.mig_relay.specs.Causes.{is_unasked}
 pub use Rattle.mig_relay.specs.Following.{ComesBehind, ComesNext, image_next, in_hand, libxl_next, more, place_of_spot, whole}
 pub use Rattle.mig_relay.specs.Images.{open_image_at, open_next}
 pub use Rattle.mig_relay.specs.Keeping.{HasNumber, HasRecords, IsBodied, IsOther, IsPages, Keeps, KeepsFirst, KeepsGoing, KeepsHead, KeepsNext, KeepsOpen, KeepsOuter, KeepsRecords, KeepsWords, KeepsWrapper, fault_of_empty, top_with, with_one}
-pub use Rattle.mig_relay.specs.Parts.{AtBody, AtFront, AtHead, AtKind, AtMarker, AtPadding, AtPages, AtVersion, AtWords, BeginsWithPart, Next, entry_of_word, fault_of_list, judged_next, record_with, with_body}
+pub use Rattle.mig_relay.specs.Parts.{AtBody, AtFront, AtHead, AtKind, AtMarker, AtPadding, AtPages, AtVersion, AtWords, BeginsWithPart, Next, entry_of_word, judged_next, record_with, with_body}
 pub use Rattle.mig_relay.specs.Relaying.{HasPassed, IsRelayed, RisesOnAnswer, Turned, WritesOnReadFault}
 pub use Rattle.mig_relay.specs.Spots.{Alone, AtEnd, AtLibxlBody, AtLibxlHead, AtLibxlHeader, AtLibxlPadding, AtStart, Behind, InImage, Outer, Spot, carry, fault_of_first, held, image_record, is_ident, spot}
 pub use Rattle.mig_relay.specs.Standing.{IsNotRefused}
 pub use Rattle.mig_relay.specs.Steps.{FrontsAreCut, IsUnfinished, MovedBy, PassedPiece, Refuses, StepMoved, Stops, answer_of, counted, is_judged_first}
-pub use Rattle.mig_relay.specs.Streams.{IsOpenRefused, IsPassable, open_bare, open_body, open_content, open_fault_of_pairs, open_inner, open_pairs_at}
+pub use Rattle.mig_relay.specs.Streams.{IsOpenRefused, IsPassable, open_bare, open_body, open_content, open_inner, open_pairs_at}
 pub use Rattle.mig_relay.specs.Waiting.{Fits}
 pub use Rattle.mig_relay.specs.declared.answer.RelayAnswer.{RelayAnswer}
 pub use Rattle.mig_relay.specs.declared.answer.RelayAnswer.TheVariants.{Memory, Refused, WriteFault}
@@ -69,10 +69,10 @@ pub use Rattle.mig_relay.specs.declared.state.Coming.{Coming}
 pub use Rattle.mig_relay.specs.declared.state.Relay.{Relay}
 pub use Rattle.mig_relay_bodies.proofs.Types.{bodies_are_parts}
 pub use Rattle.mig_relay_bodies.specs.Begun.{IsBegunBody, piece_len}
-pub use Rattle.mig_relay_bodies.specs.Bodies.{coded_content, fault_of_libxl_body, fault_of_record_body, record_content, typed_content}
+pub use Rattle.mig_relay_bodies.specs.Bodies.{coded_content, fault_of_libxl_body, fault_of_pair_body, fault_of_record_body, record_content, typed_content}
 pub use Rattle.mig_restore_form.proofs.Meaning.{ended_more, one_more_record}
 pub use Rattle.mig_restore_form.proofs.Parts.{asks, begins}
-pub use Rattle.mig_restore_form.specs.Judging.{Before, Opening, before, body_at, code_of_type, coded_at, entries_at, entry_at, fault_of_data, fault_of_fields, fault_of_head, fault_of_level, fault_of_page, head_at, lists_of, opening_of, page_at, record_at, type_in_word, typed_at, with_places, words_at}
+pub use Rattle.mig_restore_form.specs.Judging.{Before, Opening, before, body_at, code_of_type, coded_at, entries_at, entry_at, fault_of_data, fault_of_fields, fault_of_head, fault_of_level, fault_of_list, fault_of_page, head_at, list_at, lists_of, opening_of, page_at, record_at, type_in_word, typed_at, with_places, words_at}
 pub use Rattle.mig_restore_form.specs.Mean.{meant_type, put_content, sent}
 pub use Rattle.mig_restore_form.specs.Record.{Content, FrameEntry, StreamRecord, is_ended, is_verified, placed_content, types_of}
 pub use Rattle.mig_restore_form.specs.Record.Content.{Frames, Lists, Nothing, Sets}

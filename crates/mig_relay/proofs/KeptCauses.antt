@@ -1,5 +1,5 @@
 -- No judging of a part tells a cause that is left out.
-use Rattle.mig_relay.proofs.Common.{◌≡◌, ℕ, zero, suc, ◌+◌, ◌*◌, Bool, true, false, cond, List, [], length, drop, Option, Some, None, Result, Ok, Err, refl, option_or, padding_len, le32, be32, ◌>>=◌, part, tried, plain_at, placed, Passes, onward, marker_rows, fault_of_marker, fault_of_image, fault_of_domain, kind_of_number, is_optional, type_of_number, Cause, Truncated, BadLength, Place, ImageHeader, DomainHeader, Record, Kind, RecordType, PageData, X86PvInfo, X86PvP2mFrames, word_pfn, word_has_data, PartCode, count_rows, fault_of_length, fault_of_count, fault_of_words, words, fault_of_pv_info, fault_of_p2m, fault_of_body, parts_of_body, Before, opening_of, before, fault_of_head, head_at, fault_of_level, fault_of_page, fault_of_data, page_at, entry_at, entries_at, words_at, with_places, lists_of, type_in_word, code_of_type, coded_at, typed_at, body_at, is_ended, is_verified, placed_content, Nothing, Frames, Sets, image_of, marker_at, version_at, kind_at, opening_behind, is_unasked, open_next}
+use Rattle.mig_relay.proofs.Common.{◌≡◌, ℕ, zero, suc, ◌+◌, ◌*◌, Bool, true, false, cond, List, [], length, drop, Option, Some, None, Result, Ok, Err, refl, option_or, padding_len, le32, be32, ◌>>=◌, part, tried, plain_at, placed, Passes, onward, marker_rows, fault_of_marker, fault_of_image, fault_of_domain, kind_of_number, is_optional, type_of_number, Cause, Truncated, BadLength, Place, ImageHeader, DomainHeader, Record, Kind, RecordType, PageData, X86PvInfo, X86PvP2mFrames, word_pfn, word_has_data, PartCode, count_rows, fault_of_length, fault_of_count, words, fault_of_pv_info, fault_of_p2m, fault_of_body, parts_of_body, Before, opening_of, before, fault_of_head, head_at, fault_of_level, fault_of_page, fault_of_data, page_at, entry_at, entries_at, words_at, with_places, lists_of, type_in_word, code_of_type, coded_at, typed_at, body_at, is_ended, is_verified, placed_content, Nothing, Frames, Sets, image_of, marker_at, version_at, kind_at, opening_behind, is_unasked, open_next, fault_of_list, list_at}
 use Rattle.mig_headers.specs.Contexts.{scan}
 use Rattle.mig_headers.specs.Headers.{image_rows, domain_rows}
 use Rattle.mig_headers.specs.declared.fault.Cause.TheVariants.{Pv32, BadPvInfo, P2mStart, VcpuId, GdtEnts, ParamIndex, TooManyRecords}
@@ -107,11 +107,12 @@ module _ (kind : Kind) (top : ℕ) where
 
   entries_kept : (len : ℕ) (i : List ℕ) → Tells IsKept (entries_at kind top len i)
   entries_kept len i =
-      tells_then IsKept (part Truncated 8 i) _ (tells_part IsKept Truncated refl 8 i)
+      tells_then IsKept (list_at kind top len i) _
+      (tells_then IsKept (part Truncated 8 i) _ (tells_part IsKept Truncated refl 8 i)
       (λ front rest. tells_checked IsKept (fault_of_count len (le32 front 0)) rest _ (names_rows IsKept (count_rows len (le32 front 0)) (refl, (refl, tt)))
       (tells_then IsKept (words_at (le32 front 0) rest) _ (tells_plain IsKept Truncated refl (words (le32 front 0)) (8 * le32 front 0) rest)
-      (λ ws after. tells_checked IsKept (fault_of_words kind top ws) after _ (names_rows IsKept (word_rows kind top ws) (refl, (refl, tt)))
-      (tells_checked IsKept (fault_of_data len ws) after _ (names_one IsKept _ (BadLength len) refl) (tells_each IsKept (entry_at kind top) entry_kept (with_places 0 ws) after)))))
+      (λ ws after. tells_checked IsKept (fault_of_list kind top len ws) after _ (names_or IsKept _ (fault_of_data len ws) (names_rows IsKept (word_rows kind top ws) (refl, (refl, tt))) (names_one IsKept _ (BadLength len) refl)) tt))))
+      (λ ws after. tells_each IsKept (entry_at kind top) entry_kept (with_places 0 ws) after)
 
   -- ---- the body of a record of any type
 

@@ -1,22 +1,22 @@
 -- The front, the words and the pages of a PAGE_DATA are parts, one after another.
-use Rattle.mig_relay.proofs.Common.{◌≡◌, ℕ, ◌*◌, List, [], ◌∷◌, ◌++◌, true, false, Option, Some, None, refl, sym, ap, ◌∙◌, append_assoc, append-nil, length, option_or, le32, Judged, ◌>>=◌, part, tried, placed, said_at, Passes, Faulty, Cause, Truncated, Record, word_has_data, fault_of_count, fault_of_words, words, RecordHead, StreamRecord, FrameEntry, Content, Frames, Opening, before, fault_of_data, fault_of_page, with_places, entry_at, words_at, AtPadding, judged_next, with_body, fault_of_list, entry_of_word}
+use Rattle.mig_relay.proofs.Common.{◌≡◌, ℕ, ◌*◌, List, [], ◌∷◌, ◌++◌, true, false, Option, Some, None, refl, sym, ap, ◌∙◌, append_assoc, append-nil, length, le32, Judged, ◌>>=◌, part, tried, placed, said_at, Passes, Faulty, Cause, Truncated, Record, word_has_data, fault_of_count, words, RecordHead, StreamRecord, FrameEntry, Content, Frames, Opening, before, fault_of_page, with_places, entry_at, AtPadding, judged_next, with_body, entry_of_word, fault_of_list, words_at}
 use Rattle.mig_bytes.specs.Judged.{each}
 use Rattle.mig_restore_form.specs.Judging.{pages_at}
+use Rattle.mig_restore_form.proofs.Batches.{behind_list, front_list, good_list, list_stage}
 use Rattle.mig_relay.specs.Parts.{pages_behind, words_behind}
 
 module _ (o : Opening) (records : List StreamRecord) (head : RecordHead) where
   abbrev kind_top : List (ℕ × ℕ) → List ℕ → Judged Cause (List FrameEntry)
   kind_top ws = each (entry_at o.kind (before o records).top) ws
 
+  -- what is wrong with the words
+  abbrev wrong : List ℕ → Option Cause
+  wrong ws = fault_of_list o.kind (before o records).top head.len ws
+
   -- what stands behind a part of a body is judged on
   behind : {X : Type 0} (j : Judged Cause X) (k : X × List ℕ → Judged Cause Content) → with_body o records head (j >>= k) ≡ (placed (Record (length records)) j >>= λ a. with_body o records head (k a))
   behind (Passes x rest) k = refl
   behind (Faulty c rest) k = refl
-
-  -- causes of a part that are tried one by one
-  two_causes : {Y : Type 0} (f g : Option Cause) (i : List ℕ) (k : Judged Cause Y) → (tried f i >>= λ _. tried g i >>= λ _. k) ≡ (tried (option_or f g) i >>= λ _. k)
-  two_causes None g i k = refl
-  two_causes (Some c) g i k = refl
 
   -- no page is left
   pub pages_over : (stood : List FrameEntry) (i : List ℕ) → pages_behind o records head [] stood i ≡ judged_next (AtPadding o records head (Frames stood)) i
@@ -52,41 +52,32 @@ module _ (o : Opening) (records : List StreamRecord) (head : RecordHead) where
 
   -- the words are a part, with the length that they ask for
   listed : (n : ℕ) (j : Judged Cause (List ℕ))
-      → with_body o records head (((j >>= λ b. Passes (words n b.0) b.1) >>= λ ws. tried (fault_of_words o.kind (before o records).top ws.0) ws.1 >>= λ _. tried (fault_of_data head.len ws.0) ws.1 >>= λ _. kind_top (with_places 0 ws.0) ws.1 >>= λ es. Passes (Frames es.0) es.1))
-      ≡ (placed (Record (length records)) (j >>= λ b. tried (fault_of_list o.kind (before o records).top head.len n b.0) b.1 >>= λ _. Passes b.0 b.1) >>= λ b. pages_behind o records head (with_places 0 (words n b.0)) [] b.1)
+      → with_body o records head (((j >>= λ b. Passes (words n b.0) b.1) >>= λ ws. tried (wrong ws.0) ws.1 >>= λ _. kind_top (with_places 0 ws.0) ws.1 >>= λ es. Passes (Frames es.0) es.1))
+      ≡ (placed (Record (length records)) (j >>= λ b. tried (wrong (words n b.0)) b.1 >>= λ _. Passes b.0 b.1) >>= λ b. pages_behind o records head (with_places 0 (words n b.0)) [] b.1)
   listed n (Faulty c rest) = refl
   listed n (Passes b rest) =
-      ap (with_body o records head) (two_causes (fault_of_words o.kind (before o records).top (words n b)) (fault_of_data head.len (words n b)) rest (kind_top (with_places 0 (words n b)) rest >>= λ es. Passes (Frames es.0) es.1))
-      ∙ elim (fault_of_list o.kind (before o records).top head.len n b) as (λ g. with_body o records head (tried g rest >>= λ _. kind_top (with_places 0 (words n b)) rest >>= λ es. Passes (Frames es.0) es.1)
+      elim (wrong (words n b)) as (λ g. with_body o records head (tried g rest >>= λ _. kind_top (with_places 0 (words n b)) rest >>= λ es. Passes (Frames es.0) es.1)
       ≡ (placed (Record (length records)) (tried g rest >>= λ _. Passes b rest) >>= λ b. pages_behind o records head (with_places 0 (words n b.0)) [] b.1)) [ None ↦ refl | Some c ↦ refl ]
 
   pub words_part : (n : ℕ) (i : List ℕ) → words_behind o records head n i
-      ≡ (placed (Record (length records)) (said_at Truncated (fault_of_list o.kind (before o records).top head.len n) (λ b. b) (8 * n) i) >>= λ b. pages_behind o records head (with_places 0 (words n b.0)) [] b.1)
+      ≡ (placed (Record (length records)) (said_at Truncated (λ b. wrong (words n b)) (λ b. b) (8 * n) i) >>= λ b. pages_behind o records head (with_places 0 (words n b.0)) [] b.1)
   words_part n i = listed n (part Truncated (8 * n) i)
 
-  abbrev listed_on : List ℕ × List ℕ → Judged Cause (List FrameEntry)
-  listed_on ws = tried (fault_of_words o.kind (before o records).top ws.0) ws.1 >>= λ _. tried (fault_of_data head.len ws.0) ws.1 >>= λ _. kind_top (with_places 0 ws.0) ws.1
-
-  pull : {X Y : Type 0} (f g : Option Cause) (i : List ℕ) (j : Judged Cause X) (k : X × List ℕ → Judged Cause Y) → ((tried f i >>= λ _. tried g i >>= λ _. j) >>= k) ≡ (tried f i >>= λ _. tried g i >>= λ _. j >>= k)
-  pull None None i j k = refl
-  pull None (Some d) i j k = refl
-  pull (Some c) g i j k = refl
-
-  inner : (j : Judged Cause (List ℕ)) → ((j >>= listed_on) >>= λ es. Passes (Frames es.0) es.1)
-      ≡ (j >>= λ ws. tried (fault_of_words o.kind (before o records).top ws.0) ws.1 >>= λ _. tried (fault_of_data head.len ws.0) ws.1 >>= λ _. kind_top (with_places 0 ws.0) ws.1 >>= λ es. Passes (Frames es.0) es.1)
+  inner : (j : Judged Cause (List ℕ)) → ((j >>= good_list o.kind (before o records).top head.len) >>= behind_list o.kind (before o records).top)
+      ≡ (j >>= λ ws. tried (wrong ws.0) ws.1 >>= λ _. behind_list o.kind (before o records).top ws)
   inner (Faulty c rest) = refl
-  inner (Passes ws rest) = pull (fault_of_words o.kind (before o records).top ws) (fault_of_data head.len ws) rest (kind_top (with_places 0 ws) rest) (λ es. Passes (Frames es.0) es.1)
+  inner (Passes ws rest) = elim (wrong ws) as (λ g. ((tried g rest >>= λ _. Passes ws rest) >>= behind_list o.kind (before o records).top) ≡ (tried g rest >>= λ _. behind_list o.kind (before o records).top (ws, rest))) [ None ↦ refl | Some c ↦ refl ]
 
   -- the front is a part
   fronted : (j : Judged Cause (List ℕ))
-      → with_body o records head ((j >>= λ front. tried (fault_of_count head.len (le32 front.0 0)) front.1 >>= λ _. words_at (le32 front.0 0) front.1 >>= λ ws. tried (fault_of_words o.kind (before o records).top ws.0) ws.1 >>= λ _. tried (fault_of_data head.len ws.0) ws.1 >>= λ _. kind_top (with_places 0 ws.0) ws.1) >>= λ es. Passes (Frames es.0) es.1)
+      → with_body o records head ((j >>= front_list o.kind (before o records).top head.len) >>= behind_list o.kind (before o records).top)
       ≡ (placed (Record (length records)) (j >>= λ b. tried (fault_of_count head.len (le32 b.0 0)) b.1 >>= λ _. Passes b.0 b.1) >>= λ b. words_behind o records head (le32 b.0 0) b.1)
   fronted (Faulty c rest) = refl
   fronted (Passes b rest) =
-      elim (fault_of_count head.len (le32 b 0)) as (λ g. with_body o records head ((tried g rest >>= λ _. words_at (le32 b 0) rest >>= listed_on) >>= λ es. Passes (Frames es.0) es.1)
+      elim (fault_of_count head.len (le32 b 0)) as (λ g. with_body o records head ((tried g rest >>= λ _. words_at (le32 b 0) rest >>= good_list o.kind (before o records).top head.len) >>= behind_list o.kind (before o records).top)
       ≡ (placed (Record (length records)) (tried g rest >>= λ _. Passes b rest) >>= λ b. words_behind o records head (le32 b.0 0) b.1))
       [ None ↦ ap (with_body o records head) (inner (words_at (le32 b 0) rest)) | Some c ↦ refl ]
 
   pub front_part : (i : List ℕ) → with_body o records head (pages_at o.kind (before o records).top head.len i)
       ≡ (placed (Record (length records)) (said_at Truncated (λ b. fault_of_count head.len (le32 b 0)) (λ b. b) 8 i) >>= λ b. words_behind o records head (le32 b.0 0) b.1)
-  front_part i = fronted (part Truncated 8 i)
+  front_part i = ap (with_body o records head) (list_stage o.kind (before o records).top head.len i) ∙ fronted (part Truncated 8 i)

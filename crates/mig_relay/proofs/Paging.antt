@@ -1,5 +1,5 @@
 -- A PAGE_DATA on its way: its count, its words and its pages are parts, and words without a page are passed over.
-use Rattle.mig_relay.proofs.Common.{◌≡◌, ℕ, zero, suc, ◌+◌, ◌*◌, ◌-◌, ◌<◌, ◌≤◌, ◌^◌, ◌≢◌, Bool, true, false, cond, nat_eq, nat_lt, not, List, [], ◌∷◌, ◌++◌, length, drop, slice_index, Option, Some, None, Ok, Err, refl, sym, ap, subst, ◌∙◌, arith, option_or, ltb-true, ltb-false, eqb-true, eqb-false, not-false, map-append, padding_len, TakesFew, le32, Judged, ◌>>=◌, part, Gives, Stop, GuestOf, rows_fine, Cause, Truncated, BadLength, Place, Record, Kind, image_among, word_has_data, fault_of_count, fault_of_words, count_rows, words, RecordHead, ended_more, one_more_record, Opening, before, type_in_word, fault_of_data, fault_of_level, fault_of_page, with_places, sent, put_content, meant_type, StreamRecord, FrameEntry, types_of, is_verified, placed_content, Frames, IsSeen, ImageOf, RecordsSeen, ComesBehind, ComesNext, in_hand, more, image_next, Keeps, KeepsWords, HasNumber, KeepsRecords, KeepsHead, KeepsOuter, IsPages, AtHead, AtFront, AtWords, AtPages, judged_next, record_with, fault_of_list, entry_of_word, BeginsWithPart, Outer, Alone, Behind, Spot, InImage, spot, carry, Relay}
+use Rattle.mig_relay.proofs.Common.{◌≡◌, ℕ, zero, suc, ◌+◌, ◌*◌, ◌-◌, ◌<◌, ◌≤◌, ◌^◌, ◌≢◌, Bool, true, false, cond, nat_eq, nat_lt, not, List, [], ◌∷◌, ◌++◌, length, drop, slice_index, Option, Some, None, Ok, Err, refl, sym, ap, subst, ◌∙◌, arith, ltb-true, ltb-false, eqb-true, eqb-false, not-false, map-append, padding_len, TakesFew, le32, Judged, ◌>>=◌, part, Gives, Stop, GuestOf, rows_fine, Cause, Truncated, BadLength, Place, Record, Kind, image_among, word_has_data, fault_of_count, fault_of_words, count_rows, words, RecordHead, ended_more, one_more_record, Opening, before, type_in_word, fault_of_data, fault_of_level, fault_of_page, with_places, sent, put_content, meant_type, StreamRecord, FrameEntry, types_of, is_verified, placed_content, Frames, IsSeen, ImageOf, RecordsSeen, ComesBehind, ComesNext, in_hand, more, image_next, Keeps, KeepsWords, HasNumber, KeepsRecords, KeepsHead, KeepsOuter, IsPages, AtHead, AtFront, AtWords, AtPages, judged_next, record_with, fault_of_list, entry_of_word, BeginsWithPart, Outer, Alone, Behind, Spot, InImage, spot, carry, Relay, both_none}
 use Rattle.std.proofs.Common.{replicate}
 use Rattle.std.specs.Prelude.{count_by}
 use Rattle.std.proofs.lemmas.List.FromFn.{length-map-range_with_len}
@@ -33,7 +33,7 @@ module _ (outer : Outer) (o : Opening) (records : List StreamRecord) (head : Rec
 
   -- so many words, with the length that they ask for
   pub words_is : (n : ℕ) → 0 < n
-      → BeginsWithPart (spot (InImage outer (AtWords o records head n))) (Record (length records)) (8 * n) (fault_of_list o.kind (before o records).top head.len n) (λ b i. spot (InImage outer (AtPages o records head (with_places 0 (words n b)) [])) i)
+      → BeginsWithPart (spot (InImage outer (AtWords o records head n))) (Record (length records)) (8 * n) (λ b. fault_of_list o.kind (before o records).top head.len (words n b)) (λ b i. spot (InImage outer (AtPages o records head (with_places 0 (words n b)) [])) i)
   words_is n some = lifted (carry outer) (record { judged = words_part o records head n; some = omega (arith, some) })
 
   -- the page of the next word
@@ -53,11 +53,6 @@ in_count len n fine =
     let other = eqb-false n 0 rows.1.0 in
     (grind (arith, other), ltb-false _ _ rows.0)
 
--- neither of two causes
-pub both_none : (f g : Option Cause) → None ≡ option_or f g → (f ≡ None) × (g ≡ None)
-both_none None g is = (refl, sym is)
-both_none (Some c) g is = let no : ◌≡◌ {A = Option Cause} None (Some c) = is in absurd (cc)
-
 -- a body of words and pages needs no padding
 pub whole_length : (len : ℕ) (ws : List ℕ) → fault_of_data len ws ≡ None → padding_len len ≡ 0
 whole_length len ws fine =
@@ -66,9 +61,9 @@ whole_length len ws fine =
     omega (arith, full)
 
 -- what is known of the opening and of the words tells the same cause
-pub same_list_fault : (kind its : Kind) (top high len n : ℕ) (ws bytes : List ℕ) (fault : Option Cause) → kind ≡ its → top ≡ high → ws ≡ words n bytes → fault ≡ option_or (fault_of_words kind top ws) (fault_of_data len ws) → fault ≡ fault_of_list its high len n bytes
+pub same_list_fault : (kind its : Kind) (top high len n : ℕ) (ws bytes : List ℕ) (fault : Option Cause) → kind ≡ its → top ≡ high → ws ≡ words n bytes → fault ≡ fault_of_list kind top len ws → fault ≡ fault_of_list its high len (words n bytes)
 same_list_fault kind its top high len n ws bytes fault same_kind same_high same_words is =
-    is ∙ ap (λ l. option_or (fault_of_words kind top l) (fault_of_data len l)) same_words ∙ ap (λ k. fault_of_list k top len n bytes) same_kind ∙ ap (λ m. fault_of_list its m len n bytes) same_high
+    is ∙ ap (fault_of_list kind top len) same_words ∙ ap (λ k. fault_of_list k top len (words n bytes)) same_kind ∙ ap (λ m. fault_of_list its m len (words n bytes)) same_high
 
 -- what is known of the opening and of the word's type tells the same cause of its page
 pub same_page_fault : (kind its : Kind) (top high place at word : ℕ) (type : PageType) (page : List ℕ) (fault : Option Cause) → kind ≡ its → top ≡ high → place ≡ at → type ≡ meant_type kind (type_in_word word) → fault ≡ fault_of_level top place (level_of type) page → fault ≡ fault_of_page its high (at, word) page
@@ -80,8 +75,8 @@ same_page_fault kind its top high place at word type page fault same_kind same_h
     ∙ ap (λ n. fault_of_level high n (level_of (meant_type its (type_in_word word))) page) same_place
 
 -- words and pages without fault need no padding
-pub whole_list : (kind : Kind) (top len n : ℕ) (bytes : List ℕ) → None ≡ fault_of_list kind top len n bytes → padding_len len ≡ 0
-whole_list kind top len n bytes fine = whole_length len (words n bytes) (both_none (fault_of_words kind top (words n bytes)) (fault_of_data len (words n bytes)) fine).1
+pub whole_list : (kind : Kind) (top len n : ℕ) (bytes : List ℕ) → None ≡ fault_of_list kind top len (words n bytes) → padding_len len ≡ 0
+whole_list kind top len n bytes fine = whole_length len (words n bytes) (both_none (fault_of_words kind top (words n bytes)) (fault_of_data len (words n bytes)) (sym fine)).1
 
 -- ---- what was taken, or wasn't
 
@@ -153,12 +148,12 @@ page_left r held coming stood size kept same_words same_page is =
     omega (arith, first, same, is)
 
 -- so many words stand in as many bytes
-words_number : (n : ℕ) (bytes : List ℕ) → length (words n bytes) ≡ n
+pub words_number : (n : ℕ) (bytes : List ℕ) → length (words n bytes) ≡ n
 words_number n bytes = length-map-range_with_len (λ k. le64 bytes (8 * k)) 0 n
 
-module _ (kind : Kind) (top : ℕ) (head : RecordHead) (n : ℕ) (bytes : List ℕ) (fine : None ≡ fault_of_list kind top head.len n bytes) where
+module _ (kind : Kind) (top : ℕ) (head : RecordHead) (n : ℕ) (bytes : List ℕ) (fine : None ≡ fault_of_list kind top head.len (words n bytes)) where
   sized : fault_of_data head.len (words n bytes) ≡ None
-  sized = (both_none (fault_of_words kind top (words n bytes)) (fault_of_data head.len (words n bytes)) fine).1
+  sized = (both_none (fault_of_words kind top (words n bytes)) (fault_of_data head.len (words n bytes)) (sym fine)).1
 
   full : head.len ≡ data_len_of (words n bytes)
   full = let rows = rows_fine ((not (nat_eq head.len (data_len_of (words n bytes))), BadLength head.len) ∷ []) sized in eqb-true head.len _ (not-false _ rows.0)

@@ -1,5 +1,5 @@
 -- Judging a record of an image takes a front, and looks at nothing behind it.
-use Rattle.mig_relay.proofs.Common.{ℕ, ◌*◌, List, Bool, true, false, cond, Option, Some, None, padding_len, le32, ◌>>=◌, part, tried, plain_at, Passes, TakesFronts, front_pass, front_part, front_said, front_then, is_optional, type_of_number, Kind, RecordType, PageData, X86PvInfo, X86PvP2mFrames, Truncated, PartCode, word_pfn, word_has_data, fault_of_pv_info, fault_of_p2m, fault_of_body, parts_of_body, fault_of_count, fault_of_words, words, is_verified, placed_content, Nothing, Frames, Sets, Before, fault_of_head, head_at, fault_of_page, page_at, entry_at, entries_at, words_at, with_places, fault_of_data, lists_of, code_of_type, coded_at, typed_at, body_at, type_in_word}
+use Rattle.mig_relay.proofs.Common.{ℕ, ◌*◌, List, Bool, true, false, cond, Option, Some, None, padding_len, le32, ◌>>=◌, part, tried, plain_at, Passes, TakesFronts, front_pass, front_part, front_said, front_then, is_optional, type_of_number, Kind, RecordType, PageData, X86PvInfo, X86PvP2mFrames, Truncated, PartCode, word_pfn, word_has_data, fault_of_pv_info, fault_of_p2m, fault_of_body, parts_of_body, fault_of_count, words, is_verified, placed_content, Nothing, Frames, Sets, Before, fault_of_head, head_at, fault_of_page, page_at, entry_at, entries_at, words_at, with_places, lists_of, code_of_type, coded_at, typed_at, body_at, type_in_word, fault_of_list, list_at}
 use Rattle.mig_bytes.proofs.Fronts.{front_each}
 use Rattle.mig_restore_form.specs.Judging.{record_at}
 use Rattle.mig_restore_form.proofs.Parts.{behind_body, behind_head}
@@ -20,9 +20,11 @@ module _ (kind : Kind) (top : ℕ) where
 
   front_entries : (len : ℕ) → TakesFronts (entries_at kind top len)
   front_entries len =
-      front_then (part Truncated 8) _ (front_part Truncated 8)
+      front_then (list_at kind top len) _
+      (front_then (part Truncated 8) _ (front_part Truncated 8)
       (λ front. front_checked (fault_of_count len (le32 front 0)) _ (front_then (words_at (le32 front 0)) _ (front_plain Truncated (words (le32 front 0)) (8 * le32 front 0))
-      (λ ws. front_checked (fault_of_words kind top ws) _ (front_checked (fault_of_data len ws) _ (front_each (entry_at kind top) front_entry (with_places 0 ws))))))
+      (λ ws. front_checked (fault_of_list kind top len ws) _ (front_pass ws)))))
+      (λ ws. front_each (entry_at kind top) front_entry (with_places 0 ws))
 
   -- a body that sets parts, one of any type, and one of any number
   front_coded : (code : Option PartCode) (len : ℕ) → TakesFronts (coded_at code len)

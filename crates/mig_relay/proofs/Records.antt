@@ -1,5 +1,5 @@
 -- A record of a libxl stream takes at least its head, and a front; and it is judged so with the causes left out.
-use Rattle.mig_relay.proofs.Common.{ℕ, Bool, true, false, cond, nat_eq, nat_le, nat_lt, List, [], ◌∷◌, length, drop, Option, Some, None, refl, ap, arith, length-append, option_or, padding_len, le32, Judged, ◌>>=◌, part, tried, placed, Passes, TakesFronts, front_pass, front_part, front_said, front_then, front_placed, both_pass, placed_passes, said_passes, LibxlRecord, LibxlContent, Image, Pairs, Context, first_fault, Cause, Truncated, BadEmulator, EmulatorIndex, Place, is_libxl_ended, emulator_key, fault_of_libxl_head, libxl_head_at, context_at, skipped_at, pairs_in, image_at, open_image_at, open_fault_of_pairs, open_pairs_at, open_body, open_inner, open_content}
+use Rattle.mig_relay.proofs.Common.{ℕ, Bool, true, false, cond, nat_eq, nat_le, nat_lt, List, [], ◌∷◌, length, drop, Option, Some, None, refl, ap, arith, length-append, option_or, padding_len, le32, Judged, ◌>>=◌, part, tried, placed, Passes, TakesFronts, front_pass, front_part, front_said, front_then, front_placed, both_pass, placed_passes, said_passes, LibxlRecord, LibxlContent, Image, Pairs, Context, first_fault, Cause, Truncated, BadEmulator, EmulatorIndex, Place, is_libxl_ended, emulator_key, fault_of_libxl_head, libxl_head_at, context_at, skipped_at, pairs_in, image_at, open_image_at, fault_of_pair_body, open_pairs_at, open_body, open_inner, open_content}
 use Rattle.mig_libxl_form.specs.Content.LibxlContent.{Nothing}
 use Rattle.mig_libxl_form.specs.Emulators.{EmulatorsOf, emulators_of, spelled_with}
 use Rattle.mig_headers.specs.declared.fault.Cause.TheVariants.{TooManyPairs}
@@ -19,7 +19,7 @@ front_open_body : (type len : ℕ) → TakesFronts (open_body type len)
 front_open_body type len = by (nat_eq type 2) (nat_eq type 3)
   where
     by : (two three : Bool) → TakesFronts (λ i. cond two (open_pairs_at len i) (cond three (context_at len i) (skipped_at len i)))
-    by true three = front_said Truncated open_fault_of_pairs (λ body. Pairs (emulator_key 258 body) (pairs_in (drop 8 body))) len
+    by true three = front_said Truncated fault_of_pair_body (λ body. Pairs (emulator_key 258 body) (pairs_in (drop 8 body))) len
     by false true = front_said Truncated fault_of_context (λ body. Context (emulator_key 259 body) (drop 8 body)) len
     by false false = front_plain Truncated (λ _. Nothing) len
 
@@ -64,7 +64,7 @@ libxl_shrinks records i r rest going h =
 -- ---- a record is judged so with the causes left out
 
 -- how many bytes an emulator's pairs spell isn't asked
-pairs_open : (e : EmulatorsOf) (body rest : List ℕ) → Opens IsLeftCause (tried (fault_of_pairs e body) rest) (tried (open_fault_of_pairs body) rest)
+pairs_open : (e : EmulatorsOf) (body rest : List ℕ) → Opens IsLeftCause (tried (fault_of_pairs e body) rest) (tried (fault_of_pair_body body) rest)
 unfolding fault_of_pairs fault_of_context
 pairs_open e body rest = by (pairs_fault (drop 8 body)) (nat_le 3 (le32 body 0)) (nat_lt most_pairs (spelled_with e (emulator_key 258 body) (pairs_in (drop 8 body)))) (first_fault ((nat_le 256 (le32 body 4), EmulatorIndex (le32 body 4)) ∷ []))
   where
@@ -79,7 +79,7 @@ body_opens : (e : EmulatorsOf) (type len : ℕ) (i : List ℕ) → Opens IsLeftC
 body_opens e type len i = by (nat_eq type 2)
   where
     by : (two : Bool) → Opens IsLeftCause (cond two (pairs_at e len i) (cond (nat_eq type 3) (context_at len i) (skipped_at len i))) (cond two (open_pairs_at len i) (cond (nat_eq type 3) (context_at len i) (skipped_at len i)))
-    by true = opens_said IsLeftCause Truncated (fault_of_pairs e) open_fault_of_pairs (λ body. Pairs (emulator_key 258 body) (pairs_in (drop 8 body))) len i (pairs_open e)
+    by true = opens_said IsLeftCause Truncated (fault_of_pairs e) fault_of_pair_body (λ body. Pairs (emulator_key 258 body) (pairs_in (drop 8 body))) len i (pairs_open e)
     by false = same (cond (nat_eq type 3) (context_at len i) (skipped_at len i))
 
 inner_opens : (i : List ℕ) → Opens IsLeft (inner_at i) (open_inner i)

@@ -1,5 +1,5 @@
 -- A refusal of a stream never tells a cause that is left out.
-use Rattle.mig_relay.proofs.Common.{◌≡◌, ℕ, Bool, true, false, cond, nat_eq, nat_le, List, [], length, drop, Option, Some, None, refl, subst, ◌&&◌, padding_len, le32, be64, part, placed, Passes, onward, LibxlRecord, Image, Pairs, Context, libxl_ident, fault_of_libxl, Cause, Truncated, BadEmulator, EmulatorIndex, Place, LibxlHeader, is_libxl_ended, emulator_key, fault_of_libxl_head, libxl_head_at, context_at, skipped_at, header_at, Bare, Wrapped, pairs_in, is_unasked, open_image_at, open_fault_of_pairs, open_pairs_at, open_body, open_inner, open_content, open_bare, IsOpenRefused}
+use Rattle.mig_relay.proofs.Common.{◌≡◌, ℕ, Bool, true, false, cond, nat_eq, nat_le, List, [], length, drop, Option, Some, None, refl, subst, ◌&&◌, padding_len, le32, be64, part, placed, Passes, onward, LibxlRecord, Image, Pairs, Context, libxl_ident, fault_of_libxl, Cause, Truncated, BadEmulator, EmulatorIndex, Place, LibxlHeader, is_libxl_ended, emulator_key, fault_of_libxl_head, libxl_head_at, context_at, skipped_at, header_at, Bare, Wrapped, pairs_in, is_unasked, open_image_at, fault_of_pair_body, open_pairs_at, open_body, open_inner, open_content, open_bare, IsOpenRefused}
 use Rattle.mig_libxl_form.specs.Content.LibxlContent.{Nothing}
 use Rattle.mig_headers.specs.Headers.{libxl_rows}
 use Rattle.mig_headers.specs.Pairs.{texts_in}
@@ -34,7 +34,7 @@ body_kept : (type len : ℕ) (i : List ℕ) → Tells IsKept (open_body type len
 body_kept type len i = by (nat_eq type 2) (nat_eq type 3)
   where
     by : (two three : Bool) → Tells IsKept (cond two (open_pairs_at len i) (cond three (context_at len i) (skipped_at len i)))
-    by true three = tells_said IsKept Truncated refl open_fault_of_pairs (λ body. Pairs (emulator_key 258 body) (pairs_in (drop 8 body))) len i (λ body. names_or IsKept (pairs_fault (drop 8 body)) (fault_of_context body) (pairs_kept (drop 8 body)) (context_kept body))
+    by true three = tells_said IsKept Truncated refl fault_of_pair_body (λ body. Pairs (emulator_key 258 body) (pairs_in (drop 8 body))) len i (λ body. names_or IsKept (pairs_fault (drop 8 body)) (fault_of_context body) (pairs_kept (drop 8 body)) (context_kept body))
     by false true = tells_said IsKept Truncated refl fault_of_context (λ body. Context (emulator_key 259 body) (drop 8 body)) len i context_kept
     by false false = tells_plain IsKept Truncated refl (λ _. Nothing) len i
 

@@ -1,7 +1,6 @@
 -- The parts of an image (libxc migration stream, "Headers" and "Records"): which comes next behind a faultless front, and
 -- what is judged from there.
 use Rattle.std.specs.Prelude.{◌≡◌, ◌<◌, ℕ, List, [], ◌∷◌, ◌++◌, length, Option}
-use Rattle.std.specs.Option.{option_or}
 use Rattle.mig_bytes.specs.Bytes.{padding_len}
 use Rattle.mig_bytes.specs.Judged.{Judged, ◌>>=◌, part, tried, each, placed, said_at}
 use Rattle.mig_bytes.specs.Judged.Judged.{Passes}
@@ -9,13 +8,10 @@ use Rattle.mig_headers.specs.declared.fault.Cause.{Cause}
 use Rattle.mig_headers.specs.declared.fault.Cause.TheVariants.{Truncated}
 use Rattle.mig_headers.specs.declared.fault.Place.{Place}
 use Rattle.mig_headers.specs.declared.fault.Place.TheVariants.{DomainHeader, Record}
-use Rattle.mig_headers.specs.declared.kind.Kind.{Kind}
 use Rattle.mig_pagetypes.specs.FrameWords.{word_pfn}
 use Rattle.mig_relay.specs.Images.{open_image_at, open_records}
-use Rattle.mig_records.specs.Faults.{fault_of_words}
-use Rattle.mig_records.specs.Words.{words}
 use Rattle.mig_records.specs.declared.head.RecordHead.{RecordHead}
-use Rattle.mig_restore_form.specs.Judging.{Opening, opening_of, before, body_at, type_in_word, fault_of_data, words_at, with_places, entry_at, pages_at}
+use Rattle.mig_restore_form.specs.Judging.{Opening, opening_of, before, body_at, type_in_word, fault_of_list, words_at, with_places, entry_at, pages_at}
 use Rattle.mig_restore_form.specs.Record.{StreamRecord, FrameEntry, Content, types_of, is_verified, placed_content}
 use Rattle.mig_restore_form.specs.Record.Content.{Frames}
 use Rattle.mig_restore_form.specs.Stream.{ImageOf, opening_behind, kind_at}
@@ -63,14 +59,9 @@ pages_behind o records head coming stood input = with_body o records head (do
 abbrev pub words_behind : Opening → List StreamRecord → RecordHead → ℕ → List ℕ → Judged (Place × Cause) ImageOf
 words_behind o records head n input = with_body o records head (do
   ws ← words_at n input
-  _ ← tried (fault_of_words o.kind (before o records).top ws.0) ws.1
-  _ ← tried (fault_of_data head.len ws.0) ws.1
+  _ ← tried (fault_of_list o.kind (before o records).top head.len ws.0) ws.1
   entries ← each (entry_at o.kind (before o records).top) (with_places 0 ws.0) ws.1
   Passes (Frames entries.0) entries.1)
-
--- the causes of words: those of each word, and then the length that they ask for
-abbrev pub fault_of_list : Kind → ℕ → ℕ → ℕ → List ℕ → Option Cause
-fault_of_list kind top len n bytes = option_or (fault_of_words kind top (words n bytes)) (fault_of_data len (words n bytes))
 
 abbrev pub entry_of_word : ℕ → Option (List ℕ) → FrameEntry
 entry_of_word word page = record { pfn = word_pfn word; type = type_in_word word; page = page }

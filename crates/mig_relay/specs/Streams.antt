@@ -1,6 +1,5 @@
 -- Judging a stream of either form but for what END asks of the whole guest, and for how many bytes an emulator's pairs spell.
-use Rattle.std.specs.Prelude.{◌≡◌, ℕ, ◌&&◌, ◌==◌, List, [], length, drop, nat_le, Option, if◌then◌else◌}
-use Rattle.std.specs.Option.{option_or}
+use Rattle.std.specs.Prelude.{◌≡◌, ℕ, ◌&&◌, ◌==◌, List, [], length, drop, nat_le, if◌then◌else◌}
 use Rattle.mig_bytes.specs.Bytes.{padding_len}
 use Rattle.mig_bytes.specs.Fields.{le32, be64}
 use Rattle.mig_bytes.specs.Judged.{Judged, ◌>>=◌, part, placed, said_at}
@@ -14,19 +13,15 @@ use Rattle.mig_headers.specs.declared.fault.Cause.TheVariants.{Truncated}
 use Rattle.mig_headers.specs.declared.fault.Place.{Place}
 use Rattle.mig_headers.specs.declared.fault.Place.TheVariants.{LibxlHeader, LibxlRecord as AtRecord}
 use Rattle.mig_libxl_form.specs.Among.{is_libxl_ended}
-use Rattle.mig_libxl_form.specs.Judging.{emulator_key, fault_of_context, context_at, skipped_at, libxl_head_at}
+use Rattle.mig_libxl_form.specs.Judging.{emulator_key, context_at, skipped_at, libxl_head_at}
 use Rattle.mig_libxl_form.specs.Stream.{StreamOf, header_at}
 use Rattle.mig_libxl_form.specs.Stream.StreamOf.{Bare, Wrapped}
-use Rattle.mig_policy.specs.PairFaults.{pairs_fault}
 use Rattle.mig_policy.specs.PairMaps.{pairs_in}
 use Rattle.mig_relay.specs.Images.{open_image_at}
-
--- a record's pairs: their own faults, and then its emulator
-abbrev pub open_fault_of_pairs : List ℕ → Option Cause
-open_fault_of_pairs body = option_or (pairs_fault (drop 8 body)) (fault_of_context body)
+use Rattle.mig_relay_bodies.specs.Bodies.{fault_of_pair_body}
 
 abbrev pub open_pairs_at : ℕ → List ℕ → Judged Cause LibxlContent
-open_pairs_at len input = said_at Truncated open_fault_of_pairs (λ body. Pairs (emulator_key 258 body) (pairs_in (drop 8 body))) len input
+open_pairs_at len input = said_at Truncated fault_of_pair_body (λ body. Pairs (emulator_key 258 body) (pairs_in (drop 8 body))) len input
 
 abbrev pub open_body : ℕ → ℕ → List ℕ → Judged Cause LibxlContent
 open_body type len input = if type == 2 then open_pairs_at len input else if type == 3 then context_at len input else skipped_at len input

@@ -1,5 +1,4 @@
 ghost use Rattle.std.specs.Prelude.{◌≡◌, ◌≢◌, ◌<◌, ◌≤◌, ◌+◌, [], ◌∷◌, ◌++◌, List, ℕ, None, Some, length, IfSome, IsSome};
-ghost use Rattle.std.specs.declared.option.Option.{Option};
 ghost use Rattle.mig_bytes.specs.Bytes.{padding_len};
 ghost use Rattle.mig_libxl_form.specs.Content.{LibxlRecord, LibxlContent};
 ghost use Rattle.mig_libxl_form.specs.Among.{image_in};

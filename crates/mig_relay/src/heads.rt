@@ -1,4 +1,4 @@
-ghost use Rattle.std.specs.Prelude.{min, ◌≡◌, ◌≢◌, ◌<◌, ◌≤◌, ◌+◌, [], List, ℕ, false, true, None, Some, IfSome, IsSome};
+ghost use Rattle.std.specs.Prelude.{min, ◌≡◌, ◌≢◌, ◌<◌, ◌≤◌, ◌+◌, [], List, false, true, None, Some, IfSome, IsSome};
 ghost use Rattle.mig_libxl_form.specs.Content.{LibxlRecord};
 ghost use Rattle.mig_headers.specs.RecordTypes.{most_body};
 ghost use Rattle.mig_libxl_form.specs.Judging.{allows_length as length_allowed};

@@ -1,38 +1,21 @@
-ghost use Rattle.std.specs.Prelude.{◌≡◌, ◌<◌, ◌≤◌, ◌+◌, ◌*◌, ◌^◌, [], List, ℕ, true, false, None, length, slice_index};
+ghost use Rattle.std.specs.Prelude.{◌≡◌, ◌<◌, ◌≤◌, ◌+◌, ◌*◌, ◌^◌, [], List, ℕ, true, false, length, slice_index};
 ghost use Rattle.mig_bytes.specs.Bytes.{padding_len};
 ghost use Rattle.mig_headers.specs.RecordTypes.{most_body};
-ghost use Rattle.mig_headers.specs.declared.kind.Kind.{Kind as KindOf};
 ghost use Rattle.mig_pagetypes.specs.FrameWords.{word_has_data};
-ghost use Rattle.mig_records.specs.Faults.{fault_of_words};
 ghost use Rattle.mig_relay.specs.Keeping.{KeepsHead, KeepsOuter, KeepsWords, IsPages};
 ghost use Rattle.mig_relay.specs.Parts.{AtFront, AtWords, AtPages};
 ghost use Rattle.mig_relay.specs.Spots.{Outer, InImage};
 ghost use Rattle.mig_relay.specs.Steps.{StepMoved, RisesOnFault};
 ghost use Rattle.mig_relay.specs.declared.state.Coming.TheVariants as comes;
-ghost use Rattle.mig_restore_form.specs.Judging.{Opening, before, fault_of_data};
+ghost use Rattle.mig_restore_form.specs.Judging.{Opening, before};
 ghost use Rattle.mig_restore_form.specs.Record.{StreamRecord, FrameEntry};
-ghost use Rattle.std.specs.Option.{option_or};
 
 use crate::answer::{RelayAnswer, Step};
 use crate::state::{Coming, Relay, answer};
 use mig_bytes::{Sink, Source, take_long, take_part, u32_le};
-use mig_headers::{Cause, Kind, Place};
-use mig_records::{RecordHead, count_fault, data_len, words_fault};
-use mig_restore_form::{meant, page_fault, type_in, words_of};
-
-/// What is wrong with the words of a PAGE_DATA of so many bytes: a word, or the length that they ask for.
-fn list_fault(kind: Kind, top: u64, len: u32, words: &[u64]) -> Option<Cause>
-    requires { length words.now < 2 ^ 24 }
-    ensures { result ≡ option_or (fault_of_words kind top words.now) (fault_of_data len words.now) }
-{
-    if let Some(cause) = words_fault(kind, top, words) {
-        return Some(cause);
-    }
-    if u64::from(len) != data_len(words) {
-        return Some(Cause::BadLength(u64::from(len)));
-    }
-    None
-}
+use mig_headers::{Cause, Place};
+use mig_records::{RecordHead, count_fault};
+use mig_restore_form::{list_fault, meant, page_fault, type_in, words_of};
 
 /// The place of the next word with a page, from this one on, or how many words there are.
 fn next_page(words: &[u64], from: usize) -> usize

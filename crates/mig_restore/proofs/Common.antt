@@ -32,7 +32,7 @@ pub use Rattle.mig_pagetypes.specs.Limits.{pfn_limit}
 pub use Rattle.mig_pagetypes.specs.PageTypes.{level_of}
 pub use Rattle.mig_pagetypes.specs.declared.page_type.PageType.{PageType}
 pub use Rattle.mig_pvtables.specs.Faults.{fault_of_guest}
-pub use Rattle.mig_records.specs.Faults.{fault_of_count, fault_of_words}
+pub use Rattle.mig_records.specs.Faults.{fault_of_count}
 pub use Rattle.mig_restore.specs.Compared.{IsPut, IsWithinRecords, differs_behind, differs_with}
 pub use Rattle.mig_restore.specs.Reads.{IsReading}
 pub use Rattle.std.proofs.Common.{Bool, Err, List, None, Ok, Option, Result, Some, [], ap, arith, cond, drop, false, get_or, is_some, length, nat_eq, not, refl, rules, subst, sym, take, true, ℕ, ◌++◌, ◌+◌, ◌-◌, ◌<◌, ◌^◌, ◌∙◌, ◌∷◌, ◌≡◌, ◌≢◌, ◌≤◌}

@@ -1,5 +1,5 @@
 -- The entry of a word, as a reader takes it: with no page, or with the page that was taken.
-use Rattle.mig_restore.proofs.Common.{◌≡◌, ℕ, List, Option, Some, None, Result, Err, Ok, true, false, Bool, cond, refl, ap, sym, subst, ◌∙◌, part, Gives, Judged, ◌>>=◌, Passes, done, mapped, Stop, Cause, Truncated, Kind, GuestOf, PageType, level_of, word_pfn, word_has_data, FrameEntry, type_in_word, fault_of_level, fault_of_page, meant_type, entry_at, agrees}
+use Rattle.mig_restore.proofs.Common.{◌≡◌, ℕ, List, Option, Some, None, Result, Err, Ok, true, false, Bool, cond, refl, ap, sym, subst, ◌∙◌, part, Gives, Judged, ◌>>=◌, Passes, done, mapped, Stop, Cause, Truncated, Kind, GuestOf, PageType, level_of, word_pfn, word_has_data, FrameEntry, type_in_word, fault_of_level, meant_type, entry_at, agrees}
 use Rattle.std.specs.FinMap as fin
 use Rattle.std.specs.Result.{IsErrAnd}
 use Rattle.mig_bytes.specs.Judged.{tried, said_at}

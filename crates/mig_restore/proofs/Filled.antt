@@ -1,11 +1,10 @@
 -- A frame of a guest whose page is taken into its place: what it says of the entry, whatever the answer is.
-use Rattle.mig_restore.proofs.Common.{◌≡◌, ◌<◌, ℕ, List, [], ◌∷◌, Option, Some, None, Result, Ok, Err, true, length, refl, sym, ap, subst, ◌∙◌, Gives, Judged, AreBytes, GuestOf, Stop, Cause, PageType, word_pfn, word_has_data, type_in_word, level_of, fault_of_level, meant_type, entry_at, entry, pfn_limit, put_entry, Grows, IsInside, IsWithin, IsGoodWord, none-some, same_Some}
+use Rattle.mig_restore.proofs.Common.{◌≡◌, ◌<◌, ℕ, List, [], ◌∷◌, Option, Some, None, Result, Ok, Err, true, length, sym, ap, subst, ◌∙◌, Gives, Judged, AreBytes, GuestOf, Stop, Cause, PageType, word_pfn, word_has_data, type_in_word, level_of, meant_type, entry_at, entry, pfn_limit, put_entry, Grows, IsInside, IsWithin, IsGoodWord, same_Some}
 use Rattle.std.proofs.Common.{◌⊎◌, inl, inr}
 use Rattle.std.specs.Prelude.{OnOk, OnErr}
 use Rattle.mig_bytes.specs.declared.stop.Stop.TheVariants.{Memory}
 use Rattle.mig_guest.specs.Frames.{framed}
 use Rattle.mig_pagetypes.specs.PageTypes.{type_has_data}
-use Rattle.mig_restore_form.specs.Record.{FrameEntry}
 use Rattle.mig_restore_form.proofs.Growth.{word_inside, grows_frame}
 use Rattle.mig_restore_form.proofs.Meaning.{entry_set}
 use Rattle.mig_restore_form.proofs.Batches.{level_within}

@@ -24,10 +24,9 @@ use mig_guest::{Guest, PartCode};
 use mig_headers::{Cause, Kind, RecordType, is_optional};
 use mig_hvm::{read_context, scan_context};
 use mig_records::{
-    RecordHead, body_fault, count_fault, data_len, p2m_fault, pv_info_fault, read_body, read_p2m,
-    words_fault,
+    RecordHead, body_fault, count_fault, p2m_fault, pv_info_fault, read_body, read_p2m,
 };
-use mig_restore_form::{meant, pfn_in, type_in, words_of};
+use mig_restore_form::{list_fault, meant, pfn_in, type_in, words_of};
 use std::alloc::Global;
 
 // ---- parts
@@ -229,13 +228,10 @@ pub(crate) fn take_list<S: Source>(
         return Err(Stop::Refused(cause));
     }
     let list = take_words(alloc, src, count)?;
-    if let Some(cause) = words_fault(kind, top, &list) {
-        return Err(Stop::Refused(cause));
+    match list_fault(kind, top, len, &list) {
+        Some(cause) => Err(Stop::Refused(cause)),
+        None => Ok(list),
     }
-    if u64::from(len) != data_len(&list) {
-        return Err(Stop::Refused(Cause::BadLength(u64::from(len))));
-    }
-    Ok(list)
 }
 
 /// Takes the body of a PAGE_DATA record.

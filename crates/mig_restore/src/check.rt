@@ -15,17 +15,11 @@ use crate::body::{take_body, take_list};
 use crate::page::EntryPage;
 use mig_bytes::{Source, Stop};
 use mig_guest::{Fill, Guest};
-use mig_headers::Cause;
+use mig_headers::{Cause, PAGE_DATA, VERIFY};
 use mig_pagetypes::PageType;
 use mig_records::RecordHead;
 use mig_restore_form::{meant, pfn_in, type_in};
 use std::alloc::Global;
-
-/// The type of the records that carry frames.
-const PAGE_DATA: u32 = 1;
-
-/// The type of the record behind which frames are compared.
-const VERIFY: u32 = 0xD;
 
 /// Whether both are no page, or the same one.
 fn is_same_page(page: Option<&[u8; 4096]>, other: Option<&[u8; 4096]>) -> bool

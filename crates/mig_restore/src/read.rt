@@ -21,14 +21,11 @@ use crate::answer::StreamAnswer;
 use crate::check::{counted, take_placed};
 use mig_bytes::{Source, Stop, answer_for, take_part};
 use mig_guest::Guest;
-use mig_headers::{Cause, DomainHeader, ImageHeader, Kind, Place};
+use mig_headers::{Cause, DomainHeader, END, ImageHeader, Kind, Place};
 use mig_pvtables::{WholeAnswer, blank, whole};
 use mig_records::{RecordHead, take_head, take_padding};
 use mig_restore_form::RecordsSeen;
 use std::alloc::Global;
-
-/// The type of the record that ends an image.
-const END: u32 = 0;
 
 /// What was read of an image.
 #[derive(Drop)]

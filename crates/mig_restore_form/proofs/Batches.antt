@@ -1,13 +1,15 @@
 -- The body of a PAGE_DATA record: what judging lets pass is spelled as the format says, and what is spelled so passes.
-use Rattle.mig_restore_form.proofs.Common.{zero, suc, ◌≡◌, ℕ, ◌+◌, ◌*◌, ◌<◌, ◌↔◌, List, [], ◌∷◌, ◌++◌, length, Bool, true, false, cond, nat_eq, not, Option, Some, None, refl, sym, ap, subst, ◌∙◌, arith, append_assoc, length-append, Result, Ok, Err, eqb-true, eqb-false, eq-eqb, ne_eqb, le-ltb, not-false, common_steps, le32, le64, ◌>>=◌, part, tried, Judged, Passes, Faulty, part_whole, both_pass, tried_passes, same_passes, then_passes, tried_none, Truncated, Kind, word_pfn, word_has_data, words, FrameEntry, Content, type_in_word, entries_at, pages_at, IsPage, Pv, Hvm, PageType, meant_type, EachEntry, IsWithin, FrameOf, IsEntry, AreEntries, IsBatch, rows_fine, no_fault, type_of, type_has_data, Cause, Frames, Notab}
+use Rattle.mig_restore_form.proofs.Common.{zero, suc, ◌≡◌, ℕ, ◌+◌, ◌*◌, ◌<◌, ◌↔◌, List, [], ◌∷◌, ◌++◌, length, Bool, true, false, cond, nat_eq, not, Option, Some, None, refl, sym, ap, subst, ◌∙◌, arith, append_assoc, length-append, Result, Ok, Err, eqb-true, eqb-false, eq-eqb, ne_eqb, le-ltb, not-false, common_steps, le32, le64, ◌>>=◌, part, tried, Judged, Passes, Faulty, part_whole, both_pass, same_passes, then_passes, tried_none, Truncated, Kind, word_pfn, word_has_data, words, FrameEntry, Content, type_in_word, entries_at, pages_at, IsPage, Pv, Hvm, PageType, meant_type, EachEntry, IsWithin, FrameOf, IsEntry, AreEntries, IsBatch, rows_fine, no_fault, type_of, type_has_data, Cause, Frames, Notab}
 use Rattle.std.proofs.Common.{get_or}
 use Rattle.std.specs.List.{count_by}
+use Rattle.std.specs.Option.{option_or}
+use Rattle.mig_headers.proofs.FirstFaults.{both_none}
 use Rattle.mig_bytes.specs.Judged.{Matches, Gives, each}
 use Rattle.mig_headers.specs.declared.fault.Cause.TheVariants.{BadLength}
 use Rattle.mig_pagetypes.specs.FrameWords.{word_type, some_has_data}
 use Rattle.mig_records.specs.Faults.{fault_of_count, fault_of_words, count_rows}
 use Rattle.mig_records.specs.Words.{data_len_of}
-use Rattle.mig_restore_form.specs.Judging.{fault_of_data, words_at, entry_at, with_places, fault_of_level, fault_of_page, list_at}
+use Rattle.mig_restore_form.specs.Judging.{fault_of_data, fault_of_list, words_at, entry_at, with_places, fault_of_level, fault_of_page, list_at}
 use Rattle.mig_bytes.proofs.Joins.{stopped, then_reads}
 use Rattle.mig_pagetypes.specs.PageTypes.{level_of, type_or_none}
 use Rattle.mig_guest.specs.Tables.{entry}
@@ -86,17 +88,13 @@ pub place_within : (place : ℕ) (list : List ℕ) → place < length list → p
 place_within place list lt = subst (λ n. place < n) (sym (places_len 0 list)) lt
 
 -- behind the words of a batch
-abbrev pub behind_words : Kind → ℕ → ℕ → List ℕ × List ℕ → Judged Cause (List FrameEntry)
-behind_words kind top len ws = tried (fault_of_words kind top ws.0) ws.1 >>= λ _. tried (fault_of_data len ws.0) ws.1 >>= λ _. each (entry_at kind top) (with_places 0 ws.0) ws.1
+abbrev pub good_list : Kind → ℕ → ℕ → List ℕ × List ℕ → Judged Cause (List ℕ)
+good_list kind top len ws = tried (fault_of_list kind top len ws.0) ws.1 >>= λ _. Passes ws.0 ws.1
 
--- behind their bytes
-abbrev pub behind_good : Kind → ℕ → ℕ → List ℕ → List ℕ → Judged Cause (List FrameEntry)
-behind_good kind top len ws rest = tried (fault_of_data len ws) rest >>= λ _. each (entry_at kind top) (with_places 0 ws) rest
-
-pub words_stage : (kind : Kind) (top len n : ℕ) (i : List ℕ) → (words_at n i >>= behind_words kind top len) ≡ (part Truncated (8 * n) i >>= λ p. tried (fault_of_words kind top (words n p.0)) p.1 >>= λ _. behind_good kind top len (words n p.0) p.1)
+words_stage : (kind : Kind) (top len n : ℕ) (i : List ℕ) → (words_at n i >>= good_list kind top len) ≡ (part Truncated (8 * n) i >>= λ p. tried (fault_of_list kind top len (words n p.0)) p.1 >>= λ _. Passes (words n p.0) p.1)
 words_stage kind top len n i = by (part Truncated (8 * n) i)
   where
-    by : (j : Judged Cause (List ℕ)) → ((j >>= λ b. Passes (words n b.0) b.1) >>= behind_words kind top len) ≡ (j >>= λ p. tried (fault_of_words kind top (words n p.0)) p.1 >>= λ _. behind_good kind top len (words n p.0) p.1)
+    by : (j : Judged Cause (List ℕ)) → ((j >>= λ b. Passes (words n b.0) b.1) >>= good_list kind top len) ≡ (j >>= λ p. tried (fault_of_list kind top len (words n p.0)) p.1 >>= λ _. Passes (words n p.0) p.1)
     by (Passes x mid) = refl
     by (Faulty c mid) = refl
 
@@ -140,45 +138,22 @@ module _ (kind : Kind) (top : ℕ) where
 
 -- ---- the words, and the entries behind them
 
-abbrev good_list : Kind → ℕ → ℕ → List ℕ × List ℕ → Judged Cause (List ℕ)
-good_list kind top len ws = tried (fault_of_words kind top ws.0) ws.1 >>= λ _. tried (fault_of_data len ws.0) ws.1 >>= λ _. Passes ws.0 ws.1
-
-abbrev front_list : Kind → ℕ → ℕ → List ℕ × List ℕ → Judged Cause (List ℕ)
+abbrev pub front_list : Kind → ℕ → ℕ → List ℕ × List ℕ → Judged Cause (List ℕ)
 front_list kind top len front = tried (fault_of_count len (le32 front.0 0)) front.1 >>= λ _. words_at (le32 front.0 0) front.1 >>= good_list kind top len
 
-abbrev as_content : List FrameEntry × List ℕ → Judged Cause Content
+abbrev pub as_content : List FrameEntry × List ℕ → Judged Cause Content
 as_content es = Passes (Frames es.0) es.1
 
-abbrev behind_list : Kind → ℕ → List ℕ × List ℕ → Judged Cause Content
+abbrev pub behind_list : Kind → ℕ → List ℕ × List ℕ → Judged Cause Content
 behind_list kind top ws = entries_in_place kind top 0 ws.0 ws.1 >>= as_content
 
-module _ (kind : Kind) (top len : ℕ) where
-  abbrev both : Judged Cause (List ℕ) → Judged Cause Content
-  both j = j >>= behind_list kind top
-
-  by_data : (ws rest : List ℕ) (o : Option Cause) → ((tried o rest >>= λ _. entries_in_place kind top 0 ws rest) >>= as_content) ≡ both (tried o rest >>= λ _. Passes ws rest)
-  by_data ws rest None = refl
-  by_data ws rest (Some c) = refl
-
-  by_words : (ws rest : List ℕ) (o : Option Cause) → ((tried o rest >>= λ _. tried (fault_of_data len ws) rest >>= λ _. entries_in_place kind top 0 ws rest) >>= as_content) ≡ both (tried o rest >>= λ _. tried (fault_of_data len ws) rest >>= λ _. Passes ws rest)
-  by_words ws rest None = by_data ws rest (fault_of_data len ws)
-  by_words ws rest (Some c) = refl
-
-  by_read : (j : Judged Cause (List ℕ)) → ((j >>= behind_words kind top len) >>= as_content) ≡ both (j >>= good_list kind top len)
-  by_read (Faulty c rest) = refl
-  by_read (Passes ws rest) = by_words ws rest (fault_of_words kind top ws)
-
-  by_count : (n : ℕ) (rest : List ℕ) (o : Option Cause) → ((tried o rest >>= λ _. words_at n rest >>= behind_words kind top len) >>= as_content) ≡ both (tried o rest >>= λ _. words_at n rest >>= good_list kind top len)
-  by_count n rest None = by_read (words_at n rest)
-  by_count n rest (Some c) = refl
-
-  by_front : (j : Judged Cause (List ℕ)) → ((j >>= λ front. tried (fault_of_count len (le32 front.0 0)) front.1 >>= λ _. words_at (le32 front.0 0) front.1 >>= behind_words kind top len) >>= as_content) ≡ both (j >>= front_list kind top len)
-  by_front (Faulty c rest) = refl
-  by_front (Passes front rest) = by_count (le32 front 0) rest (fault_of_count len (le32 front 0))
-
-  -- the words come first
-  list_stage : (i : List ℕ) → pages_at kind top len i ≡ (list_at kind top len i >>= behind_list kind top)
-  list_stage i = by_front (part Truncated 8 i)
+-- the words come first
+pub list_stage : (kind : Kind) (top len : ℕ) (i : List ℕ) → pages_at kind top len i ≡ (list_at kind top len i >>= behind_list kind top)
+list_stage kind top len i = by (list_at kind top len i)
+  where
+    by : (j : Judged Cause (List ℕ)) → ((j >>= λ ws. entries_in_place kind top 0 ws.0 ws.1) >>= as_content) ≡ (j >>= behind_list kind top)
+    by (Passes ws rest) = refl
+    by (Faulty c rest) = refl
 
 module _ {X V : Type 0} (items : V → List ℕ) (Q : X → List FrameEntry → Type 0) (P : X → Content → Type 0) (turn : (x : X) (es : List FrameEntry) → Q x es → P x (Frames es)) where
   as_frames : (e : Option (List ℕ)) (j : Judged Cause (List FrameEntry)) (r : Result X (Stop Cause)) → Matches Q e j r → Matches P e (j >>= as_content) r
@@ -207,11 +182,11 @@ module _ {X V : Type 0} (items : V → List ℕ) (Q : X → List FrameEntry → 
 
 -- the words were taken, and there is a fault in them
 module _ {V : Type 0} (items : V → List ℕ) where
-  pub words_refused : (a b d : Option (List ℕ)) (kind : Kind) (top len n m : ℕ) (buf : List ℕ) (list : V) (c : Cause) → m ≡ 8
+  pub list_refused : (a b d : Option (List ℕ)) (kind : Kind) (top len n m : ℕ) (buf : List ℕ) (list : V) (c : Cause) → m ≡ 8
       → Gives {X = Unit {0}} (λ _ bytes. bytes ≡ buf) a b (part Truncated m) (Ok tt) → n ≡ le32 buf 0 → fault_of_count len n ≡ None
-      → Gives (λ v ws. ws ≡ items v) b d (words_at n) (Ok list) → fault_of_words kind top (items list) ≡ Some c → Gives {X = V} (λ v ws. ws ≡ items v) a d (list_at kind top len) (Err (Refused c))
-  words_refused None b d kind top len n m buf list c size front at counted read bad = tt
-  words_refused (Some i) b d kind top len n m buf list c size (bytes, rest, is, left, same) at counted read bad =
+      → Gives (λ v ws. ws ≡ items v) b d (words_at n) (Ok list) → fault_of_list kind top len (items list) ≡ Some c → Gives {X = V} (λ v ws. ws ≡ items v) a d (list_at kind top len) (Err (Refused c))
+  list_refused None b d kind top len n m buf list c size front at counted read bad = tt
+  list_refused (Some i) b d kind top len n m buf list c size (bytes, rest, is, left, same) at counted read bad =
       let number : le32 bytes 0 ≡ n = ap (λ l. le32 l 0) same ∙ sym at in
       let (ws, after, is_words, left_words, words_same) = subst (λ o. Gives (λ v l. l ≡ items v) o d (words_at n) (Ok list)) left read in
       let judged : list_at kind top len i ≡ Faulty c after =
@@ -220,7 +195,7 @@ module _ {V : Type 0} (items : V → List ℕ) where
       ∙ ap (λ f. tried f rest >>= λ _. words_at n rest >>= good_list kind top len) counted
       ∙ ap (λ j. j >>= good_list kind top len) is_words
       ∙ ap (λ l. good_list kind top len (l, after)) words_same
-      ∙ ap (λ f. tried f after >>= λ _. tried (fault_of_data len (items list)) after >>= λ _. Passes (items list) after) bad in
+      ∙ ap (λ f. tried f after >>= λ _. Passes (items list) after) bad in
       (after, judged, left_words)
 
 -- ---- what the words say of its length
@@ -276,15 +251,17 @@ pub record Batch (kind : Kind) (top len : ℕ) (i : List ℕ) (es : List FrameEn
 
 pub batch_passes : (kind : Kind) (top len : ℕ) (i : List ℕ) (es : List FrameEntry) (rest : List ℕ) → entries_at kind top len i ≡ Passes es rest → Batch kind top len i es rest
 batch_passes kind top len i es rest h =
-    let a = taken 8 (λ b. fault_of_count len (le32 b 0)) (λ b m. words_at (le32 b 0) m >>= behind_words kind top len) i es rest h in
+    let l = both_pass (list_at kind top len i) _ es rest h in
+    let a = taken 8 (λ b. fault_of_count len (le32 b 0)) (λ b m. words_at (le32 b 0) m >>= good_list kind top len) i l.x l.mid l.first in
     let front = a.bytes in
     let n = le32 front 0 in
     let fc = rows_fine (count_rows len n) a.fine in
-    let w = taken (8 * n) (λ b. fault_of_words kind top (words n b)) (λ b m. behind_good kind top len (words n b) m) a.mid es rest (sym (words_stage kind top len n a.mid) ∙ a.after) in
+    let w = taken (8 * n) (λ b. fault_of_list kind top len (words n b)) (λ b m. Passes (words n b) m) a.mid l.x l.mid (sym (words_stage kind top len n a.mid) ∙ a.after) in
     let ws = words n w.bytes in
-    let g = both_pass (tried (fault_of_data len ws) w.mid) (λ _. entries_in_place kind top 0 ws w.mid) es rest w.after in
-    let fd = rows_fine ((not (nat_eq len (data_len_of ws)), BadLength len) ∷ []) (tried_passes _ w.mid g.mid g.x g.first).0 in
-    let t = each_entries kind top 0 ws w.mid es rest g.second in
+    let same = same_passes _ _ _ _ w.after in
+    let fine = both_none (fault_of_words kind top ws) (fault_of_data len ws) w.fine in
+    let fd = rows_fine ((not (nat_eq len (data_len_of ws)), BadLength len) ∷ []) fine.1 in
+    let t = each_entries kind top 0 ws w.mid es rest (ap (λ v. entries_in_place kind top 0 v w.mid) same.0 ∙ ap (entries_in_place kind top 0 l.x) same.1 ∙ l.second) in
     let count : length ws ≡ n = length-map-range_with_len (λ k. le64 w.bytes (8 * k)) 0 n in
     let full : len ≡ 8 + 8 * n + 4096 * count_by word_has_data ws = eqb-true len _ (not-false _ fd.0) ∙ ap (λ m. 8 + 8 * m + 4096 * count_by word_has_data ws) count in
     record {
@@ -299,7 +276,7 @@ batch_passes kind top len i es rest h =
         front_len = a.size;
         some = let other = eqb-false n 0 fc.1.0 in grind (arith, other);
         words_len = w.size;
-        good = none_is_wrong kind top ws w.fine;
+        good = none_is_wrong kind top ws fine.0;
         entries = t.entries;
       };
     }
@@ -346,11 +323,13 @@ batch_goes kind top len body rest es b size =
     let full : len ≡ 8 + 8 * n + 4096 * count_by word_has_data ws = sym size ∙ ap length b.whole ∙ body_len n (count_by word_has_data ws) b.front b.words_bytes b.pages_bytes b.front_len b.words_len (entries_len kind top ws b.pages_bytes es b.entries) in
     let count : length ws ≡ n = length-map-range_with_len (λ k. le64 b.words_bytes (8 * k)) 0 n in
     let counts : fault_of_count len n ≡ None = no_fault (count_rows len n) (le-ltb len (8 + 8 * n) (omega (arith, full)), (ne_eqb n 0 (λ e. omega (arith, b.some, e)), tt)) in
-    let goods : fault_of_words kind top ws ≡ None = nothing_found kind top ws b.good in
     let sizes : fault_of_data len ws ≡ None = no_fault ((not (nat_eq len (data_len_of ws)), BadLength len) ∷ [])
     (ap not (eq-eqb len _ (full ∙ ap (λ m. 8 + 8 * m + 4096 * count_by word_has_data ws) (sym count))), tt) in
+    let goods : fault_of_list kind top len ws ≡ None = ap (λ f. option_or f (fault_of_data len ws)) (nothing_found kind top ws b.good) ∙ sizes in
     ap (entries_at kind top len) input
-    ∙ then_passes (part Truncated 8 (b.front ++ mid)) _ b.front mid _ (part_whole Truncated 8 b.front mid b.front_len)
+    ∙ then_passes (list_at kind top len (b.front ++ mid)) _ ws tail _
+    (then_passes (part Truncated 8 (b.front ++ mid)) _ b.front mid _ (part_whole Truncated 8 b.front mid b.front_len)
     (tried_none (fault_of_count len n) mid _ counts
     ∙ then_passes (words_at n mid) _ ws tail _ (then_passes (part Truncated (8 * n) mid) _ b.words_bytes tail _ (part_whole Truncated (8 * n) b.words_bytes tail b.words_len) refl)
-    (tried_none (fault_of_words kind top ws) tail _ goods ∙ tried_none (fault_of_data len ws) tail _ sizes ∙ entries_go kind top 0 ws b.pages_bytes rest es b.entries))
+    (tried_none (fault_of_list kind top len ws) tail _ goods)))
+    (entries_go kind top 0 ws b.pages_bytes rest es b.entries)

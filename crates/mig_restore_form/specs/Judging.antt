@@ -123,23 +123,22 @@ entry_at kind top at input = do
   page ← page_at kind top at input
   Passes (record { pfn = word_pfn at.1; type = type_in_word at.1; page = page.0 }) page.1
 
+-- what is wrong with the words of a body of so many bytes: a word, or else the length that they ask for
+abbrev pub fault_of_list : Kind → ℕ → ℕ → List ℕ → Option Cause
+fault_of_list kind top len ws = option_or (fault_of_words kind top ws) (fault_of_data len ws)
+
 -- the count, and the words
 abbrev pub list_at : Kind → ℕ → ℕ → List ℕ → Judged Cause (List ℕ)
 list_at kind top len input = do
   front ← part Truncated 8 input
   _ ← tried (fault_of_count len (le32 front.0 0)) front.1
   ws ← words_at (le32 front.0 0) front.1
-  _ ← tried (fault_of_words kind top ws.0) ws.1
-  _ ← tried (fault_of_data len ws.0) ws.1
+  _ ← tried (fault_of_list kind top len ws.0) ws.1
   Passes ws.0 ws.1
 
 abbrev pub entries_at : Kind → ℕ → ℕ → List ℕ → Judged Cause (List FrameEntry)
 entries_at kind top len input = do
-  front ← part Truncated 8 input
-  _ ← tried (fault_of_count len (le32 front.0 0)) front.1
-  ws ← words_at (le32 front.0 0) front.1
-  _ ← tried (fault_of_words kind top ws.0) ws.1
-  _ ← tried (fault_of_data len ws.0) ws.1
+  ws ← list_at kind top len input
   each (entry_at kind top) (with_places 0 ws.0) ws.1
 
 abbrev pub pages_at : Kind → ℕ → ℕ → List ℕ → Judged Cause Content

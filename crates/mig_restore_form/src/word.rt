@@ -1,14 +1,17 @@
-ghost use Rattle.std.specs.Prelude.{◌≡◌, ◌≤◌, ◌*◌, IfOk, length, vec_len};
+ghost use Rattle.std.specs.Prelude.{◌≡◌, ◌<◌, ◌≤◌, ◌*◌, ◌^◌, IfNone, IfOk, length, vec_len};
+ghost use Rattle.std.specs.List.{All};
 ghost use Rattle.mig_records.specs.Words.{words as words_in};
 ghost use Rattle.mig_pagetypes.specs.FrameWords.{word_pfn};
 ghost use Rattle.mig_pagetypes.specs.PageTypes.{level_of};
 ghost use Rattle.mig_restore_form.specs.Mean.{meant_type};
-ghost use Rattle.mig_restore_form.specs.Judging.{type_in_word, fault_of_level};
+ghost use Rattle.mig_restore_form.specs.Judging.{type_in_word, fault_of_level, fault_of_list};
+ghost use Rattle.mig_restore_form.specs.Spelled.{IsGoodWord};
 
 use mig_bytes::u64_le;
 use mig_headers::{Cause, Kind};
 use mig_pagetypes::{PageType, decode_word};
 use mig_pvtables::check_table;
+use mig_records::{data_len, words_fault};
 use std::alloc::{AllocError, Global};
 
 /// The words of 8 bytes, low byte first, that these bytes begin with.
@@ -22,6 +25,21 @@ pub fn words_of(alloc: Global, bytes: &[u8], count: usize) -> Result<Vec<u64>, A
         list.push(u64_le(bytes, 8 * k))?;
     }
     Ok(list)
+}
+
+/// What is wrong with the words of a PAGE_DATA of so many bytes: a word, or else the length that they ask for.
+pub fn list_fault(kind: Kind, top: u64, len: u32, words: &[u64]) -> Option<Cause>
+    requires { length words.now < 2 ^ 24 }
+    ensures fault { result ≡ fault_of_list kind top len words.now }
+    ensures good { IfNone result (All (IsGoodWord kind top) words.now) }
+{
+    if let Some(cause) = words_fault(kind, top, words) {
+        return Some(cause);
+    }
+    if u64::from(len) != data_len(words) {
+        return Some(Cause::BadLength(u64::from(len)));
+    }
+    None
 }
 
 /// The type in a word; one whose type is reserved has no page.

@@ -25,7 +25,7 @@ returns-in-Some-clause-moved g c outer o records around kept pages =
     let size : length bytes ≡ 8 * n = omega (arith, c.in-Ok.bytes.ok.0, c.in-Ok.ensures.len) in
     let same_words : c.deref-2.result.now ≡ words n bytes = c.deref-2.ensures.value ∙ c.in-Ok-words_of.ensures.words ∙ ap (words n) c.deref.ensures.value in
     not_allowed (words_is outer o records c.args.head n c.requires.some) _ _ _ _ _ _ bytes size (omega (arith, size)) _ c.in-Some.cause _ (ap (λ m. Refused (Record m) c.in-Some.cause) (c.from.ensures ∙ this_number _ o records _ kept.seen))
-    (same_list_fault _ o.kind _ (before o records).top c.args.head.len n _ bytes _ kept.seen.kind kept.top same_words c.in-Some.ensures) refl (buffered _ c.in-Ok.bytes (8 * n) _ _ (sym size) c.in-Ok.ensures.read) refl
+    (same_list_fault _ o.kind _ (before o records).top c.args.head.len n _ bytes _ kept.seen.kind kept.top same_words c.in-Some.ensures.fault) refl (buffered _ c.in-Ok.bytes (8 * n) _ _ (sym size) c.in-Ok.ensures.read) refl
 
 pub returns-in-Err-put-clause-moved : goal.returns-in-Err-put-clause-moved
 returns-in-Err-put-clause-moved g c outer o records around kept pages =
@@ -42,7 +42,7 @@ returns-clause-moved g c outer o records around kept pages =
     let size : length bytes ≡ 8 * n = omega (arith, c.in-Ok.bytes.ok.0, c.in-Ok.ensures.len) in
     let same_words : c.deref-2.result.now ≡ words n bytes = c.deref-2.ensures.value ∙ c.in-Ok-words_of.ensures.words ∙ ap (words n) c.deref.ensures.value in
     let kept_words : c.in-Ok-words_of.words.items ≡ words n bytes = c.in-Ok-words_of.ensures.words ∙ ap (words n) c.deref.ensures.value in
-    let fine = same_list_fault _ o.kind _ (before o records).top c.args.head.len n _ bytes _ kept.seen.kind kept.top same_words c.in_default.ensures in
+    let fine = same_list_fault _ o.kind _ (before o records).top c.args.head.len n _ bytes _ kept.seen.kind kept.top same_words c.in_default.ensures.fault in
     let put = c.in_default-put.ensures.kept in
     let held : Relay = record c.put.new.self { words = c.in-Ok-words_of.words } in
     let stays : IsKept c.args.self.now held = record { wrapper = ap (λ (r : Relay). r.wrapper) put; seen = ap (λ (r : Relay). r.seen) put; top = ap (λ (r : Relay). r.top) put } in

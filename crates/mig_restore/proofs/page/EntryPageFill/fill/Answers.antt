@@ -1,4 +1,4 @@
-use Rattle.mig_restore.proofs.Common.{◌≡◌, Some, None, length, rules, level_of, fault_of_level}
+use Rattle.mig_restore.proofs.Common.{◌≡◌, None, length, rules, level_of, fault_of_level}
 use Rattle.mig_restore.proofs.Entries.{page_fine, page_refused}
 use Rattle.mig_restore.proofs.page.EntryPageFill.fill.Goals as goal
 
