@@ -9,6 +9,7 @@ use Rattle.mig_legacy.specs.Chunks.{IsWithinLimits}
 use Rattle.mig_legacy.proofs.ChunkNumbers.{sound_kind}
 use Rattle.mig_libxl_form.proofs.Formed.{none_yet}
 use Rattle.mig_pvtables.specs.Whole.{IsWhole}
+use Rattle.mig_restore_form.proofs.AcceptedWhole.{entries_grow}
 use Rattle.mig_restore_form.proofs.Growth.{empty_begun, grows_not}
 use Rattle.mig_bytes.specs.Fields.{le32}
 use Rattle.mig_legacy.specs.Spelled.HasLegacyContent.{ends, batch, vcpus, clock, last_checkpoint, toolstack, value}
@@ -17,9 +18,8 @@ use Rattle.mig_legacy.proofs.Batches.{fine_words}
 use Rattle.mig_legacy.proofs.Chunked.{sent_more, told_more}
 use Rattle.mig_legacy.proofs.ChunkTexts.{end_is, ended_more}
 use Rattle.mig_legacy.proofs.Growth.{part_grows, param_part, tsc_part}
-use Rattle.mig_legacy.proofs.KeptFrames.{entries_grow}
 use Rattle.mig_legacy.proofs.KeptStores.{toolstack_kept}
-use Rattle.mig_legacy.proofs.Meaning.{without_is}
+use Rattle.mig_legacy.proofs.Meaning.{sent_top, without_is}
 use Rattle.mig_legacy.proofs.Tails.{tail_plain}
 use Rattle.mig_legacy.proofs.TailTexts.{ends as context_ends, tail_is}
 
@@ -28,13 +28,13 @@ IsByte b = b < 256
 
 -- ---- chunks
 
-guest_kept : (g : GuestOf) → g.kind ≡ Hvm → (kind : ChunkKind) (body : List ℕ) (c : LegacyContent) → HasLegacyContent kind body c → IsWithinLimits kind → AreBytes body → Grows g (put_in_guest g c)
-guest_kept g hvm _ _ _ ends limits all = grows_not g
-guest_kept g hvm _ _ _ (batch n body es is) limits all =
+guest_kept : (g : GuestOf) → g.kind ≡ Hvm → g.top ≡ 0 → (kind : ChunkKind) (body : List ℕ) (c : LegacyContent) → HasLegacyContent kind body c → IsWithinLimits kind → AreBytes body → Grows g (put_in_guest g c)
+guest_kept g hvm zero _ _ _ ends limits all = grows_not g
+guest_kept g hvm zero _ _ _ (batch n body es is) limits all =
     let ws = words n is.words_bytes in
-    entries_grow (page_data_words ws) is.pages_bytes es (bytes_back is.words_bytes is.pages_bytes (subst AreBytes is.whole all)) (good_words ws (fine_words ws is.good)) is.entries g hvm
-guest_kept g hvm _ _ _ (vcpus max bits four small size) limits all = grows_not g
-guest_kept g hvm _ _ _ (clock mode nanoseconds frequency incarnation four eight next last) limits all =
+    entries_grow Hvm 0 (page_data_words ws) is.pages_bytes es (bytes_back is.words_bytes is.pages_bytes (subst AreBytes is.whole all)) (good_words ws (fine_words ws is.good)) is.entries g (sym hvm) (sym zero)
+guest_kept g hvm zero _ _ _ (vcpus max bits four small size) limits all = grows_not g
+guest_kept g hvm zero _ _ _ (clock mode nanoseconds frequency incarnation four eight next last) limits all =
     let told = mode ++ (frequency ++ (nanoseconds ++ incarnation)) in
     let size : length told ≡ 20 = omega (arith, length-append mode (frequency ++ (nanoseconds ++ incarnation)), length-append frequency (nanoseconds ++ incarnation), length-append nanoseconds incarnation, four, eight, next, last) in
     let behind = bytes_back mode (nanoseconds ++ (frequency ++ incarnation)) all in
@@ -42,9 +42,9 @@ guest_kept g hvm _ _ _ (clock mode nanoseconds frequency incarnation four eight 
     let are : AreBytes told = All-append IsByte mode (frequency ++ (nanoseconds ++ incarnation)) (bytes_front mode (nanoseconds ++ (frequency ++ incarnation)) all)
     (All-append IsByte frequency (nanoseconds ++ incarnation) (bytes_front frequency incarnation left) (All-append IsByte nanoseconds incarnation (bytes_front nanoseconds (frequency ++ incarnation) behind) (bytes_back frequency incarnation left))) in
     part_grows g _ tsc_key told refl refl refl (tsc_part g.kind (width_of g) told hvm size) are refl
-guest_kept g hvm _ _ _ last_checkpoint limits all = grows_not g
-guest_kept g hvm _ _ _ (toolstack text body es counted is) limits all = grows_not g
-guest_kept g hvm _ _ _ (value index pad told four eight) limits all =
+guest_kept g hvm zero _ _ _ last_checkpoint limits all = grows_not g
+guest_kept g hvm zero _ _ _ (toolstack text body es counted is) limits all = grows_not g
+guest_kept g hvm zero _ _ _ (value index pad told four eight) limits all =
     part_grows g _ (param_key index) told refl refl refl (param_part g.kind (width_of g) index told hvm limits eight) (bytes_back pad told all) refl
 
 emulators_kept : (chunks : List LegacyChunk) (kind : ChunkKind) (body : List ℕ) (c : LegacyContent) → HasLegacyContent kind body c → StoreFits chunks c → AreBytes body → AreEmulators (emulators_of (store_records chunks)) → AreEmulators (put_in_emulators (emulators_of (store_records chunks)) c)
@@ -72,7 +72,7 @@ spelled_kept _ _ all (one_more bytes chunks c text before f) =
     let k = spelled_kept bytes chunks (bytes_front bytes text all) before in
     let is = f.is in
     let body = bytes_back is.number is.body (subst AreBytes is.whole (bytes_back bytes text all)) in
-    let grown = guest_kept (sent Hvm (image_records chunks)) (sent_kind Hvm (image_records chunks)) c.kind is.body c.content is.says (sound_kind c.kind (le32 is.number 0) is.is) body in
+    let grown = guest_kept (sent Hvm (image_records chunks)) (sent_kind Hvm (image_records chunks)) (sent_top chunks) c.kind is.body c.content is.says (sound_kind c.kind (le32 is.number 0) is.is) body in
     record {
       guest = subst IsBegun (sym (sent_more chunks c)) (grown.kept k.guest);
       emulators = subst AreEmulators (sym (told_more chunks c)) (emulators_kept chunks c.kind is.body c.content is.says f.fits body k.emulators);

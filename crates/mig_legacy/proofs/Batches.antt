@@ -2,14 +2,13 @@
 -- the format says, and what is spelled so passes.
 use Rattle.mig_bytes_form.proofs.Joined.{then_is}
 use Rattle.mig_bytes_form.proofs.Tests.{computed_is}
-use Rattle.mig_legacy.proofs.Common.{said_passes, said_goes, ◌≡◌, ℕ, ◌+◌, ◌*◌, List, [], ◌∷◌, ◌++◌, Bool, true, false, cond, nat_lt, length, take, drop, Option, Some, None, refl, sym, ap, subst, ◌∙◌, append_assoc, All, none-some, list_any_none, Judged, ◌>>=◌, part, tried, each, Passes, Faulty, both_pass, same_passes, then_passes, no_fault, rows_fine, Hvm, LegacyCause, Truncated, words, none_pass, type_in_word, fault_of_level, fault_of_page, entry_at, meant_type, FrameEntry, AreEntries, is_reserved, is_high, batch_rows, fault_of_batch, page_data_words, word_pfn, judged_as, ◌>>>◌, each_form, Given, computed, first_named, plain_form, words_form, page_of_word, entry_form, batch_form, LegacyContent, Frames, IsLegacyWord, IsLegacyBatch}
+use Rattle.mig_legacy.proofs.Common.{said_passes, said_goes, ◌≡◌, ℕ, ◌+◌, ◌*◌, List, [], ◌∷◌, ◌++◌, Bool, true, false, cond, nat_lt, length, take, drop, Option, Some, None, refl, sym, ap, subst, ◌∙◌, append_assoc, All, list_any_none, Judged, ◌>>=◌, part, tried, each, Passes, Faulty, both_pass, same_passes, then_passes, no_fault, rows_fine, Hvm, LegacyCause, Truncated, words, none_pass, type_in_word, fault_of_level, fault_of_page, entry_at, meant_type, FrameEntry, AreEntries, is_reserved, is_high, batch_rows, fault_of_batch, page_data_words, word_pfn, judged_as, ◌>>>◌, each_form, Given, computed, first_named, plain_form, words_form, page_of_word, entry_form, batch_form, LegacyContent, Frames, IsLegacyWord, IsLegacyBatch}
 use Rattle.mig_headers.specs.declared.fault.Cause.{Cause}
 use Rattle.mig_headers.specs.declared.fault.Cause.TheVariants.{Truncated as ImageTruncated}
 use Rattle.mig_pagetypes.specs.FrameWords.{word_has_data}
 use Rattle.mig_pagetypes.specs.PageTypes.{level_of}
 use Rattle.mig_pagetypes.specs.declared.page_type.PageType.{PageType}
 use Rattle.mig_pagetypes.specs.declared.page_type.PageType.TheVariants.{Notab}
-use Rattle.mig_guest.specs.Tables.{EachEntry, IsWithin}
 use Rattle.mig_restore_form.proofs.Batches.{each_entries, entries_go, entries_in_place}
 use Rattle.mig_restore_form.specs.Judging.{page_at}
 
@@ -21,9 +20,6 @@ no_level _ = refl
 
 page_fine : (place w : ℕ) (bytes : List ℕ) → fault_of_page Hvm 0 (place, w) bytes ≡ None
 page_fine place w bytes = ap (λ o. fault_of_level 0 place o bytes) (no_level (type_in_word w))
-
-pub no_table : (top : ℕ) (t : PageType) (page : Option (List ℕ)) → EachEntry (IsWithin top) (record { type = meant_type Hvm t; page = page })
-no_table top t page level bytes lev has slot lt = absurd (none-some level (sym (no_level t) ∙ lev))
 
 -- ---- the entries are those of an image, where the only cause that can stand is that a page isn't whole
 

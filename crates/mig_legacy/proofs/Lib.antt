@@ -30,6 +30,5 @@ pub mod Laws
 pub mod TailTexts
 pub mod Meaning
 pub mod DeviceMeaning
-pub mod KeptFrames
 pub mod KeptStores
 pub mod AcceptedWhole

@@ -48,6 +48,10 @@ folded_top g (c ∷ cs) =
     one_top (Frames es) = refl
     one_top _ = refl
 
+pub sent_top : (chunks : List LegacyChunk) → (sent Hvm (image_records chunks)).top ≡ 0
+unfolding sent
+sent_top chunks = folded_top (empty_guest Hvm) chunks
+
 pub kind_is : (s : LegacyStream) → (mean_legacy s).kind ≡ Hvm
 unfolding mean_legacy
 kind_is s = ap (λ (g : GuestOf). g.kind) (without_is s) ∙ sent_kind Hvm (image_records s.chunks ++ tail_records s.tail)

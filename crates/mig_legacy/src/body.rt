@@ -1,7 +1,6 @@
-ghost use Rattle.std.specs.Prelude.{◌≡◌, ◌≤◌, ◌<◌, ◌^◌, ℕ, List, length, None, IfOk, OnOk, IsErrOf};
-ghost use Rattle.mig_bytes.specs.Bytes.{AreBytes};
+ghost use Rattle.std.specs.Prelude.{◌≡◌, ◌≤◌, ◌<◌, length, None, IfOk, OnOk, IsErrOf};
 ghost use Rattle.mig_bytes.specs.Faults.{RisesOnReadFault};
-ghost use Rattle.mig_bytes.specs.Judged.{Gives, stop_at};
+ghost use Rattle.mig_bytes.specs.Judged.{Gives};
 ghost use Rattle.mig_bytes.specs.declared.stop.Stop.TheVariants.{Memory as NoMemory};
 ghost use Rattle.mig_bytes_form.specs.Form.{judged_as};
 ghost use Rattle.mig_headers.specs.declared.kind.Kind.TheVariants.{Hvm};
@@ -10,7 +9,7 @@ ghost use Rattle.mig_restore_form.specs.Mean.{Grows};
 ghost use Rattle.mig_libxl_form.specs.Formed.{AreEmulators};
 ghost use Rattle.mig_legacy.specs.Batches.{fault_of_batch};
 ghost use Rattle.mig_legacy.specs.LegacyForm.{length_form, words_form, batch_form, clock_of as clock_in, vcpus_form, clock_form, value_form, toolstack_form};
-ghost use Rattle.mig_legacy.specs.Legacy.{LegacyContent, param_key as key_of_param};
+ghost use Rattle.mig_legacy.specs.Legacy.{param_key as key_of_param};
 ghost use Rattle.mig_legacy.specs.Legacy.LegacyContent.{Nothing};
 ghost use Rattle.mig_legacy.specs.Seen.{cut_short, put_in_guest, put_in_emulators};
 
@@ -22,7 +21,7 @@ use mig_guest::{EMULATOR_PAIRS, Guest, PartKey};
 use mig_headers::{Cause, LegacyCause, MOST_BODY, VCPU_LIMIT};
 use mig_libxl_form::Emulators;
 use mig_policy::PairsAnswer;
-use mig_restore::take_entries;
+use mig_restore::{are_bytes, take_entries};
 use mig_restore_form::words_of;
 use std::alloc::Global;
 
@@ -50,11 +49,6 @@ pub(crate) fn param_key(index: u32) -> PartKey
         key2: 0,
     }
 }
-
-/// Does nothing. That bytes are below 256 is what makes a guest that they are set in one of bytes.
-pub(crate) fn are_bytes(bytes: &[u8])
-    ensures { AreBytes bytes.now }
-{}
 
 /// Takes a length, which is at most so much.
 #[tactic(auto, unfolding(mig_bytes_form::specs::Form::judged_as))]

@@ -1,4 +1,4 @@
-ghost use Rattle.std.specs.Prelude.{◌≡◌, ◌≤◌, ◌+◌, ◌∷◌, List, Some, length, IsOk, IfOk, OnOk};
+ghost use Rattle.std.specs.Prelude.{◌≡◌, ◌≤◌, ◌+◌, ◌∷◌, Some, length, IsOk, IfOk, OnOk};
 ghost use Rattle.mig_bytes.specs.Faults.{RisesOnReadFault};
 ghost use Rattle.mig_bytes.specs.Judged.{Gives};
 ghost use Rattle.mig_bytes_form.specs.Form.{judged_as};
@@ -13,12 +13,13 @@ ghost use Rattle.mig_legacy.specs.LegacyForm.{tail_of, tail_form, device_form};
 ghost use Rattle.mig_legacy.specs.Seen.{put_tail, put_device};
 ghost use Rattle.mig_legacy.specs.Stream.{device_at};
 
-use crate::body::{are_bytes, param_key, take_length};
+use crate::body::{param_key, take_length};
 use mig_bytes::{Memory, Source, Stop, take_long, take_part};
 use mig_guest::{EMULATOR_CONTEXT, Guest, PartKey};
 use mig_headers::{LegacyCause, MOST_BODY};
 use mig_hvm::{read_context, scan_context};
 use mig_libxl_form::Emulators;
+use mig_restore::are_bytes;
 use std::alloc::Global;
 
 /// The HVM parameters that are the frames of I/O requests, of buffered ones and of the store.

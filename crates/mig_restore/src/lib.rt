@@ -19,4 +19,5 @@ mod read;
 
 pub use answer::StreamAnswer;
 pub use body::take_entries;
+pub use page::are_bytes;
 pub use read::{Reading, read_image, read_image_rest};

@@ -8,7 +8,7 @@ use mig_pagetypes::PageType;
 use mig_restore_form::page_fault;
 
 /// Does nothing. That bytes are below 256 is what makes a guest that they are set in one of bytes.
-pub(crate) fn are_bytes(bytes: &[u8])
+pub fn are_bytes(bytes: &[u8])
     ensures { AreBytes bytes.now }
 {}
 

@@ -58,7 +58,8 @@ entry_grows g w bytes e all good is =
       entries = is.within;
     }) refl
 
-entries_grow : (kind : Kind) (top : ℕ) (ws bytes : List ℕ) (es : List FrameEntry) → AreBytes bytes → All (IsGoodWord kind top) ws → AreEntries kind top ws bytes es → (g : GuestOf) → kind ≡ g.kind → top ≡ g.top → Grows g (record g { frames = put_entries g.kind g.frames es })
+-- the entries of a PAGE_DATA leave a guest on its way
+pub entries_grow : (kind : Kind) (top : ℕ) (ws bytes : List ℕ) (es : List FrameEntry) → AreBytes bytes → All (IsGoodWord kind top) ws → AreEntries kind top ws bytes es → (g : GuestOf) → kind ≡ g.kind → top ≡ g.top → Grows g (record g { frames = put_entries g.kind g.frames es })
 entries_grow kind top [] bytes es all good (_, is) g k t = subst (λ l. Grows g (record g { frames = put_entries g.kind g.frames l })) (sym is) (grows_not g)
 entries_grow kind top (w ∷ ws) bytes es all good (page, rest, e, others, cut, is, first, more) g k t =
     let h : GuestOf = record g { frames = put_entry g.kind g.frames e } in
