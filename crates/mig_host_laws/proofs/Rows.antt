@@ -47,16 +47,28 @@ told_if : {A B : Type 0} (g : A → B) (b : Bool) (x : A) → cond b (Some (g x)
 told_if g true x = refl
 told_if g false x = refl
 
+-- what a frame of a list of P2M frames is, or isn't
+pub notab_is : (o : Option PageType) → not (is_notab o) ≡ true → o ≡ Some Notab → ⊥
+notab_is o h is = false≢true (sym (ap (λ t. not (is_notab t)) is) ∙ h)
+
+pub is_other : (o : Option PageType) → (o ≡ Some Notab → ⊥) → not (is_notab o) ≡ true
+is_other (Some Notab) h = absurd (h refl)
+is_other _ h = refl
+
+pub same_pfn : (pfn : ℕ) (o : Option ℕ) → is_this pfn o ≡ true → o ≡ Some pfn
+same_pfn pfn None h = cc
+same_pfn pfn (Some n) h = ap (λ m. Some m) (eqb-true n pfn h)
+
 -- some number of a range passes a test
 module _ (p : ℕ → Bool) where
-  some_passes : (a n : ℕ) → list_any p (range_with_len a n) ≡ true → (k : ℕ) × (a ≤ k) × (k < a + n) × (p k ≡ true)
+  pub some_passes : (a n : ℕ) → list_any p (range_with_len a n) ≡ true → (k : ℕ) × (a ≤ k) × (k < a + n) × (p k ≡ true)
   some_passes a zero any = cc
   some_passes a (suc n) any = elim (or_cases (p a) (list_any p (range_with_len (a + 1) n)) any) [
     | inl is ↦ (a, omega arith, omega arith, is)
     | inr rest ↦ let (k, le, lt, is) = some_passes (a + 1) n rest in (k, omega (arith, le), omega (arith, lt), is)
   ]
 
-  passes_some : (n k : ℕ) → k < n → p k ≡ true → list_any p (range_with_len 0 n) ≡ true
+  pub passes_some : (n k : ℕ) → k < n → p k ≡ true → list_any p (range_with_len 0 n) ≡ true
   passes_some n k lt is = list_any_at p (range_with_len 0 n) k 0 (omega (arith, lt, length-range_with_len 0 n)) (ap p (get_or-range_with_len 0 n k 0 lt ∙ omega arith) ∙ is)
 
 counted_list : (o : Option (List ℕ)) (k pfn : ℕ) → listed_in o k ≡ Some pfn → k < count_in o
@@ -295,17 +307,6 @@ module _ (s : Standing) where
   has_needed : (k slot : ℕ) → slot < 512 → IsSome (s.types (512 * k + slot)) → has_some s.types k ≡ true
   unfolding slots
   has_needed k slot lt is = passes_some (λ slot. is_some (s.types (512 * k + slot))) 512 slot lt is
-
-  notab_is : (o : Option PageType) → not (is_notab o) ≡ true → o ≡ Some Notab → ⊥
-  notab_is o h is = false≢true (sym (ap (λ t. not (is_notab t)) is) ∙ h)
-
-  is_other : (o : Option PageType) → (o ≡ Some Notab → ⊥) → not (is_notab o) ≡ true
-  is_other (Some Notab) h = absurd (h refl)
-  is_other _ h = refl
-
-  same_pfn : (pfn : ℕ) (o : Option ℕ) → is_this pfn o ≡ true → o ≡ Some pfn
-  same_pfn pfn None h = cc
-  same_pfn pfn (Some n) h = ap (λ m. Some m) (eqb-true n pfn h)
 
   -- what is listed at j is this PFN, and one of the ranges of j and k is needed
   abbrev again : ℕ → ℕ → ℕ → Bool

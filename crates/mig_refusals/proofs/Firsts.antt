@@ -1,23 +1,11 @@
 -- The least of what stands along a list: of a range of numbers what a search finds first, and of the entries of a map the
 -- first that has something.
-use Rattle.mig_refusals.proofs.Common.{◌≡◌, inl, inr, ℕ, zero, suc, ◌+◌, ◌<◌, ◌≤◌, Bool, true, Option, Some, ap, ◌∙◌, arith, or_cases, Cause, IsTriedBefore, find, list_any, range_with_len, option_map, IsTotalOrder, FinMap, IsAntisymmetric, Ordering, Less, list_any_at, length-range_with_len, get_or-range_with_len, number_of_cause, slots, field_numbers, first_some}
+use Rattle.mig_refusals.proofs.Common.{◌≡◌, ℕ, ◌<◌, Bool, Option, Some, Cause, IsTriedBefore, find, range_with_len, option_map, IsTotalOrder, FinMap, IsAntisymmetric, Ordering, Less, number_of_cause, slots, field_numbers, first_some}
 use Rattle.std.specs.FinMap as maps
 use Rattle.mig_host_laws.proofs.NamedFirst as named
 use Rattle.mig_refusals.proofs.Least.{Least}
 
 -- ---- in a range
-
--- some number passes a test
-module _ (p : ℕ → Bool) where
-  pub some_passes : (a n : ℕ) → list_any p (range_with_len a n) ≡ true → (k : ℕ) × (a ≤ k) × (k < a + n) × (p k ≡ true)
-  some_passes a zero any = cc
-  some_passes a (suc n) any = elim (or_cases (p a) (list_any p (range_with_len (a + 1) n)) any) [
-    | inl is ↦ (a, omega arith, omega arith, is)
-    | inr rest ↦ let (k, le, lt, is) = some_passes (a + 1) n rest in (k, omega (arith, le), omega (arith, lt), is)
-  ]
-
-  pub passes_some : (n k : ℕ) → k < n → p k ≡ true → list_any p (range_with_len 0 n) ≡ true
-  passes_some n k lt is = list_any_at p (range_with_len 0 n) k 0 (omega (arith, lt, length-range_with_len 0 n)) (ap p (get_or-range_with_len 0 n k 0 lt ∙ omega arith) ∙ is)
 
 module _ (p : ℕ → Bool) (place : ℕ → ℕ) (cause : ℕ → Cause) where
   -- each number below n that passes has its cause, at its place

@@ -14,7 +14,8 @@ use Rattle.mig_refusals.proofs.Least.{Least, answers_first, RowHas, Alone, alone
 use Rattle.mig_refusals.proofs.ContextEntries.{chain_reached, reached_chain, found_has, has_found}
 use Rattle.mig_refusals.proofs.LibxcHeads.{head_least}
 use Rattle.mig_refusals.proofs.PvTables.{table_least, info_least, p2m_least, vcpu_least}
-use Rattle.mig_refusals.proofs.Tests.{differs, is_missing, test_differs}
+use Rattle.mig_host_laws.proofs.Rows.{is_missing}
+use Rattle.mig_refusals.proofs.Tests.{differs, test_differs}
 use Rattle.mig_refusals.proofs.PvWhole.{pv_guest_least}
 
 -- ---- headers

@@ -1,12 +1,12 @@
 -- The causes that stand in a whole PV guest.
-use Rattle.mig_refusals.proofs.Common.{◌≡◌, ◌⊎◌, inl, inr, ℕ, ◌+◌, ◌*◌, ◌<◌, List, length, Bool, true, false, cond, not, nat_lt, is_none, is_some, Option, Some, None, refl, sym, ap, subst, ◌∙◌, arith, ltb-true, lt-ltb, false≢true, eqb-true, eq-eqb, and_parts, and_from, or_cases, or_left, or_right, Cause, ◌==◌, ◌&&◌, ◌||◌, IsSome, find, nat_cmp_total, ranked, nat_cmp-IsAntisymmetric, list_any, range_with_len, option_map, Less, number_of_cause, Missing, P2mFrame, TargetAbsent, VcpuFrame, most_frames, level_of, PageType, Notab, FrameOf, FrameMap, GuestOf, p2m_key, PartMap, entry, PartKey, part_exact, part_total, slots, field_numbers, is_notab, is_needed, is_this, is_misplaced, find_p2m, find_slot, find_entry, is_absent, misfits, find_field, count_in, listed, counted, PvGuestHas, rank_of, TooManyFrames, type_at}
+use Rattle.mig_refusals.proofs.Common.{◌≡◌, ◌⊎◌, inl, inr, ℕ, ◌+◌, ◌*◌, ◌<◌, List, length, Bool, true, false, cond, not, nat_lt, is_none, is_some, Option, Some, None, refl, sym, ap, subst, ◌∙◌, arith, ltb-true, lt-ltb, false≢true, eqb-true, eq-eqb, and_parts, and_from, or_cases, or_left, or_right, Cause, ◌==◌, ◌&&◌, ◌||◌, IsSome, find, nat_cmp_total, ranked, nat_cmp-IsAntisymmetric, list_any, range_with_len, option_map, Less, number_of_cause, Missing, P2mFrame, TargetAbsent, VcpuFrame, most_frames, level_of, Notab, FrameOf, FrameMap, GuestOf, p2m_key, PartMap, entry, PartKey, part_exact, part_total, slots, field_numbers, is_notab, is_needed, is_this, is_misplaced, find_p2m, find_slot, find_entry, is_absent, misfits, find_field, count_in, listed, counted, PvGuestHas, rank_of, TooManyFrames, type_at}
 use Rattle.std.specs.FinMap as maps
 use Rattle.mig_refusals.specs.LibxcPv.PvGuestHas.{other_type, listed_twice}
 use Rattle.mig_refusals.proofs.Least.{Least, Alone, alone_least, turned}
-use Rattle.mig_refusals.proofs.Tests.{is_missing}
 use Rattle.mig_host_laws.proofs.KeyRanks.{rank_lt}
 use Rattle.mig_host_laws.proofs.NamedFirst.{told_first, told_twice}
-use Rattle.mig_refusals.proofs.Firsts.{Sought, sought_least, slot_least, field_least, InEntries, Rises, entries_least, some_passes, passes_some}
+use Rattle.mig_host_laws.proofs.Rows.{is_missing, is_other, notab_is, passes_some, same_pfn, some_passes}
+use Rattle.mig_refusals.proofs.Firsts.{Sought, sought_least, slot_least, field_least, InEntries, Rises, entries_least}
 
 -- ---- causes that stand at one place
 
@@ -82,17 +82,6 @@ module _ (frames : FrameMap) (parts : PartMap) where
       (entries_least part_total part_exact MisfitAt parts parts_rise (λ e. option_map field_cause (look e)) (λ key context is. misfit_in key context (key.code == 4) refl))
 
 -- ---- P2M frames
-
-notab_is : (o : Option PageType) → not (is_notab o) ≡ true → o ≡ Some Notab → ⊥
-notab_is o h is = false≢true (sym (ap (λ t. not (is_notab t)) is) ∙ h)
-
-is_other : (o : Option PageType) → (o ≡ Some Notab → ⊥) → not (is_notab o) ≡ true
-is_other (Some Notab) h = absurd (h refl)
-is_other _ h = refl
-
-same_pfn : (pfn : ℕ) (o : Option ℕ) → is_this pfn o ≡ true → o ≡ Some pfn
-same_pfn pfn None h = cc
-same_pfn pfn (Some n) h = ap (λ m. Some m) (eqb-true n pfn h)
 
 module _ (frames : FrameMap) (parts : PartMap) where
   -- a PFN of the range of P2M frame k that has a frame

@@ -4,7 +4,7 @@ use Rattle.std.specs.FinMap as maps
 use Rattle.mig_refusals.specs.LibxcPv.PvGuestHas.{no_p2m, no_shared, no_vcpu, other_type, listed_twice, absent, field_misfits, many_frames}
 use Rattle.mig_refusals.proofs.Least.{Least, Alone, both_least, turned}
 use Rattle.mig_refusals.proofs.Firsts.{InEntries}
-use Rattle.mig_refusals.proofs.Tests.{is_missing}
+use Rattle.mig_host_laws.proofs.Rows.{is_missing}
 use Rattle.mig_refusals.proofs.UsedFields.{used_is, used_at, misfit_is, is_misfit}
 use Rattle.mig_refusals.proofs.PvGuests.{missing_least, many_least, AbsentAt, entries_are, MisfitAt, fields_are, P2mAt, p2m_are, misplaced_has, type_placed, twice_placed}
 

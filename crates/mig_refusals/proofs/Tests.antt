@@ -1,5 +1,5 @@
 -- Tests of numbers and of what may be missing, and what they say.
-use Rattle.mig_refusals.proofs.Common.{◌≡◌, ◌⊎◌, inl, inr, ℕ, true, not, nat_eq, is_none, Option, Some, None, refl, ap, eq-eqb, eqb-false, eqb-true, ne_eqb, not-true, or_cases, or_left, or_right, ◌||◌}
+use Rattle.mig_refusals.proofs.Common.{◌≡◌, ◌⊎◌, inl, inr, ℕ, true, not, nat_eq, ap, eq-eqb, eqb-false, eqb-true, ne_eqb, not-true, or_cases, or_left, or_right, ◌||◌}
 
 pub differs : (n m : ℕ) → not (nat_eq n m) ≡ true → n ≡ m → ⊥
 differs n m h = eqb-false n m (not-true _ h)
@@ -13,7 +13,3 @@ one_of n a b h = elim (or_cases _ _ h) [ inl e ↦ inl (eqb-true _ _ e) | inr e 
 pub is_one : (n a b : ℕ) → (n ≡ a) ⊎ (n ≡ b) → (nat_eq n a || nat_eq n b) ≡ true
 is_one n a b (inl e) = or_left _ _ (eq-eqb _ _ e)
 is_one n a b (inr e) = or_right _ _ (eq-eqb _ _ e)
-
-pub is_missing : {X : Type 0} (o : Option X) → is_none o ≡ true → o ≡ None
-is_missing None h = refl
-is_missing (Some x) h = cc
