@@ -249,20 +249,15 @@ set_in kind width g k key bytes bare is = is ∙ ap (λ (x : GuestOf). record x 
 
 module _ (m : PartMap) (after : Option PartKey) (key : PartKey) (next : IsNextKey m after key) (kind : Kind) (width : ℕ) (g k : GuestOf) (bare : g ≡ parts_alone kind width g.parts)
     (set : IfSome (maps.get m key) (λ bytes. k ≡ record g { parts = maps.insert g.parts key bytes })) where
-  pub copies_one : (codes : ℕ → Bool) → codes key.code ≡ true → Copied codes m after g.parts → (k ≡ parts_alone kind width k.parts) × Copied codes m (Some key) k.parts
-  copies_one codes of copied = by (maps.get m key) refl next.there set
+  set_one : (P : PartMap → Type 0) → ((bytes : List ℕ) → maps.get m key ≡ Some bytes → P (maps.insert g.parts key bytes)) → (k ≡ parts_alone kind width k.parts) × P k.parts
+  set_one P go = by (maps.get m key) refl next.there set
     where
-      by : (o : Option (List ℕ)) → maps.get m key ≡ o → IsSome o → IfSome o (λ bytes. k ≡ record g { parts = maps.insert g.parts key bytes }) → (k ≡ parts_alone kind width k.parts) × Copied codes m (Some key) k.parts
+      by : (o : Option (List ℕ)) → maps.get m key ≡ o → IsSome o → IfSome o (λ bytes. k ≡ record g { parts = maps.insert g.parts key bytes }) → (k ≡ parts_alone kind width k.parts) × P k.parts
       by None at some is = absurd (cc)
-      by (Some bytes) at some is =
-          let whole = set_in kind width g k key bytes bare is in
-          (bare_from kind width k _ whole, subst (Copied codes m (Some key)) (sym (ap (λ (x : GuestOf). x.parts) is)) (copied_one codes m after key next g.parts copied bytes of at))
+      by (Some bytes) at some is = (bare_from kind width k _ (set_in kind width g k key bytes bare is), subst P (sym (ap (λ (x : GuestOf). x.parts) is)) (go bytes at))
+
+  pub copies_one : (codes : ℕ → Bool) → codes key.code ≡ true → Copied codes m after g.parts → (k ≡ parts_alone kind width k.parts) × Copied codes m (Some key) k.parts
+  copies_one codes of copied = set_one (Copied codes m (Some key)) (λ bytes at. copied_one codes m after key next g.parts copied bytes of at)
 
   pub refreshes_one : is_setting key.code ≡ true → Refreshed m after g.parts → (k ≡ parts_alone kind width k.parts) × Refreshed m (Some key) k.parts
-  refreshes_one of refreshed = by (maps.get m key) refl next.there set
-    where
-      by : (o : Option (List ℕ)) → maps.get m key ≡ o → IsSome o → IfSome o (λ bytes. k ≡ record g { parts = maps.insert g.parts key bytes }) → (k ≡ parts_alone kind width k.parts) × Refreshed m (Some key) k.parts
-      by None at some is = absurd (cc)
-      by (Some bytes) at some is =
-          let whole = set_in kind width g k key bytes bare is in
-          (bare_from kind width k _ whole, subst (Refreshed m (Some key)) (sym (ap (λ (x : GuestOf). x.parts) is)) (refreshed_one m after key next g.parts refreshed bytes of at))
+  refreshes_one of refreshed = set_one (Refreshed m (Some key)) (λ bytes at. refreshed_one m after key next g.parts refreshed bytes of at)

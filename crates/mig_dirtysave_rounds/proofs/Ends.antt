@@ -11,11 +11,9 @@ use Rattle.mig_dirtysave_rounds.proofs.Firsts.{first_none, first_same, super_is,
 use Rattle.mig_dirtysave_rounds.proofs.Parts.{members_below, joined_below}
 use Rattle.mig_dirtysave_rounds.proofs.Steps.{current_on, told_alike}
 use Rattle.mig_dirtysave_rounds.proofs.Saves.{front_all, rest_gone, taken_after, even, no_members, size_none}
+use Rattle.std.proofs.lemmas.Bool.{or_parts}
 use Rattle.std.specs.FinMap as fin
 use Rattle.mig_guest.specs.Hosts as hosts
-
-differ : false ≡ true → ⊥
-differ e = cc
 
 -- ---- the frames in the end
 
@@ -30,10 +28,6 @@ formed frames q = get_each nat_cmp_total nat_cmp-IsAntisymmetric (λ _ (k : Host
 print_type : (frames : HostFrames) (o : Option HostFrame) → type_of_print (option_map (footprint_of frames) o) ≡ option_map (λ (k : HostFrame). k.type) o
 print_type frames None = refl
 print_type frames (Some k) = refl
-
-neither : (a b : Bool) → (a || b) ≡ false → (a ≡ false) × (b ≡ false)
-neither true b h = (h, absurd (differ (sym h)))
-neither false b h = (refl, h)
 
 -- how many PFNs were read before the last ones
 pub even_last : (s t u : MachineState) (set log : Pfns) (sent : List FrameTold) (notes : Notes) → s.history.since ≡ nothing_asked → Paused s t → LogTaken log t u → LiveSent s set sent notes
@@ -62,6 +56,20 @@ pub both_below : (s t u : MachineState) (set log deferred both : Pfns) → Pause
 both_below s t u set log deferred both paused took are in_set in_deferred =
     let in_log : IsBelow s.host.width log = let P : ℕ → Type 0 = λ n. IsBelow n log in subst P paused.ran.shape.width took.below in
     subst (λ (x : Pfns). IsBelow s.host.width x) (sym are) (joined_below s.host.width (joined set log) deferred (joined_below s.host.width set log in_set in_log) in_deferred)
+
+-- the set is what it was with the log, and then with what is deferred
+pub last_reads : {s t u v : MachineState} {set log deferred more both : Pfns} → Paused s t → LogTaken log t u → both ≡ joined more deferred → more ≡ joined set log → IsBelow s.host.width set → IsBelow s.host.width deferred
+    → ReadsFront u.host.width both u v → Last s t u v set log deferred both
+last_reads {s = s} {t = t} {u = u} {v = v} {set = set} {log = log} {deferred = deferred} {both = both} paused took added more in_set in_deferred reads =
+    let are : both ≡ joined (joined set log) deferred = added ∙ ap (λ (x : Pfns). joined x deferred) more in
+    let Reads : ℕ → Type 0 = λ n. ReadsFront n both u v in
+    record {
+      paused = paused;
+      took = took;
+      are = are;
+      below = both_below s t u set log deferred both paused took are in_set in_deferred;
+      reads = subst Reads (took.ran.shape.width ∙ paused.ran.shape.width) reads;
+    }
 
 module _ (rounds : ℕ) (s t u v : MachineState) (set log : Pfns) (notes : Notes) (both : Pfns) (ended : Ended rounds s set) (l : Last s t u v set log notes.deferred both) where
   kind : v.host.kind ≡ s.host.kind
@@ -143,14 +151,14 @@ module _ (rounds : ℕ) (s t u v : MachineState) (set log : Pfns) (notes : Notes
     current h =
         let live : t.honest ≡ true = l.paused.ran.honest ∙ was h in
         current_on set (joined set log) s.log no_pfns notes s.host.frames u.host.frames before (λ q r _.
-        let (a, b) = neither (set q) (log q) r in
+        let (a, b) = or_parts (set q) (log q) r in
         let calm : t.log q ≡ false = l.took.ran.grown q b in
         (a, l.paused.ran.grown q calm, l.took.ran.quiet live q b ∙ l.paused.ran.quiet (was h) q calm)) (sent.current (was h))
 
     fewer : v.honest ≡ true → Current both no_pfns u.host.frames before notes
     fewer h =
         current_on (joined set log) both no_pfns no_pfns notes u.host.frames u.host.frames before
-        (λ q r c. ((neither (joined set log q) (notes.deferred q) (sym (ap (λ (p : Pfns). p q) l.are) ∙ r)).0, refl, refl)) (current h)
+        (λ q r c. ((or_parts (joined set log q) (notes.deferred q) (sym (ap (λ (p : Pfns). p q) l.are) ∙ r)).0, refl, refl)) (current h)
 
     same_host : v.host ≡ u.host
     same_host = l.reads.stopped last_paused
@@ -165,7 +173,7 @@ module _ (rounds : ℕ) (s t u v : MachineState) (set log : Pfns) (notes : Notes
     unread_good h q out calm = ap (λ (x : HostOf). is_deferred (judged (footprint x.frames q))) same_host ∙ sym ((current h).kept q out refl) ∙ calm
 
     outside_good : v.honest ≡ true → (q : ℕ) → both q ≡ false → is_deferred (judged (footprint v.host.frames q)) ≡ false
-    outside_good h q out = let (a, b) = neither (joined set log q) (notes.deferred q) (sym (ap (λ (p : Pfns). p q) l.are) ∙ out) in unread_good h q a b
+    outside_good h q out = let (a, b) = or_parts (joined set log q) (notes.deferred q) (sym (ap (λ (p : Pfns). p q) l.are) ∙ out) in unread_good h q a b
 
     inside_good : worst_fault worst ≡ None → (q : ℕ) → both q ≡ true → is_deferred (judged (footprint v.host.frames q)) ≡ false
     inside_good none q inside =

@@ -1,5 +1,5 @@
 -- What is read of one number.
-use Rattle.mig_dirtysave_rounds.proofs.Common.{arith, ◌≡◌, ℕ, ◌-◌, ◌≤◌, List, length, Bool, true, false, cond, Option, Some, None, Result, Ok, Err, refl, sym, ap, subst, ◌∙◌, IfOk, option_map, Kind, Pv, Hvm, PageType, Notab, L1Tab, L2Tab, L3Tab, L4Tab, L1Pinned, L2Pinned, L3Pinned, L4Pinned, Broken, Xalloc, Xtab, level_of, type_has_data, FrameOf, HostFrame, HostFrames, HostOf, EachEntry, IsWithin, History, MachineState, IsValidState, Peeked, footprint, footprint_of, table_in, names_in, superpage_in, lost_in, form_page, Finding, judge, judged, found_as, frame_sent, NamesWithin, CanBeTold, Shows, Looks, IsRaw, IsRight, ReadsOne, most_calls}
+use Rattle.mig_dirtysave_rounds.proofs.Common.{arith, ◌≡◌, ℕ, ◌-◌, ◌≤◌, List, length, Bool, true, false, cond, Option, Some, None, Result, Ok, Err, refl, sym, ap, subst, ◌∙◌, IfOk, option_map, Kind, Pv, Hvm, PageType, Notab, Broken, Xalloc, level_of, type_has_data, FrameOf, HostFrame, HostFrames, HostOf, EachEntry, IsWithin, History, MachineState, IsValidState, Peeked, footprint, footprint_of, table_in, names_in, superpage_in, lost_in, form_page, Finding, judge, judged, found_as, frame_sent, NamesWithin, CanBeTold, Shows, Looks, IsRaw, IsRight, ReadsOne, most_calls}
 use Rattle.std.specs.Prelude.{unwrap_or, is_some}
 use Rattle.mig_guest.specs.Frames.{is_type_of}
 use Rattle.mig_guest.specs.Hosts.{IsHostFrame}
@@ -76,15 +76,7 @@ no_table Pv type level of is = refl
 no_table Hvm Notab level of is = absurd (let no : ◌≡◌ {A = Option ℕ} None (Some level) = is in cc)
 no_table Hvm Broken level of is = absurd (let no : ◌≡◌ {A = Option ℕ} None (Some level) = is in cc)
 no_table Hvm Xalloc level of is = absurd (let no : ◌≡◌ {A = Option ℕ} None (Some level) = is in cc)
-no_table Hvm Xtab level of is = absurd (let no : false ≡ true = of in cc)
-no_table Hvm L1Tab level of is = absurd (let no : false ≡ true = of in cc)
-no_table Hvm L2Tab level of is = absurd (let no : false ≡ true = of in cc)
-no_table Hvm L3Tab level of is = absurd (let no : false ≡ true = of in cc)
-no_table Hvm L4Tab level of is = absurd (let no : false ≡ true = of in cc)
-no_table Hvm L1Pinned level of is = absurd (let no : false ≡ true = of in cc)
-no_table Hvm L2Pinned level of is = absurd (let no : false ≡ true = of in cc)
-no_table Hvm L3Pinned level of is = absurd (let no : false ≡ true = of in cc)
-no_table Hvm L4Pinned level of is = absurd (let no : false ≡ true = of in cc)
+no_table Hvm _ level of is = absurd (let no : false ≡ true = of in cc)
 
 pub many_calls : (t : MachineState) (p : ℕ) (kind : PageType) (level : ℕ) (page old : List ℕ) → IsValidState t → level_of kind ≡ Some level
     → ◌≡◌ {A = Seen} (seen.Frame kind) (seen_at t.host.frames p) → page ≡ page_peeked t.host.frames p old → most_calls t.host.kind ≡ 513

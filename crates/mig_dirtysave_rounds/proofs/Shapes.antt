@@ -1,8 +1,11 @@
 -- What stays the same of a machine, from call to call.
-use Rattle.mig_dirtysave_rounds.proofs.Common.{◌∙◌, ℕ, HostOf, Pfns, MachineState, Ran, ReadsFront, KeepsShape}
+use Rattle.mig_dirtysave_rounds.proofs.Common.{◌∙◌, refl, ℕ, HostOf, Pfns, MachineState, Ran, ReadsFront, KeepsShape}
 use Rattle.mig_guest.specs.MachineStates.{IsSameShape}
 
-shape_on : (g h k : HostOf) → IsSameShape g h → IsSameShape h k → IsSameShape g k
+pub shape_none : (h : HostOf) → IsSameShape h h
+shape_none h = record { kind = refl; width = refl; lengths = λ key. refl; fixed = λ key is. refl }
+
+pub shape_on : (g h k : HostOf) → IsSameShape g h → IsSameShape h k → IsSameShape g k
 shape_on g h k a b = record {
   kind = b.kind ∙ a.kind;
   width = b.width ∙ a.width;

@@ -12,6 +12,7 @@ use Rattle.mig_dirtysave_rounds.specs.Sends.{first_pfn, found_super, found_lost}
 use Rattle.mig_dirtysave_rounds.proofs.Parts.{nothing_before, front_more, front_skip, not_itself, rest_more, rest_skip, rest_all, skip_to}
 use Rattle.mig_guest.proofs.Sizes.{members_yes, members_no}
 use Rattle.mig_dirtysave_rounds.proofs.Sizes.{size_front, one_more_at_most}
+use Rattle.mig_dirtysave_rounds.proofs.Shapes.{shape_none, shape_on}
 use Rattle.std.specs.FinMap as fin
 use Rattle.mig_dirtysave_rounds.specs.declared.found.Found.TheVariants as found
 
@@ -55,34 +56,19 @@ module _ (unread fewer log newer : Pfns) (notes : Notes) (frames after : HostFra
       differ : q ≡ p → ⊥
       differ is = grind (arith, nat_tests)
 
-  same_at : (q : ℕ) → fewer q ≡ false → newer q ≡ false → (b : Bool) → (q == p) ≡ b → fin.get (meant (es ++ entry_for p j ∷ [])) q ≡ frame_sent (judged (footprint after q))
-  same_at q done calm true e =
+  -- what g tells of the finding at each number, where it told what is right of those that were sent before
+  one_at : {X : Type 0} (g : Finding → X) (old : ℕ → X) → ((q : ℕ) → unread q ≡ false → log q ≡ false → old q ≡ g (judged (footprint frames q)))
+      → (q : ℕ) → fewer q ≡ false → newer q ≡ false → (b : Bool) → (q == p) ≡ b → cond (q == p) (g j) (old q) ≡ g (judged (footprint after q))
+  one_at g old was q done calm true e =
       let is : q ≡ p = eqb-true q p e in
-      meant_more es p (frame_sent j) q ∙ ap (λ b. cond b (frame_sent j) (fin.get (meant es) q)) e ∙ ap frame_sent (right (subst (λ n. newer n ≡ false) is calm))
-      ∙ ap (λ n. frame_sent (judged (footprint after n))) (sym is)
-  same_at q done calm false e =
-      meant_more es p (frame_sent j) q ∙ ap (λ b. cond b (frame_sent j) (fin.get (meant es) q)) e ∙ c.same q (seen q done e) (quiet.grown q calm)
-      ∙ ap (λ f. frame_sent (judged f)) (sym (quiet.same q calm))
-
-  kept_at : (q : ℕ) → fewer q ≡ false → newer q ≡ false → (b : Bool) → (q == p) ≡ b → (noted p j notes).deferred q ≡ is_deferred (judged (footprint after q))
-  kept_at q done calm true e =
-      let is : q ≡ p = eqb-true q p e in
-      ap (λ b. cond b (is_deferred j) (notes.deferred q)) e ∙ ap is_deferred (right (subst (λ n. newer n ≡ false) is calm)) ∙ ap (λ n. is_deferred (judged (footprint after n))) (sym is)
-  kept_at q done calm false e =
-      ap (λ b. cond b (is_deferred j) (notes.deferred q)) e ∙ c.kept q (seen q done e) (quiet.grown q calm) ∙ ap (λ f. is_deferred (judged f)) (sym (quiet.same q calm))
-
-  type_at : (q : ℕ) → fewer q ≡ false → newer q ≡ false → (b : Bool) → (q == p) ≡ b → (noted p j notes).types q ≡ type_of_print (footprint after q)
-  type_at q done calm true e =
-      let is : q ≡ p = eqb-true q p e in
-      ap (λ b. cond b (type_found j) (notes.types q)) e ∙ ap type_found (right (subst (λ n. newer n ≡ false) is calm)) ∙ type_right (footprint after p)
-      ∙ ap (λ n. type_of_print (footprint after n)) (sym is)
-  type_at q done calm false e = ap (λ b. cond b (type_found j) (notes.types q)) e ∙ c.types q (seen q done e) (quiet.grown q calm) ∙ ap type_of_print (sym (quiet.same q calm))
+      ap (λ b. cond b (g j) (old q)) e ∙ ap g (right (subst (λ n. newer n ≡ false) is calm)) ∙ ap (λ n. g (judged (footprint after n))) (sym is)
+  one_at g old was q done calm false e = ap (λ b. cond b (g j) (old q)) e ∙ was q (seen q done e) (quiet.grown q calm) ∙ ap (λ f. g (judged f)) (sym (quiet.same q calm))
 
   pub current_more : Current fewer newer after (es ++ entry_for p j ∷ []) (noted p j notes)
   current_more = record {
-    same = λ q done calm. same_at q done calm (q == p) refl;
-    kept = λ q done calm. kept_at q done calm (q == p) refl;
-    types = λ q done calm. type_at q done calm (q == p) refl;
+    same = λ q done calm. meant_more es p (frame_sent j) q ∙ one_at frame_sent (λ q. fin.get (meant es) q) c.same q done calm (q == p) refl;
+    kept = λ q done calm. one_at is_deferred notes.deferred c.kept q done calm (q == p) refl;
+    types = λ q done calm. one_at type_found notes.types (λ q r l. c.types q r l ∙ sym (type_right (footprint frames q))) q done calm (q == p) refl ∙ type_right (footprint after q);
   }
 
 -- nothing was sent
@@ -146,7 +132,7 @@ worst_sends i set frames w v f page inside right super lost h = record {
 
 pub reads_start : (set : Pfns) (s : MachineState) → s.history.since ≡ nothing_asked → ReadsFront 0 set s s
 reads_start set s fresh = record {
-  shape = record { kind = refl; width = refl; lengths = λ key. refl; fixed = λ key is. refl };
+  shape = shape_none s.host;
   honest = refl;
   paused = refl;
   stopped = λ h. refl;
@@ -178,12 +164,7 @@ few_calls Hvm n le = omega arith
 
 pub reads_more : (set : Pfns) (i : ℕ) (s t u : MachineState) (j : Finding) → set i ≡ true → i < 2 ^ 28 → ReadsFront i set s t → ReadsOne i t u j → ReadsFront (i + 1) set s u
 reads_more set i s t u j inside small f one = record {
-  shape = record {
-    kind = one.ran.shape.kind ∙ f.shape.kind;
-    width = one.ran.shape.width ∙ f.shape.width;
-    lengths = λ key. one.ran.shape.lengths key ∙ f.shape.lengths key;
-    fixed = λ key is. one.ran.shape.fixed key is ∙ f.shape.fixed key is;
-  };
+  shape = shape_on s.host t.host u.host f.shape one.ran.shape;
   honest = one.ran.honest ∙ f.honest;
   paused = one.paused ∙ f.paused;
   stopped = λ h. one.ran.stopped (f.paused ∙ h) ∙ f.stopped h;

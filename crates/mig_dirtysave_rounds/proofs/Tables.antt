@@ -1,5 +1,5 @@
 -- A table that is settled has kept its footprint, so names looked up at different moments belong together.
-use Rattle.mig_dirtysave_rounds.proofs.Common.{arith, ◌≡◌, ℕ, ◌+◌, ◌-◌, ◌≤◌, ◌<◌, List, length, Bool, true, false, Option, Some, None, cond, refl, sym, ap, subst, ◌∙◌, inl, inr, option_map, PageType, Notab, L1Tab, L2Tab, L3Tab, L4Tab, L1Pinned, L2Pinned, L3Pinned, L4Pinned, Broken, Xalloc, Xtab, level_of, type_has_data, HostFrame, HostFrames, MachineState, Ran, Frame, FrameOf, long_at, entry, blanked_table, EachEntry, IsWithin, renamed_by, first_superpage, ChangedBelow, no_slot, Footprint, footprint, footprint_of, names_in, table_in, lost_at, is_lost, superpage_in, lost_in, form_page, judge, judged, found_as, frame_sent, NamesWithin, Shows, Looks, IsRaw, IsRenamed, IsRight, put_slot}
+use Rattle.mig_dirtysave_rounds.proofs.Common.{arith, ◌≡◌, ℕ, ◌+◌, ◌-◌, ◌≤◌, ◌<◌, List, length, true, false, Option, Some, None, cond, refl, sym, ap, subst, ◌∙◌, inl, inr, option_map, PageType, Broken, Xalloc, Xtab, level_of, type_has_data, HostFrame, HostFrames, MachineState, Ran, Frame, FrameOf, long_at, entry, blanked_table, EachEntry, IsWithin, renamed_by, first_superpage, ChangedBelow, no_slot, Footprint, footprint, footprint_of, names_in, table_in, lost_at, is_lost, superpage_in, lost_in, form_page, judge, judged, found_as, frame_sent, NamesWithin, Shows, Looks, IsRaw, IsRenamed, IsRight, put_slot}
 use Rattle.std.proofs.Common.{◌==◌, eq-eqb, ne_eqb, below_more}
 use Rattle.std.specs.Prelude.{option_and_then, get_or}
 use Rattle.mig_guest.specs.Hosts.{pfn_in}
@@ -8,6 +8,7 @@ use Rattle.mig_pvtables.proofs.LongSteps.{walk_start}
 use Rattle.mig_guest.specs.Footprints.{named_by}
 use Rattle.mig_dirtysave_rounds.specs.Step.{Settled, raw_print, NameIsInside}
 use Rattle.mig_dirtysave_rounds.proofs.Slots.{formed_long, same_long, names_alike, same_names, put_step, table_formed, entries_within}
+use Rattle.mig_dirtysave_rounds.proofs.Shapes.{shape_none, shape_on}
 use Rattle.std.specs.FinMap as maps
 use Rattle.mig_pvtables.proofs.Slots as searches
 use Rattle.mig_dirtysave_rounds.specs.declared.found.Found.TheVariants as found
@@ -26,7 +27,7 @@ settled_same s t p ran stays (inr still) = ap (λ h. footprint h.frames p) (ran.
 
 pub ran_none : (s : MachineState) → Ran s s s.log
 ran_none s = record {
-  shape = record { kind = refl; width = refl; lengths = λ key. refl; fixed = λ key is. refl };
+  shape = shape_none s.host;
   honest = refl;
   grown = λ p calm. calm;
   quiet = λ h p calm. refl;
@@ -35,12 +36,7 @@ ran_none s = record {
 
 pub ran_on : (s t u : MachineState) → Ran s t t.log → t.paused ≡ s.paused → Ran t u u.log → Ran s u u.log
 ran_on s t u a stays b = record {
-  shape = record {
-    kind = b.shape.kind ∙ a.shape.kind;
-    width = b.shape.width ∙ a.shape.width;
-    lengths = λ key. b.shape.lengths key ∙ a.shape.lengths key;
-    fixed = λ key is. b.shape.fixed key is ∙ a.shape.fixed key is;
-  };
+  shape = shape_on s.host t.host u.host a.shape b.shape;
   honest = b.honest ∙ a.honest;
   grown = λ p calm. a.grown p (b.grown p calm);
   quiet = λ h p calm. b.quiet (a.honest ∙ h) p calm ∙ a.quiet h p (b.grown p calm);
@@ -206,26 +202,11 @@ judged_table t p kind level before is r none settled =
     ∙ ap (λ l. judge (superpage_in (table_in l (Some before))) (lost_in (table_in l (Some before)) names) (record { type = kind; page = form_page (table_in l (Some before)) names (Some before) })) is
     ∙ ap (λ s. judge s (lost_in (Some (level, before)) names) (record { type = kind; page = Some (renamed_by names level (blanked_table level before)) })) none
 
-no_level : (kind : PageType) (level : ℕ) → level_of kind ≡ Some level → type_has_data kind ≡ false → ⊥
-no_level Notab level is e = let no : ◌≡◌ {A = Option ℕ} None (Some level) = is in cc
-no_level Broken level is e = let no : ◌≡◌ {A = Option ℕ} None (Some level) = is in cc
-no_level Xalloc level is e = let no : ◌≡◌ {A = Option ℕ} None (Some level) = is in cc
-no_level Xtab level is e = let no : ◌≡◌ {A = Option ℕ} None (Some level) = is in cc
-no_level L1Tab level is e = let no : true ≡ false = e in cc
-no_level L2Tab level is e = let no : true ≡ false = e in cc
-no_level L3Tab level is e = let no : true ≡ false = e in cc
-no_level L4Tab level is e = let no : true ≡ false = e in cc
-no_level L1Pinned level is e = let no : true ≡ false = e in cc
-no_level L2Pinned level is e = let no : true ≡ false = e in cc
-no_level L3Pinned level is e = let no : true ≡ false = e in cc
-no_level L4Pinned level is e = let no : true ≡ false = e in cc
-
 pub data_of : (kind : PageType) (level : ℕ) → level_of kind ≡ Some level → type_has_data kind ≡ true
-data_of kind level is = go (type_has_data kind) refl
-  where
-    go : (b : Bool) → type_has_data kind ≡ b → b ≡ true
-    go true e = refl
-    go false e = absurd (no_level kind level is e)
+data_of Broken level is = let no : ◌≡◌ {A = Option ℕ} None (Some level) = is in cc
+data_of Xalloc level is = let no : ◌≡◌ {A = Option ℕ} None (Some level) = is in cc
+data_of Xtab level is = let no : ◌≡◌ {A = Option ℕ} None (Some level) = is in cc
+data_of _ level is = refl
 
 pub judged_whole : (t : MachineState) (p : ℕ) (kind : PageType) (level : ℕ) (before page : List ℕ) → level_of kind ≡ Some level → IsRaw t p kind level before
     → first_superpage level before ≡ None → IsRenamed t p level before page None → IsRight t p (found_as (found.Shows kind) page)

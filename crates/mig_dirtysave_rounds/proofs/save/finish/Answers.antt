@@ -1,10 +1,10 @@
-use Rattle.mig_dirtysave_rounds.proofs.Common.{◌≡◌, ℕ, sym, ap, subst, ◌∙◌, IsBehind, Pfns, joined, pfns_of_words, History, Since, notes_of, IsBelow, entries_read, ReadsFront, SendsFront, IsWorst}
+use Rattle.mig_dirtysave_rounds.proofs.Common.{◌≡◌, ℕ, sym, ap, subst, ◌∙◌, IsBehind, Pfns, joined, pfns_of_words, History, Since, notes_of, IsBelow, entries_read, SendsFront, IsWorst}
 use Rattle.mig_dirtysave_rounds.specs.Live.{SendsLast}
 use Rattle.mig_dirtysave_rounds.proofs.Shapes.{stays_on, ran_stays}
 use Rattle.mig_dirtysave_rounds.proofs.Steps.{on_err}
 use Rattle.mig_dirtysave_rounds.proofs.Saves.{behind_unread, on_ok, if_both, if_three, err_on}
 use Rattle.mig_dirtysave_rounds.proofs.Firsts.{worst_stands}
-use Rattle.mig_dirtysave_rounds.proofs.Ends.{both_below, saved, saved_sent, counted_last, even_last}
+use Rattle.mig_dirtysave_rounds.proofs.Ends.{last_reads, both_below, saved, saved_sent, counted_last, even_last}
 use Rattle.mig_dirtysave_rounds.proofs.save.finish.Goals as goal
 
 pub returns-in_err-stop-clause-behind : goal.returns-in_err-stop-clause-behind
@@ -31,43 +31,19 @@ send_all-requires-clause-below g c =
 
 pub returns-clause-below : goal.returns-clause-below
 returns-clause-below g c =
-    let are : pfns_of_words c.join.new.words ≡ joined (joined (pfns_of_words c.args.set.now) (pfns_of_words c.take_more.new.log)) (pfns_of_words c.args.deferred.now)
-    = c.join.ensures ∙ ap (λ (x : Pfns). joined x (pfns_of_words c.args.deferred.now)) c.in_ok-take_more.ensures.set in
-    let below = both_below _ _ _ _ _ _ _ c.in_ok-stop.ensures.ok c.in_ok-take_more.ensures.ok are c.requires.below c.requires.noted in
     let P : ℕ → Type 0 = λ n. IsBelow n (pfns_of_words c.join.new.words) in
-    let width = c.in_ok-take_more.ensures.ok.ran.shape.width ∙ c.in_ok-stop.ensures.ok.ran.shape.width in
-    on_ok c.send_all.result (λ reads. subst P (sym (reads.shape.width ∙ width)) below) c.send_all.ensures.reads
+    on_ok c.send_all.result (λ reads. subst P (sym (reads.shape.width ∙ c.in_ok-take_more.ensures.ok.ran.shape.width ∙ c.in_ok-stop.ensures.ok.ran.shape.width)) (last_reads c.in_ok-stop.ensures.ok c.in_ok-take_more.ensures.ok c.join.ensures c.in_ok-take_more.ensures.set c.requires.below c.requires.noted reads).below) c.send_all.ensures.reads
 
 pub returns-clause-saved : goal.returns-clause-saved
-returns-clause-saved g c =
-    let notes = notes_of c.args.deferred.now c.args.types.now in
-    let are : pfns_of_words c.join.new.words ≡ joined (joined (pfns_of_words c.args.set.now) (pfns_of_words c.take_more.new.log)) notes.deferred
-    = c.join.ensures ∙ ap (λ (x : Pfns). joined x notes.deferred) c.in_ok-take_more.ensures.set in
-    let below = both_below _ _ _ _ _ _ _ c.in_ok-stop.ensures.ok c.in_ok-take_more.ensures.ok are c.requires.below c.requires.noted in
-    let width = c.in_ok-take_more.ensures.ok.ran.shape.width ∙ c.in_ok-stop.ensures.ok.ran.shape.width in
-    let Reads : ℕ → Type 0 = λ n. ReadsFront n (pfns_of_words c.join.new.words) (g.M.Machine.state c.take_more.new.machine) (g.M.Machine.state c.send_all.new.machine) in
-    on_ok c.send_all.result (λ reads. saved _ _ _ _ _ _ _ notes _ c.requires.ended
-    (record { paused = c.in_ok-stop.ensures.ok; took = c.in_ok-take_more.ensures.ok; are = are; below = below; reads = subst Reads width reads })) c.send_all.ensures.reads
+returns-clause-saved g c = on_ok c.send_all.result (λ reads. saved _ _ _ _ _ _ _ (notes_of c.args.deferred.now c.args.types.now) _ c.requires.ended (last_reads c.in_ok-stop.ensures.ok c.in_ok-take_more.ensures.ok c.join.ensures c.in_ok-take_more.ensures.set c.requires.below c.requires.noted reads)) c.send_all.ensures.reads
 
 pub returns-clause-read : goal.returns-clause-read
-returns-clause-read g c =
-    let notes = notes_of c.args.deferred.now c.args.types.now in
-    let are : pfns_of_words c.join.new.words ≡ joined (joined (pfns_of_words c.args.set.now) (pfns_of_words c.take_more.new.log)) notes.deferred
-    = c.join.ensures ∙ ap (λ (x : Pfns). joined x notes.deferred) c.in_ok-take_more.ensures.set in
-    let below = both_below _ _ _ _ _ _ _ c.in_ok-stop.ensures.ok c.in_ok-take_more.ensures.ok are c.requires.below c.requires.noted in
-    let width = c.in_ok-take_more.ensures.ok.ran.shape.width ∙ c.in_ok-stop.ensures.ok.ran.shape.width in
-    let Reads : ℕ → Type 0 = λ n. ReadsFront n (pfns_of_words c.join.new.words) (g.M.Machine.state c.take_more.new.machine) (g.M.Machine.state c.send_all.new.machine) in
-    on_ok c.send_all.result (λ reads. counted_last _ _ _ _ _ _ _ notes _ c.requires.ended
-    (record { paused = c.in_ok-stop.ensures.ok; took = c.in_ok-take_more.ensures.ok; are = are; below = below; reads = subst Reads width reads })) c.send_all.ensures.reads
+returns-clause-read g c = on_ok c.send_all.result (λ reads. counted_last _ _ _ _ _ _ _ (notes_of c.args.deferred.now c.args.types.now) _ c.requires.ended (last_reads c.in_ok-stop.ensures.ok c.in_ok-take_more.ensures.ok c.join.ensures c.in_ok-take_more.ensures.set c.requires.below c.requires.noted reads)) c.send_all.ensures.reads
 
 pub returns-clause-sent : goal.returns-clause-sent
 returns-clause-sent g c =
     let notes = notes_of c.args.deferred.now c.args.types.now in
-    let are : pfns_of_words c.join.new.words ≡ joined (joined (pfns_of_words c.args.set.now) (pfns_of_words c.take_more.new.log)) notes.deferred
-    = c.join.ensures ∙ ap (λ (x : Pfns). joined x notes.deferred) c.in_ok-take_more.ensures.set in
-    let below = both_below _ _ _ _ _ _ _ c.in_ok-stop.ensures.ok c.in_ok-take_more.ensures.ok are c.requires.below c.requires.noted in
     let width = c.in_ok-take_more.ensures.ok.ran.shape.width ∙ c.in_ok-stop.ensures.ok.ran.shape.width in
-    let Reads : ℕ → Type 0 = λ n. ReadsFront n (pfns_of_words c.join.new.words) (g.M.Machine.state c.take_more.new.machine) (g.M.Machine.state c.send_all.new.machine) in
     let later = notes_of c.send_all.new.deferred c.send_all.new.types in
     let sent = SendsLast c.args.rounds (g.M.Machine.state c.args.machine.now) (g.M.Machine.state c.send_all.new.machine) (pfns_of_words c.args.set.now) (g.K.Sink.written c.args.sink.now) (g.K.Sink.written c.send_all.new.sink) notes later in
     if_three {R = sent} c.send_all.result (λ worst reads sends bad. λ start before out sent.
@@ -76,9 +52,7 @@ returns-clause-sent g c =
     let Worst : ℕ → Type 0 = λ n. IsWorst n (pfns_of_words c.join.new.words) (g.M.Machine.state c.send_all.new.machine).host.frames worst in (
       after,
       then,
-      saved_sent _ _ _ _ _ _ _ notes _ c.requires.ended
-          (record { paused = c.in_ok-stop.ensures.ok; took = c.in_ok-take_more.ensures.ok; are = are; below = below; reads = subst Reads width reads }) before after _ worst sent (subst Sends width front)
-          (subst Worst width (bad (c.in_ok-take_more.ensures.ok.paused ∙ c.in_ok-stop.ensures.ok.paused))),
+      saved_sent _ _ _ _ _ _ _ notes _ c.requires.ended (last_reads c.in_ok-stop.ensures.ok c.in_ok-take_more.ensures.ok c.join.ensures c.in_ok-take_more.ensures.set c.requires.below c.requires.noted reads) before after _ worst sent (subst Sends width front) (subst Worst width (bad (c.in_ok-take_more.ensures.ok.paused ∙ c.in_ok-stop.ensures.ok.paused))),
     )) c.send_all.ensures.reads c.send_all.ensures.sends c.send_all.ensures.worst
 
 pub returns-clause-stands : goal.returns-clause-stands
