@@ -56,7 +56,7 @@ pub use Rattle.mig_headers.specs.declared.kind.Kind.TheVariants.{Hvm, Pv}
 pub use Rattle.mig_headers.specs.declared.kind.Kind.{Kind}
 pub use Rattle.mig_headers.specs.declared.unsound.Unsound.TheVariants.{VcpuFrame}
 pub use Rattle.mig_headers.specs.declared.unsound.Unsound.{Unsound}
-pub use Rattle.mig_host_laws.specs.FirstRow.{find_ill_listed, names_ill, row_1, row_2, row_5, row_6, row_7}
+pub use Rattle.mig_host_laws.specs.FirstRow.{names_ill, row_1, row_2, row_5, row_6, row_7}
 pub use Rattle.mig_host_laws.specs.Standing.{Standing, is_of_no_type, said_in, said_of}
 pub use Rattle.mig_host_laws.specs.Unsoundness.{UnsoundHas}
 pub use Rattle.mig_host_view.proofs.LocaliseContexts.{FieldsRenamed}

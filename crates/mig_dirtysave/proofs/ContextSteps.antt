@@ -1,32 +1,13 @@
--- A context whose fields are judged and renamed one by one, each at its own place; and contexts one after another.
-use Rattle.mig_dirtysave.proofs.Common.{arith, ◌≡◌, ℕ, ◌<◌, List, [], ◌∷◌, map, Bool, true, false, cond, Option, Some, None, refl, sym, ap, subst, ◌∙◌, ◌==◌, IfSome, find, option_map, option_or, PartKey, gdt_ents, part_cmp, Part, PartMap, parts_after, part_exact, part_total, each_value, only, first_some, field_numbers, field_value, frame_of_field, in_fields, FieldsRenamed}
+-- Contexts that are judged and renamed one after another.
+use Rattle.mig_dirtysave.proofs.Common.{◌≡◌, ℕ, List, [], ◌∷◌, map, Bool, true, false, cond, Option, Some, None, refl, sym, ap, subst, ◌∙◌, ◌==◌, IfSome, find, option_map, option_or, PartKey, part_cmp, Part, PartMap, parts_after, part_exact, part_total, each_value, only, first_some, field_numbers, in_fields}
 use Rattle.std.proofs.Common.{filter}
 use Rattle.std.specs.Ordering.{is_lt, eq_by_cmp}
-use Rattle.std.proofs.lemmas.Bool.{le-ltb}
 use Rattle.mig_guest.specs.Parts.{parts_of}
 use Rattle.mig_guest.proofs.KeyedMaps.{shown, tied, kept_shown}
 use Rattle.mig_guest.proofs.PartCursor.{not_itself}
-use Rattle.mig_pvtables.specs.VcpuContexts.{Usage, field_place}
-use Rattle.mig_pvtables.proofs.BlankSays.{field_there}
 use Rattle.mig_pvtables.proofs.EachValue.{entries_each}
-use Rattle.mig_pvtables.proofs.LongSteps.{still}
 use Rattle.mig_pvtables.proofs.Walks.{context_there}
-use Rattle.mig_host_view.specs.LocaliseSteps.{is_field_below}
 use Rattle.std.specs.FinMap as maps
-
--- ---- one context
-
--- what a field of the context says, where it is used
-abbrev pub said_in : Usage → ℕ → List ℕ → ℕ → Option ℕ
-said_in u id context n = cond (u id (gdt_ents context) n (field_value context n)) (Some (frame_of_field n (field_value context n))) None
-
--- a field that isn't renamed yet says what it said
-pub same_says : {u : Usage} {f : ℕ → Option ℕ} {id n : ℕ} {context now : List ℕ} → FieldsRenamed u f id context n now → n < 19 → said_in u id now n ≡ said_in u id context n
-same_says {u = u} {id = id} {n = n} {context = context} {now = now} is lt =
-    let (at, inside) = field_there n (omega (arith, lt)) in
-    let same_ents : gdt_ents now ≡ gdt_ents context = still is.so_far 620 (omega arith) refl in
-    let same_value : field_value now n ≡ field_value context n = still is.so_far (field_place n) inside (ap (is_field_below n) at ∙ le-ltb n n (omega arith)) in
-    λ i. cond (u id (same_ents i) n (same_value i)) (Some (frame_of_field n (same_value i))) None
 
 -- ---- contexts one after another
 

@@ -19,7 +19,6 @@ pub mod Libxl
 pub mod Written
 pub mod Looks
 pub mod ContextSteps
-pub mod ListSteps
 pub mod SeenRows
 pub mod HeldParts
 pub mod TableRows

@@ -1,15 +1,16 @@
 -- The rows of a PV host as a saver finds them: those that speak of contexts need no other parts, and the last stands in none.
-use Rattle.mig_dirtysave.proofs.Common.{◌≡◌, ℕ, List, [], ◌∷◌, length, Bool, true, false, cond, Option, Some, None, refl, sym, ap, subst, ◌∙◌, ◌==◌, ◌&&◌, is_some, option_and_then, Result, Ok, Err, option_map, option_or, nat_cmp_total, nat_cmp-IsAntisymmetric, eqb-true, Kind, Pv, Unsound, PageType, PartKey, HvmContext, gdt_ents, HostOf, HostFrame, IsValid, row_of, p2m_key, Part, PartMap, one_code, first_some, first_cause, type_at, get_each, in_fields, in_contexts, contexts_start, find_gdt, fault_in, unsoundness, guest_in, without_machine, scan, find_ill_listed, row_1, row_2, row_5, row_6, row_7, Standing, types_seen, standing_seen, HasTypes, first_in_tables, first_around, most_gdt_entries}
+use Rattle.mig_dirtysave.proofs.Common.{◌≡◌, ℕ, List, [], ◌∷◌, length, Bool, true, false, cond, Option, Some, None, refl, sym, ap, subst, ◌∙◌, ◌==◌, ◌&&◌, is_some, option_and_then, Result, Ok, Err, option_map, option_or, nat_cmp_total, nat_cmp-IsAntisymmetric, eqb-true, Kind, Pv, Unsound, PageType, PartKey, HvmContext, gdt_ents, HostOf, HostFrame, IsValid, row_of, p2m_key, Part, PartMap, one_code, first_some, first_cause, type_at, get_each, in_fields, in_contexts, contexts_start, find_gdt, fault_in, unsoundness, guest_in, without_machine, scan, row_1, row_2, row_5, row_6, row_7, Standing, types_seen, standing_seen, HasTypes, first_in_tables, first_around, most_gdt_entries}
 use Rattle.std.specs.Prelude.{nat_lt, IfOk}
 use Rattle.mig_headers.specs.declared.unsound.Unsound.TheVariants.{P2mFrame, BadContext}
 use Rattle.mig_guest.specs.declared.part_code.PartCode.TheVariants.{VcpuBasic}
 use Rattle.mig_guest.specs.PartKeys.{context_key}
 use Rattle.mig_guest.proofs.Counts.{same_parts}
-use Rattle.mig_pvtables.specs.Faults.{find_in_contexts}
+use Rattle.mig_pvtables.specs.Faults.{find_in_contexts, find_misplaced}
 use Rattle.mig_pvtables.proofs.Walks.{large_in}
 use Rattle.mig_host_laws.specs.FirstRow.{row_3, row_4}
 use Rattle.mig_host_laws.proofs.Instances.{host_wide}
 use Rattle.mig_host_laws.proofs.Savers.{saver_finds}
+use Rattle.mig_restore_form.proofs.PartsInOrder.{or_none}
 use Rattle.std.specs.FinMap as maps
 
 -- ---- parts that are alike at the contexts
@@ -49,7 +50,7 @@ module _ (h : HostOf) (valid : IsValid h) where
         let of : (row_of part.code).of_kind Pv ≡ true = subst (λ (k : Kind). (row_of part.code).of_kind k ≡ true) pv part.of_kind in
         let no : false ≡ true = subst (λ c. (row_of c).of_kind Pv ≡ true) (one_code part.code HvmContext (sym part.number)) of in cc
 
-    no_row_7 : (types : List (Option PageType)) → row_7 (standing_seen h types) ≡ None
+    pub no_row_7 : (types : List (Option PageType)) → row_7 (standing_seen h types) ≡ None
     no_row_7 types = by_case (maps.get h.parts context_key) refl
       where
         by_case : (o : Option (List ℕ)) → maps.get h.parts context_key ≡ o → row_7 (standing_seen h types) ≡ None
@@ -90,45 +91,29 @@ pub ok_then : {X E : Type 0} {P Q : X → Type 0} (result : Result X E) → ((x 
 ok_then (Ok x) go is = go x is
 ok_then (Err e) go is = tt
 
-two_then : (a b rest : Option Unsound) → option_or a (option_or b rest) ≡ option_or (first_cause (a ∷ b ∷ [])) rest
-two_then (Some u) b rest = refl
-two_then None (Some u) rest = refl
-two_then None None rest = refl
+-- causes that are looked for one after another: behind the tables, and in the fields, which come last
+pub behind_tables : (a b t d : Option Unsound) → None ≡ first_cause (a ∷ b ∷ []) → is_some t ≡ false → d ≡ first_cause (a ∷ b ∷ t ∷ d ∷ [])
+behind_tables (Some u) b t d is none = let no : ◌≡◌ {A = Option Unsound} None (Some u) = is in cc
+behind_tables None (Some u) t d is none = let no : ◌≡◌ {A = Option Unsound} None (Some u) = is in cc
+behind_tables None None (Some u) d is none = let no : true ≡ false = none in cc
+behind_tables None None None d is none = sym (or_none d)
 
-none_first : (t rest : Option Unsound) → is_some t ≡ false → rest ≡ option_or t rest
-none_first None rest is = refl
-none_first (Some u) rest is = let no : true ≡ false = is in cc
+pub before_fields : (a b t d e : Option Unsound) (u : Unsound) → Some u ≡ first_cause (a ∷ b ∷ t ∷ d ∷ []) → Some u ≡ first_cause (a ∷ b ∷ t ∷ d ∷ e ∷ [])
+before_fields (Some v) b t d e u is = is
+before_fields None (Some v) t d e u is = is
+before_fields None None (Some v) d e u is = is
+before_fields None None None (Some v) e u is = is
+before_fields None None None None e u is = let no : ◌≡◌ {A = Option Unsound} (Some u) None = is in cc
 
-nothing_behind : (o : Option Unsound) → o ≡ option_or o None
-nothing_behind None = refl
-nothing_behind (Some u) = refl
-
-module _ (a b t d : Option Unsound) where
-  pub behind_tables : None ≡ first_cause (a ∷ b ∷ []) → is_some t ≡ false → d ≡ first_cause (a ∷ b ∷ t ∷ d ∷ [])
-  behind_tables is none =
-      nothing_behind d ∙ none_first t (first_cause (d ∷ [])) none ∙ ap (λ o. option_or o (first_cause (t ∷ d ∷ []))) is ∙ sym (two_then a b (first_cause (t ∷ d ∷ [])))
-
-  -- the fields come last
-  module _ (e : Option Unsound) where
-    all_then : first_cause (a ∷ b ∷ t ∷ d ∷ e ∷ []) ≡ option_or (first_cause (a ∷ b ∷ t ∷ d ∷ [])) e
-    all_then = by_case a b t d
-      where
-        by_case : (a b t d : Option Unsound) → first_cause (a ∷ b ∷ t ∷ d ∷ e ∷ []) ≡ option_or (first_cause (a ∷ b ∷ t ∷ d ∷ [])) e
-        by_case (Some u) b t d = refl
-        by_case None (Some u) t d = refl
-        by_case None None (Some u) d = refl
-        by_case None None None (Some u) = refl
-        by_case None None None None = sym (nothing_behind e)
-
-    pub before_fields : (u : Unsound) → Some u ≡ first_cause (a ∷ b ∷ t ∷ d ∷ []) → Some u ≡ first_cause (a ∷ b ∷ t ∷ d ∷ e ∷ [])
-    before_fields u is = ap (λ o. option_or o e) is ∙ sym all_then
-
-    pub in_fields_alone : None ≡ first_cause (a ∷ b ∷ t ∷ d ∷ []) → e ≡ first_cause (a ∷ b ∷ t ∷ d ∷ e ∷ [])
-    in_fields_alone is = ap (λ o. option_or o e) is ∙ sym all_then
+pub in_fields_alone : (a b t d e : Option Unsound) → None ≡ first_cause (a ∷ b ∷ t ∷ d ∷ []) → e ≡ first_cause (a ∷ b ∷ t ∷ d ∷ e ∷ [])
+in_fields_alone (Some u) b t d e is = let no : ◌≡◌ {A = Option Unsound} None (Some u) = is in cc
+in_fields_alone None (Some u) t d e is = let no : ◌≡◌ {A = Option Unsound} None (Some u) = is in cc
+in_fields_alone None None (Some u) d e is = let no : ◌≡◌ {A = Option Unsound} None (Some u) = is in cc
+in_fields_alone None None None (Some u) e is = let no : ◌≡◌ {A = Option Unsound} None (Some u) = is in cc
+in_fields_alone None None None None e is = sym (or_none e)
 
 -- ---- the list
 
 -- what of row 2 is found with the list of the host
-module _ (s : Standing) (key : PartKey) (list : List ℕ) (is : Some list ≡ maps.get s.parts key) (same : key ≡ p2m_key) where
-  pub row_of_list : (found : Option ℕ) → ((o : Standing) → o.types ≡ s.types → maps.get o.parts p2m_key ≡ Some list → found ≡ find_ill_listed o) → option_map (λ k. P2mFrame k) found ≡ row_2 s
-  row_of_list found all = ap (option_map (λ k. P2mFrame k)) (all s refl (ap (maps.get s.parts) (sym same) ∙ sym is))
+pub row_of_list : (s : Standing) {key : PartKey} {list : List ℕ} {found : Option ℕ} → Some list ≡ maps.get s.parts key → key ≡ p2m_key → found ≡ find_misplaced s.types (Some list) → option_map (λ k. P2mFrame k) found ≡ row_2 s
+row_of_list s is same all = ap (option_map (λ k. P2mFrame k)) (all ∙ ap (find_misplaced s.types) (is ∙ ap (maps.get s.parts) same))

@@ -8,6 +8,7 @@ use Rattle.mig_dirtysave_rounds.specs.Live.{table_fault, tables_unsound}
 use Rattle.mig_dirtysave_rounds.specs.Sends.{first_pfn, or_first, place}
 use Rattle.mig_host_laws.specs.FirstRow.{find_said}
 use Rattle.mig_host_laws.specs.Standing.{says_in}
+use Rattle.mig_restore_form.proofs.PartsInOrder.{or_none}
 use Rattle.std.specs.FinMap as maps
 use Rattle.mig_headers.specs.declared.unsound.Unsound.TheVariants as unsounds
 
@@ -16,10 +17,6 @@ use Rattle.mig_headers.specs.declared.unsound.Unsound.TheVariants as unsounds
 or_or : {C : Type 0} (a b c : Option C) → option_or (option_or a b) c ≡ option_or a (option_or b c)
 or_or None b c = refl
 or_or (Some x) b c = refl
-
-or_none : {C : Type 0} (a : Option C) → option_or a None ≡ a
-or_none None = refl
-or_none (Some x) = refl
 
 module _ {C : Type 0} (g : ℕ → Option C) where
   some_more : (a n : ℕ) → first_some g (range_with_len a (suc n)) ≡ option_or (first_some g (range_with_len a n)) (g (a + n))
@@ -65,14 +62,14 @@ module _ (h : HostOf) (q : ℕ) where
   frame_there : maps.get (guest_in h).frames q ≡ option_map without_machine (maps.get h.frames q)
   frame_there = get_each nat_cmp_total nat_cmp-IsAntisymmetric (λ _ (f : HostFrame). without_machine f) h.frames q
 
-  super_there : superpage_slot (footprint h.frames q) ≡ find (λ slot. is_superpage (says_in (guest_in h).frames q slot)) slots
+  pub super_there : superpage_slot (footprint h.frames q) ≡ find (λ slot. is_superpage (says_in (guest_in h).frames q slot)) slots
   super_there = by_case (maps.get h.frames q) ∙ ap (λ o. find (λ slot. is_superpage (said_of o slot)) slots) (sym frame_there)
     where
       by_case : (o : Option HostFrame) → superpage_slot (option_map (footprint_of h.frames) o) ≡ find (λ slot. is_superpage (said_of (option_map without_machine o) slot)) slots
       by_case None = sym never
       by_case (Some f) = super_said (level_of f.type) f.page
 
-  lost_there : lost_slot (footprint h.frames q) ≡ find (λ slot. is_unknown (pfn_in h.frames) (says_in (guest_in h).frames q slot)) slots
+  pub lost_there : lost_slot (footprint h.frames q) ≡ find (λ slot. is_unknown (pfn_in h.frames) (says_in (guest_in h).frames q slot)) slots
   lost_there = by_case (maps.get h.frames q) ∙ ap (λ o. find (λ slot. is_unknown (pfn_in h.frames) (said_of o slot)) slots) (sym frame_there)
     where
       by_case : (o : Option HostFrame) → lost_slot (option_map (footprint_of h.frames) o) ≡ find (λ slot. is_unknown (pfn_in h.frames) (said_of (option_map without_machine o) slot)) slots

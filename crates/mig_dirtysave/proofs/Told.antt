@@ -16,6 +16,7 @@ use Rattle.mig_canon.specs.Batched.{IsSendable, told}
 use Rattle.mig_records_pages.specs.Told.{frame_or_xtab, telling_frame}
 use Rattle.mig_dirtysave_rounds.specs.Findings.{IsToldFrame}
 use Rattle.mig_dirtysave_rounds.specs.Entries.{IsToldEntry, put_at, put_told}
+use Rattle.mig_dirtysave_parts.proofs.Rows.{no_level}
 use Rattle.mig_dirtysave_rounds.proofs.Steps.{got}
 use Rattle.std.specs.FinMap as maps
 
@@ -33,12 +34,6 @@ xtab_stays Pv = refl
 xtab_stays Hvm = refl
 
 -- an HVM host has no tables
-pub no_level : (t : PageType) → is_type_of Hvm t ≡ true → level_of t ≡ None
-no_level Notab is = refl
-no_level Broken is = refl
-no_level Xalloc is = refl
-no_level _ is = absurd (cc)
-
 no_entries : (top : ℕ) (x : FrameOf) → level_of x.type ≡ None → EachEntry (IsWithin top) x
 no_entries top x none level page is at slot lt = absurd (let no : ◌≡◌ {A = Option ℕ} None (Some level) = sym none ∙ is in cc)
 

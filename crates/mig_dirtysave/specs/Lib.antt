@@ -3,4 +3,3 @@ pub mod SaveAnswers
 pub mod Unended
 pub mod Unread
 pub mod Paused
-pub mod Marks

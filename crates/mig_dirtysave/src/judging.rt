@@ -3,10 +3,9 @@ ghost use Rattle.std.specs.FinMap as maps;
 ghost use Rattle.mig_bytes.specs.Faults.{HasCause};
 ghost use Rattle.mig_headers.specs.declared.kind.Kind.TheVariants.{Pv};
 ghost use Rattle.mig_guest.specs.declared.part_key.PartKey.{PartKey};
-ghost use Rattle.mig_guest.specs.PartCodes.{code_number};
 ghost use Rattle.mig_guest.specs.MachineStates.{IsValidState};
-ghost use Rattle.mig_pvtables.specs.Faults.{first_cause, first_some};
-ghost use Rattle.mig_host_view.specs.Sound.{absent, needed_keys, unsoundness};
+ghost use Rattle.mig_pvtables.specs.Faults.{first_cause};
+ghost use Rattle.mig_host_view.specs.Sound.{unsoundness};
 ghost use Rattle.mig_host_laws.specs.FirstRow.{row_1, row_2, row_5};
 ghost use Rattle.mig_dirtysave.specs.Paused.{standing_seen, HasTypes, first_in_tables, first_around, with_names, OnlyLooksUp};
 
@@ -14,11 +13,11 @@ use crate::contexts::rename_contexts;
 use crate::listing::misplaced_by_type;
 use mig_bytes::Failed;
 use mig_guest::mig_machine_api::Machine;
-use mig_guest::{Guest, PartCode};
-use mig_headers::Unsound;
-use mig_host_view::large_gdt;
+use mig_guest::{Guest, PartCode, PartKey};
+use mig_headers::{Kind, Unsound};
+use mig_host_view::{absent_needed, large_gdt};
 use mig_pagetypes::PageType;
-use mig_pvtables::sole_key;
+use mig_pvtables::{PartsByKey, sole_key};
 
 /// The host of a machine is valid at every moment.
 pub(crate) fn host_is_valid<M: Machine>(machine: &M)
@@ -27,25 +26,18 @@ pub(crate) fn host_is_valid<M: Machine>(machine: &M)
     let _width = machine.width();
 }
 
-/// That the only part of its code, or that of vCPU 0, isn't in the machine's host.
-fn absent_part<M: Machine>(machine: &M, code: PartCode) -> Option<Unsound>
-    ensures { result ≡ absent (M.state machine.now).host.parts (record { code = code_number code; key1 = 0; key2 = 0 }) }
-{
-    if machine.part(sole_key(code)).is_none() {
-        Some(Unsound::Missing(u64::from(code.number())))
-    } else {
-        None
-    }
+/// The parts of a machine's host.
+#[derive(Drop)]
+struct HostParts<'a, M> {
+    machine: &'a M,
 }
 
-/// The first of the parts that each PV guest has that isn't in the machine's host.
-#[tactic(auto, using(mig_pvtables::proofs::Searches::first_of_three))]
-fn absent_needed<M: Machine>(machine: &M) -> Option<Unsound>
-    ensures { result ≡ first_some (absent (M.state machine.now).host.parts) (needed_keys Pv) }
-{
-    absent_part(machine, PartCode::P2mFrames)
-        .or(absent_part(machine, PartCode::SharedInfo))
-        .or(absent_part(machine, PartCode::VcpuBasic))
+impl<M: Machine> PartsByKey for HostParts<'_, M> {
+    ghost parts = { λ it. (M.state it.machine.now).host.parts };
+
+    fn lacks(&self, key: PartKey) -> bool {
+        self.machine.part(key).is_none()
+    }
 }
 
 /// The first P2M frame that may not stand where it is listed, by the types that were seen last.
@@ -72,7 +64,7 @@ fn cause_before_tables<M: Machine>(
     requires pv { (M.state machine.now).host.kind ≡ Pv }
     ensures { result ≡ first_cause (row_1 (standing_seen (M.state machine.now).host types.now) ∷ row_2 (standing_seen (M.state machine.now).host types.now) ∷ []) }
 {
-    if let Some(cause) = absent_needed(machine) {
+    if let Some(cause) = absent_needed(Kind::Pv, &HostParts { machine }) {
         return Some(cause);
     }
     misplaced(machine, types, marks)

@@ -1,19 +1,15 @@
-ghost use Rattle.std.specs.Prelude.{◌≡◌, ◌≤◌, ℕ, length, get_or, Some, None, not, ◌||◌};
-ghost use Rattle.std.specs.FinMap as maps;
-ghost use Rattle.mig_guest.specs.PartKeys.{p2m_key};
-ghost use Rattle.mig_pvtables.specs.Faults.{is_notab};
-ghost use Rattle.mig_host_laws.specs.Standing.{Standing};
-ghost use Rattle.mig_host_laws.specs.FirstRow.{has_some, find_ill_listed};
-ghost use Rattle.mig_dirtysave.specs.Marks.{is_once_too_often};
+ghost use Rattle.std.specs.Prelude.{◌≡◌, ◌≤◌, ℕ, length, get_or, Some, None};
+ghost use Rattle.mig_pvtables.specs.Faults.{is_needed, find_misplaced};
 ghost use Rattle.mig_dirtysave.specs.Paused.{types_seen};
 
 use crate::lookup::type_seen;
 use mig_bytes::u64_le;
 use mig_pagetypes::PageType;
+use mig_pvtables::is_misplaced;
 
 /// Whether some PFN of P2M frame `index` was seen to have a frame.
 fn has_frame(types: &[Option<PageType>], index: usize) -> bool
-    ensures { result ≡ has_some (types_seen types.now) index }
+    ensures { result ≡ is_needed (types_seen types.now) index }
 {
     // Beyond the types there is no frame, and 512 * index could be too great.
     if index > types.len() / 512 {
@@ -26,19 +22,6 @@ fn has_frame(types: &[Option<PageType>], index: usize) -> bool
         }
     }
     false
-}
-
-/// Whether a frame of this type can't be a P2M frame, or its PFN, which has this mark, is listed once too often.
-fn is_misplaced(kind: Option<PageType>, mark: Option<bool>, needed: bool) -> bool
-    ensures { result ≡ (not (is_notab kind) || is_once_too_often mark needed) }
-{
-    let Some(PageType::Notab) = kind else {
-        return true;
-    };
-    match mark {
-        Some(mark) => mark || needed,
-        None => false,
-    }
 }
 
 /// No frame number is marked.
@@ -70,7 +53,7 @@ pub fn misplaced_by_type(
     marks: &mut [Option<bool>],
 ) -> Option<usize>
     requires { length types.now ≤ length marks.old }
-    ensures { (s : Standing) → s.types ≡ types_seen types.now → maps.get s.parts p2m_key ≡ Some list.now → result ≡ find_ill_listed s }
+    ensures { result ≡ find_misplaced (types_seen types.now) (Some list.now) }
 {
     clear(marks);
     for index in 0..list.len() / 8 {

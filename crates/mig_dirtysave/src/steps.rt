@@ -7,7 +7,6 @@ ghost use Rattle.mig_guest.specs.Formed.{IsFormed};
 ghost use Rattle.mig_guest.specs.Hosts.{IsValid};
 ghost use Rattle.mig_records_pages.specs.Batches.{IsBehind};
 ghost use Rattle.mig_guest.specs.History.{no_history};
-ghost use Rattle.mig_guest.specs.MachineStates.{IsValidState};
 ghost use Rattle.mig_dirtysave_rounds.specs.Causes.{FaultsHaveCauses};
 ghost use Rattle.mig_dirtysave_rounds.specs.Parts.{entries_read};
 ghost use Rattle.mig_dirtysave_rounds.specs.Live.{KeepsShape, HasRounds, ReadsExactly, FramesSaved, SawTypes, AnswersTables, IsUnsound};
@@ -17,6 +16,7 @@ ghost use Rattle.mig_dirtysave.specs.SaveAnswers.{IfUnsound};
 ghost use Rattle.mig_dirtysave.specs.declared.answer.SaveAnswer.TheVariants.{MachineFault, WriteFault};
 
 use crate::answer::SaveAnswer;
+use crate::judging::host_is_valid;
 use mig_bytes::Sink;
 use mig_dirtysave_parts::write_before;
 use mig_dirtysave_rounds::{Room, SendFault, Sent, send_frames};
@@ -64,13 +64,6 @@ pub(crate) fn end<K: Sink>(sink: &mut K, settings: &Guest) -> Result<(), SaveAns
         Ok(()) => Ok(()),
         Err(_) => Err(SaveAnswer::WriteFault),
     }
-}
-
-/// The host of a machine is valid at every moment.
-fn host_is_valid<M: Machine>(machine: &M)
-    ensures { IsValidState (M.state machine.now) }
-{
-    let _width = machine.width();
 }
 
 /// Sends the frames and pauses the machine.

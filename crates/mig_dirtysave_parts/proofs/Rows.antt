@@ -1,6 +1,6 @@
 -- What is in the way of seeing a valid HVM host is told by its parts alone: it has no tables, and nothing of a PV guest.
 use Rattle.mig_dirtysave_parts.proofs.Common.{ℕ, Bool, true, false, cond, List, [], ◌∷◌, Option, Some, None, ◌==◌, option_map, eqb-true, part_total, part_exact, Hvm, PartKey, gdt_ents, FrameOf, context_key, Kind, PartCode, VcpuBasic, HostOf, IsValid, pfn_in, row_of, code_number, one_code, is_used_somewhere, from_each, guest_in, most_gdt_entries}
-use Rattle.mig_host_view.proofs.Common.{◌≡◌, refl, sym, ap, subst, ◌∙◌, nat_lt, find, range_with_len, nat_cmp_total, nat_cmp-IsAntisymmetric, Entry, EachEntry, FrameMap, is_type_of, p2m_key, is_superpage, count_in, listed, level_of}
+use Rattle.mig_host_view.proofs.Common.{◌≡◌, refl, sym, ap, subst, ◌∙◌, nat_lt, nat_cmp_total, nat_cmp-IsAntisymmetric, Entry, EachEntry, FrameMap, is_type_of, p2m_key, is_superpage, level_of}
 use Rattle.std.specs.Prelude.{◌&&◌}
 use Rattle.std.specs.Option.{option_or}
 use Rattle.mig_headers.specs.declared.unsound.Unsound.{Unsound}
@@ -8,7 +8,7 @@ use Rattle.mig_guest.specs.declared.part_code.PartCode.TheVariants.{P2mFrames}
 use Rattle.mig_guest.specs.Hosts.{HostFrame}
 use Rattle.mig_guest.proofs.PartRows.{no_entries}
 use Rattle.mig_pvtables.specs.BadEntries.{is_unknown}
-use Rattle.mig_pvtables.specs.Faults.{find_entry, find_in_contexts, find_p2m, first_cause, is_misplaced}
+use Rattle.mig_pvtables.specs.Faults.{find_entry, find_in_contexts, find_misplaced, find_p2m, first_cause, type_at}
 use Rattle.mig_pvtables.proofs.PvGuests.{no_entry, none_misses}
 use Rattle.mig_pvtables.proofs.Searches.{first_found}
 use Rattle.mig_host_view.specs.Sound.{absent, find_context_fault, find_gdt, machine_type, misnames, unsound_rows, unsoundness}
@@ -57,7 +57,7 @@ module _ (h : HostOf) (valid : IsValid h) (hvm : h.kind ≡ Hvm) where
       subst (EachEntry P) same (no_entries P (without_machine x) (hvm_type pfn x was))
 
   no_p2m : find_p2m frames h.parts ≡ None
-  no_p2m = ap (λ o. find (λ k. is_misplaced frames h.parts k (listed h.parts k)) (range_with_len 0 (count_in o))) (none_at P2mFrames refl p2m_key refl)
+  no_p2m = ap (find_misplaced (type_at frames)) (none_at P2mFrames refl p2m_key refl)
 
   no_slot : (bad : Entry → Bool) → find_entry bad frames ≡ None
   no_slot bad = (no_entry bad frames).1 (no_tables (λ e. bad e ≡ false))

@@ -20,7 +20,7 @@ pub use Rattle.mig_headers.specs.declared.kind.Kind.{Kind}
 pub use Rattle.mig_headers.specs.declared.unsound.Unsound.{Unsound}
 pub use Rattle.mig_headers_text.specs.UnsoundTexts.{number_of_unsound}
 pub use Rattle.mig_host_laws.specs.Fields.{Field, IsField, field_numbered, field_row, said_by, with_frame_in}
-pub use Rattle.mig_host_laws.specs.FirstRow.{IsWide, first_row, has_some, is_ill_listed, names_ill, row_1, row_2, row_5, row_6, row_7}
+pub use Rattle.mig_host_laws.specs.FirstRow.{IsWide, first_row, names_ill, row_1, row_2, row_5, row_6, row_7}
 pub use Rattle.mig_host_laws.specs.NamedAnew.{AreNamesSmall, IsSeenAs, SaysAnew, Uses}
 pub use Rattle.mig_host_laws.specs.NamedFirst.{IsNamedBefore, NamesFirst}
 pub use Rattle.mig_host_laws.specs.Standing.{Standing, in_host, in_stream, said_of}

@@ -1,12 +1,11 @@
 -- The four laws of fields: what a row says of values, row by row, and of fields in a context.
-use Rattle.mig_host_laws.proofs.Common.{recursion_from_All, AreBytes, Bytes, long_below, ◌≡◌, ℕ, zero, suc, ◌+◌, ◌-◌, ◌*◌, ◌/◌, ◌%◌, ◌^◌, ◌<◌, ◌≤◌, Bool, true, false, cond, not, List, length, Some, refl, sym, ap, subst, ◌∙◌, inl, inr, arith, nat_lt, ◌==◌, cases_lt, eqb-true, eq-eqb, long_at, long_of_longs, length_longs, field_at, is_used, Field, field_row, IsField, field_numbered, said_by, with_frame_in}
-use Rattle.std.proofs.lemmas.List.Elements.{All-nil, All-cons, All-append}
-use Rattle.std.specs.Int.{bytes_low_first, byte_at}
+use Rattle.mig_host_laws.proofs.Common.{recursion_from_All, AreBytes, Bytes, long_below, ◌≡◌, ℕ, ◌+◌, ◌-◌, ◌*◌, ◌/◌, ◌%◌, ◌^◌, ◌<◌, ◌≤◌, Bool, true, false, cond, not, List, length, Some, refl, sym, ap, subst, ◌∙◌, inl, inr, arith, nat_lt, ◌==◌, cases_lt, eqb-true, eq-eqb, long_at, long_of_longs, length_longs, field_at, is_used, Field, field_row, IsField, field_numbered, said_by, with_frame_in}
 use Rattle.byteorder.specs.Endian.{little_bytes}
 use Rattle.mig_bytes.specs.Fields.{with_field}
 use Rattle.mig_guest.specs.Longs.{longs}
 use Rattle.mig_guest.proofs.Longs.{longs_back, same_longs}
 use Rattle.mig_pvtables.proofs.Common.{◌≢◌, nat_le, cases_eq, ne_eqb, le-leb, put_long}
+use Rattle.mig_pvtables.proofs.BlankBytesKept.{longs_bytes}
 use Rattle.mig_pvtables.proofs.BlankSays.{field_there}
 use Rattle.mig_pvtables.specs.Faults.{is_notab, is_root}
 use Rattle.mig_host_laws.specs.Fields.{IsNumbered}
@@ -135,24 +134,6 @@ one_place f g is also same =
     let e : Some (field_row f).number ≡ Some (field_row g).number = sym (at_its_place f is) ∙ ap field_at same ∙ at_its_place g also in
     let number : (field_row f).number ≡ (field_row g).number = cc in
     sym (numbered f is) ∙ ap field_numbered number ∙ numbered g also
-
--- ---- bytes of numbers
-
-small_rest : (n : ℕ) → n % 256 < 256
-small_rest n = omega arith
-
-small_byte : (i x : ℕ) → byte_at i x < 256
-small_byte zero x = small_rest x
-small_byte (suc i) x = small_rest _
-
-number_bytes : (i n x : ℕ) → AreBytes (bytes_low_first i n x)
-number_bytes i zero x = All-nil (λ b. b < 256)
-number_bytes i (suc n) x = All-cons (λ b. b < 256) (byte_at i x) (bytes_low_first (suc i) n x) (small_byte i x) (number_bytes (suc i) n x)
-
-pub longs_bytes : (n : ℕ) (f : ℕ → ℕ) → AreBytes (longs n f)
-unfolding longs
-longs_bytes zero f = All-nil (λ b. b < 256)
-longs_bytes (suc n) f = All-append (λ b. b < 256) (longs n f) (little_bytes 8 (f n)) (longs_bytes n f) (number_bytes 0 8 (f n))
 
 -- ---- one number of many, written in place
 

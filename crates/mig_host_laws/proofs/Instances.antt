@@ -1,8 +1,8 @@
 -- What is looked for in a guest at the end of its stream, and in a host, are rows of how it stands.
 use Rattle.std.specs.FinMap as maps
-use Rattle.mig_host_laws.proofs.Common.{Cause, Kind, Unsound, number_of_unsound, HostOf, HostFrame, IsValid, pfn_in, ◌≡◌, ℕ, ◌+◌, ◌*◌, ◌<◌, List, [], ◌∷◌, true, false, cond, not, is_none, is_some, Option, Some, None, refl, sym, ap, subst, ◌∙◌, ◌&&◌, ◌||◌, find, list_any, range_with_len, option_map, option_or, option_and_then, nat_cmp_total, nat_cmp-IsAntisymmetric, gdt_ents, FrameOf, FrameMap, GuestOf, PartMap, PartKey, p2m_key, vcpu_key, shared_key, Entry, Blank, NotPresent, Superpage, Frame, Pv, first_cause, first_some, is_notab, is_this, find_entry, type_at, fits_field, is_superpage, count_in, listed, field_value, frame_of_field, is_used, fault_of_guest, is_unknown, absent, needed_keys, unsoundness, guest_in, NamesFirst, Standing, said_of, in_stream, in_host, has_some, is_ill_listed, names_ill, row_1, row_2, row_5, row_6, row_7, first_row, IsWide, cause_in_stream, IsWrong, UnsoundHas, NamesFirstRow}
-use Rattle.mig_pvtables.proofs.Common.{is_needed, is_misplaced, find_p2m, is_absent, faults_for}
-use Rattle.mig_pvtables.specs.Faults.{slots, find_field, find_in_contexts, missing, too_many}
+use Rattle.mig_host_laws.proofs.Common.{Cause, Kind, Unsound, number_of_unsound, HostOf, HostFrame, IsValid, pfn_in, ◌≡◌, ℕ, ◌<◌, List, [], ◌∷◌, true, false, cond, not, is_none, Option, Some, None, refl, sym, ap, ◌∙◌, ◌&&◌, option_map, option_or, option_and_then, nat_cmp_total, nat_cmp-IsAntisymmetric, gdt_ents, FrameOf, FrameMap, GuestOf, PartMap, PartKey, p2m_key, vcpu_key, shared_key, Entry, Blank, NotPresent, Superpage, Frame, Pv, first_cause, first_some, find_entry, type_at, fits_field, is_superpage, field_value, frame_of_field, is_used, fault_of_guest, is_unknown, absent, needed_keys, unsoundness, guest_in, NamesFirst, Standing, said_of, in_stream, in_host, names_ill, row_1, row_2, row_6, first_row, IsWide, cause_in_stream, IsWrong, UnsoundHas, NamesFirstRow}
+use Rattle.mig_pvtables.proofs.Common.{find_p2m, is_absent, faults_for}
+use Rattle.mig_pvtables.specs.Faults.{find_field, find_in_contexts, missing, too_many}
 use Rattle.mig_pvtables.proofs.EachValue.{get_each}
 use Rattle.mig_host_view.specs.Sound.{unsound_rows}
 use Rattle.mig_host_view.specs.View.{without_machine}
@@ -13,23 +13,6 @@ use Rattle.mig_host_laws.proofs.Rows.{Left, frames_named, rows_name, first_row_n
 use Rattle.mig_headers.specs.declared.fault.Cause.TheVariants as faults
 use Rattle.mig_headers.specs.declared.unsound.Unsound.TheVariants as causes
 
--- ---- P2M frames: a frame is there where its type is
-
-some_told : {A B : Type 0} (f : A → B) (o : Option A) → is_some o ≡ is_some (option_map f o)
-some_told f None = refl
-some_told f (Some a) = refl
-
-module _ (frames : FrameMap) (parts : PartMap) where
-  needed_same : (k : ℕ) → is_needed frames k ≡ has_some (type_at frames) k
-  needed_same k = λ i. list_any (λ slot. some_told (λ (f : FrameOf). f.type) (maps.get frames (512 * k + slot)) i) slots
-
-  ill_same : (k : ℕ) (o : Option ℕ) → is_misplaced frames parts k o ≡ is_ill_listed (type_at frames) parts k o
-  ill_same k None = refl
-  ill_same k (Some pfn) = λ i. not (is_notab (type_at frames pfn)) || list_any (λ j. is_this pfn (listed parts j) && (needed_same j i || needed_same k i)) (range_with_len 0 k)
-
-  pub p2m_same : find_p2m frames parts ≡ find (λ k. is_ill_listed (type_at frames) parts k (listed parts k)) (range_with_len 0 (count_in (maps.get parts p2m_key)))
-  p2m_same = λ i. find (λ k. ill_same k (listed parts k) i) (range_with_len 0 (count_in (maps.get parts p2m_key)))
-
 -- ---- a guest that stands in a machine
 
 module _ (kind : Kind) (frames : FrameMap) (parts : PartMap) (pfn_of : ℕ → Option ℕ) where
@@ -39,11 +22,9 @@ module _ (kind : Kind) (frames : FrameMap) (parts : PartMap) (pfn_of : ℕ → O
   -- what is found there first is the row of least number, at its least place
   pub unsound_named : NamesFirstRow standing (first_cause (unsound_rows kind frames parts pfn_of))
   unsound_named =
-      subst (λ o. NamesFirstRow standing (first_cause (row_1 standing ∷ option_map (λ k. causes.P2mFrame k) o ∷ option_map (λ at. causes.Superpage at.0 at.1) (find_entry is_superpage frames)
-      ∷ option_map (λ at. causes.NoFrame at.0 at.1) (find_entry (is_unknown pfn_of) frames) ∷ row_5 standing ∷ row_6 standing ∷ row_7 standing ∷ []))) (sym (p2m_same frames parts))
-      (rows_name standing (option_map (λ at. causes.Superpage at.0 at.1) (find_entry is_superpage frames)) (option_map (λ at. causes.NoFrame at.0 at.1) (find_entry (is_unknown pfn_of) frames))
+      rows_name standing (option_map (λ at. causes.Superpage at.0 at.1) (find_entry is_superpage frames)) (option_map (λ at. causes.NoFrame at.0 at.1) (find_entry (is_unknown pfn_of) frames))
       (frames_named is_superpage (λ pfn slot. causes.Superpage pfn slot) 3 (λ pfn slot. refl) refl frames)
-      (frames_named (is_unknown pfn_of) (λ pfn slot. causes.NoFrame pfn slot) 4 (λ pfn slot. refl) refl frames))
+      (frames_named (is_unknown pfn_of) (λ pfn slot. causes.NoFrame pfn slot) 4 (λ pfn slot. refl) refl frames)
 
   pub unsound_is_row : (width : ℕ) → IsWide width standing → first_cause (unsound_rows kind frames parts pfn_of) ≡ first_row width standing
   unsound_is_row width wide = one_named number_of_unsound (IsWrong standing) _ _ unsound_named (first_row_named standing width wide)
@@ -121,7 +102,7 @@ module _ (g : GuestOf) where
   pub fault_is_row : g.kind ≡ Pv → fault_of_guest g ≡ option_or (option_map cause_in_stream (first_cause rows_left)) (too_many g.frames)
   fault_is_row pv =
       let p2m : option_map (λ k. faults.P2mFrame k) (find_p2m g.frames g.parts) ≡ option_map cause_in_stream (row_2 guest_standing) =
-      ap (λ o. option_map (λ k. faults.P2mFrame k) o) (p2m_same g.frames g.parts) ∙ sym (told_twice cause_in_stream (λ k. causes.P2mFrame k) (find_ill_listed guest_standing)) in
+      sym (told_twice cause_in_stream (λ k. causes.P2mFrame k) (find_ill_listed guest_standing)) in
       let target : option_map (λ at. faults.TargetAbsent at.0 at.1) (find_entry (is_absent g.frames) g.frames) ≡ option_map cause_in_stream nameless_found =
       ap (λ o. option_map (λ (at : ℕ × ℕ). faults.TargetAbsent at.0 at.1) o) entry_same
       ∙ sym (told_twice cause_in_stream (λ (at : ℕ × ℕ). causes.NoFrame at.0 at.1) (find_entry (is_unknown (itself_in g.frames)) g.frames)) in

@@ -1,18 +1,17 @@
 -- Each row names the first of what its line says, and the rows together the first of all that is wrong.
-use Rattle.mig_host_laws.proofs.Common.{◌⊎◌, false≢true, Less, Kind, Unsound, number_of_unsound, ◌≡◌, inl, inr, ℕ, zero, suc, ◌+◌, ◌*◌, ◌<◌, ◌≤◌, List, [], ◌∷◌, Bool, true, false, cond, not, nat_lt, is_none, is_some, Option, Some, None, refl, sym, ap, subst, ◌∙◌, arith, ltb-true, lt-ltb, eqb-true, eq-eqb, cases_lt, nat_cmp, ◌==◌, ◌&&◌, ◌||◌, find, list_any, range_with_len, option_map, option_or, option_and_then, nat_cmp_total, nat_cmp-IsAntisymmetric, PageType, gdt_ents, FrameOf, FrameMap, PartKey, part_cmp, p2m_key, vcpu_key, shared_key, Entry, Superpage, Frame, NotPresent, Pv, part_total, part_exact, first_cause, first_some, is_notab, is_this, find_entry, is_superpage, count_in, listed, field_value, is_unknown, needed_keys, absent, NamesFirst, Standing, said_of, has_some, is_ill_listed, names_ill, row_1, row_2, row_5, row_6, row_7, first_row, IsWide, IsWrong, NamesFirstRow, is_left_at_end, no_context, no_p2m, no_shared, no_vcpu, other_type, listed_twice, large, nameless, many_descriptors, field_ill, bad_context, most_gdt_entries}
+use Rattle.mig_host_laws.proofs.Common.{◌⊎◌, false≢true, Less, Kind, Unsound, number_of_unsound, ◌≡◌, inl, inr, ℕ, zero, suc, ◌+◌, ◌*◌, ◌<◌, ◌≤◌, List, [], ◌∷◌, Bool, true, false, cond, not, nat_lt, is_none, is_some, Option, Some, None, refl, sym, ap, subst, ◌∙◌, arith, ltb-true, lt-ltb, eqb-true, eq-eqb, cases_lt, nat_cmp, ◌==◌, ◌&&◌, ◌||◌, find, list_any, range_with_len, option_map, option_or, option_and_then, nat_cmp_total, nat_cmp-IsAntisymmetric, PageType, gdt_ents, FrameOf, FrameMap, PartKey, part_cmp, p2m_key, vcpu_key, shared_key, Entry, Superpage, Frame, NotPresent, Pv, part_total, part_exact, first_cause, first_some, is_notab, is_this, find_entry, is_superpage, count_in, listed, field_value, is_unknown, needed_keys, absent, NamesFirst, Standing, said_of, names_ill, row_1, row_2, row_5, row_6, row_7, first_row, IsWide, IsWrong, NamesFirstRow, is_left_at_end, no_context, no_p2m, no_shared, no_vcpu, other_type, listed_twice, large, nameless, many_descriptors, field_ill, bad_context, most_gdt_entries}
 use Rattle.std.proofs.lemmas.Bool.{and_from, and_parts, not-true, or_cases, or_left, or_right}
 use Rattle.std.proofs.lemmas.List.Folds.{list_any_at}
 use Rattle.std.proofs.lemmas.List.FromFn.{length-range_with_len, get_or-range_with_len}
 use Rattle.std.specs.Prelude.{Result, Ok, Err}
 use Rattle.std.specs.Cmp.{ranked}
-use Rattle.std.proofs.lemmas.Option.{cond_some}
 use Rattle.mig_headers.specs.Contexts.{scan}
 use Rattle.mig_guest.specs.PartKeys.{context_key}
 use Rattle.mig_headers.specs.declared.fault.ContextFault.{ContextFault}
 use Rattle.mig_pagetypes.specs.declared.page_type.PageType.TheVariants.{Notab}
 use Rattle.mig_pvtables.proofs.Common.{IsSome, level_of, entry, Hvm, find_slot}
-use Rattle.mig_pvtables.specs.Faults.{slots, field_numbers}
-use Rattle.mig_pvtables.specs.P2mFrames.{listed_in}
+use Rattle.mig_pvtables.specs.Faults.{slots, field_numbers, is_needed, is_misplaced}
+use Rattle.mig_pvtables.proofs.PvGuests.{counted}
 use Rattle.mig_host_view.specs.Sound.{fault_in}
 use Rattle.mig_host_laws.specs.Standing.{said_in, says_in}
 use Rattle.mig_host_laws.specs.FirstRow.{find_said, row_3, row_4}
@@ -70,10 +69,6 @@ module _ (p : ℕ → Bool) where
 
   pub passes_some : (n k : ℕ) → k < n → p k ≡ true → list_any p (range_with_len 0 n) ≡ true
   passes_some n k lt is = list_any_at p (range_with_len 0 n) k 0 (omega (arith, lt, length-range_with_len 0 n)) (ap p (get_or-range_with_len 0 n k 0 lt ∙ omega arith) ∙ is)
-
-counted_list : (o : Option (List ℕ)) (k pfn : ℕ) → listed_in o k ≡ Some pfn → k < count_in o
-counted_list None k pfn is = cc
-counted_list (Some bytes) k pfn is = ltb-true k _ (cond_some _ _ _ is).0
 
 -- ---- entries: a slot of a PFN's table that says what passes a test, at its place
 
@@ -158,6 +153,16 @@ module _ (bad : Entry → Bool) (cause : ℕ → ℕ → Unsound) (n : ℕ) (num
         from : (k : ℕ) (c : Unsound) → Said (says_in frames) k c → firsts.InEntries number_of_unsound nat_cmp_total nat_cmp-IsAntisymmetric At frames k c
         from k c (pfn, h) = by pfn (maps.get frames pfn) refl k c h
 
+-- ---- tests that are passed
+
+pub large_is : (e : Entry) → is_superpage e ≡ true → e ≡ Superpage
+large_is Superpage h = refl
+large_is _ h = cc
+
+pub unknown_is : (names : ℕ → Option ℕ) (e : Entry) → is_unknown names e ≡ true → (n : ℕ) × (e ≡ Frame n) × (names n ≡ None)
+unknown_is names (Frame n) h = (n, refl, is_missing (names n) h)
+unknown_is names _ h = cc
+
 -- ---- the rows of a standing
 
 module _ (s : Standing) where
@@ -200,10 +205,10 @@ module _ (s : Standing) where
 
   -- 2: a P2M frame
   abbrev IllListed : ℕ → Unsound → Type 0
-  IllListed = Sought (λ k. is_ill_listed s.types s.parts k (listed s.parts k)) (λ k. k) (λ k. causes.P2mFrame k) (count_in (maps.get s.parts p2m_key))
+  IllListed = Sought (λ k. is_misplaced s.types (maps.get s.parts p2m_key) k (listed s.parts k)) (λ k. k) (λ k. causes.P2mFrame k) (count_in (maps.get s.parts p2m_key))
 
   row_2_named : Found IllListed (row_2 s)
-  row_2_named = firsts.sought number_of_unsound (λ k. is_ill_listed s.types s.parts k (listed s.parts k)) (λ k. k) (λ k. causes.P2mFrame k) (λ i j. refl) (λ i j less. less) (count_in (maps.get s.parts p2m_key))
+  row_2_named = firsts.sought number_of_unsound (λ k. is_misplaced s.types (maps.get s.parts p2m_key) k (listed s.parts k)) (λ k. k) (λ k. causes.P2mFrame k) (λ i j. refl) (λ i j less. less) (count_in (maps.get s.parts p2m_key))
 
   abbrev Large : ℕ → Unsound → Type 0
   Large = Said is_superpage (λ pfn slot. causes.Superpage pfn slot) 3 (λ pfn slot. refl) s.says
@@ -300,54 +305,46 @@ module _ (s : Standing) where
 
   -- ---- the line of P2M frames
 
-  needed : (k : ℕ) → has_some s.types k ≡ true → (slot : ℕ) × (slot < 512) × IsSome (s.types (512 * k + slot))
+  pub needed : (k : ℕ) → is_needed s.types k ≡ true → (slot : ℕ) × (slot < 512) × IsSome (s.types (512 * k + slot))
   unfolding slots
   needed k h = let (slot, _, lt, is) = some_passes (λ slot. is_some (s.types (512 * k + slot))) 0 512 h in (slot, omega (arith, lt), is)
 
-  has_needed : (k slot : ℕ) → slot < 512 → IsSome (s.types (512 * k + slot)) → has_some s.types k ≡ true
+  pub has_needed : (k slot : ℕ) → slot < 512 → IsSome (s.types (512 * k + slot)) → is_needed s.types k ≡ true
   unfolding slots
   has_needed k slot lt is = passes_some (λ slot. is_some (s.types (512 * k + slot))) 512 slot lt is
 
   -- what is listed at j is this PFN, and one of the ranges of j and k is needed
   abbrev again : ℕ → ℕ → ℕ → Bool
-  again k pfn j = is_this pfn (listed s.parts j) && (has_some s.types j || has_some s.types k)
+  again k pfn j = is_this pfn (listed s.parts j) && (is_needed s.types j || is_needed s.types k)
 
-  ill_wrong : (k : ℕ) (o : Option ℕ) → listed s.parts k ≡ o → is_ill_listed s.types s.parts k o ≡ true → IsWrong s k (causes.P2mFrame k)
+  ill_wrong : (k : ℕ) (o : Option ℕ) → listed s.parts k ≡ o → is_misplaced s.types (maps.get s.parts p2m_key) k o ≡ true → IsWrong s k (causes.P2mFrame k)
   ill_wrong k None at h = cc
   ill_wrong k (Some pfn) at h = elim (or_cases (not (is_notab (s.types pfn))) (list_any (again k pfn) (range_with_len 0 k)) h) [
     | inl other ↦ other_type k pfn at (notab_is (s.types pfn) other)
     | inr twice ↦ let (j, _, less, is) = some_passes (again k pfn) 0 k twice in
-        let both = and_parts (is_this pfn (listed s.parts j)) (has_some s.types j || has_some s.types k) is in
+        let both = and_parts (is_this pfn (listed s.parts j)) (is_needed s.types j || is_needed s.types k) is in
         let before = same_pfn pfn (listed s.parts j) both.0 in
-        elim (or_cases (has_some s.types j) (has_some s.types k) both.1) [
+        elim (or_cases (is_needed s.types j) (is_needed s.types k) both.1) [
           | inl h ↦ let (slot, lt, is) = needed j h in listed_twice j k pfn slot (omega (arith, less)) before at lt (inl is)
           | inr h ↦ let (slot, lt, is) = needed k h in listed_twice j k pfn slot (omega (arith, less)) before at lt (inr is)
         ]
   ]
 
-  placed : (k pfn : ℕ) → listed s.parts k ≡ Some pfn → is_ill_listed s.types s.parts k (Some pfn) ≡ true → IllListed k (causes.P2mFrame k)
-  placed k pfn at h = (k, counted_list (maps.get s.parts p2m_key) k pfn at, ap (is_ill_listed s.types s.parts k) at ∙ h, refl, refl)
+  placed : (k pfn : ℕ) → listed s.parts k ≡ Some pfn → is_misplaced s.types (maps.get s.parts p2m_key) k (Some pfn) ≡ true → IllListed k (causes.P2mFrame k)
+  placed k pfn at h = (k, counted (maps.get s.parts p2m_key) k pfn at, ap (is_misplaced s.types (maps.get s.parts p2m_key) k) at ∙ h, refl, refl)
 
   twice_placed : (j k pfn slot : ℕ) → j < k → listed s.parts j ≡ Some pfn → listed s.parts k ≡ Some pfn
       → slot < 512 → IsSome (s.types (512 * j + slot)) ⊎ IsSome (s.types (512 * k + slot)) → IllListed k (causes.P2mFrame k)
   twice_placed j k pfn slot less before at lt some =
       placed k pfn at (or_right (not (is_notab (s.types pfn))) _ (passes_some (again k pfn) k j less (and_from _ _ (ap (is_this pfn) before ∙ eq-eqb pfn pfn refl) (elim some [
-        | inl is ↦ or_left _ (has_some s.types k) (has_needed j slot lt is)
-        | inr is ↦ or_right (has_some s.types j) _ (has_needed k slot lt is)
+        | inl is ↦ or_left _ (is_needed s.types k) (has_needed j slot lt is)
+        | inr is ↦ or_right (is_needed s.types j) _ (has_needed k slot lt is)
       ]))))
 
   -- ---- the lines are the rows
 
   lone : (P : Type 0) (place : ℕ) (cause : Unsound) → (P → IsWrong s place cause) → (k : ℕ) (c : Unsound) → Alone P place cause k c → IsWrong s k c
   lone P place cause go k c (holds, at, is) = subst (λ i. IsWrong s i c) (sym at) (subst (IsWrong s place) (sym is) (go holds))
-
-  large_is : (e : Entry) → is_superpage e ≡ true → e ≡ Superpage
-  large_is Superpage h = refl
-  large_is _ h = cc
-
-  unknown_is : (e : Entry) → is_unknown s.names e ≡ true → (n : ℕ) × (e ≡ Frame n) × (s.names n ≡ None)
-  unknown_is (Frame n) h = (n, refl, is_missing (s.names n) h)
-  unknown_is _ h = cc
 
   row_line : (k : ℕ) (c : Unsound) → Rows k c → IsWrong s k c
   row_line k c (inl (inl h)) = lone _ 0 (causes.Missing 9) (λ p. no_context p.0 p.1) k c h
@@ -357,7 +354,7 @@ module _ (s : Standing) where
   row_line k c (inr (inl (i, lt, is, at, named))) = lone _ i (causes.P2mFrame i) (ill_wrong i (listed s.parts i) refl) k c (is, at, named)
   row_line k c (inr (inr (inl (pfn, (slot, lt, is, at, named))))) = lone _ (512 * pfn + slot) (causes.Superpage pfn slot) (λ h. large pfn slot lt (large_is (s.says pfn slot) h)) k c (is, at, named)
   row_line k c (inr (inr (inr (inl (pfn, (slot, lt, is, at, named)))))) =
-      lone _ (512 * pfn + slot) (causes.NoFrame pfn slot) (λ h. let (n, says, none) = unknown_is (s.says pfn slot) h in nameless pfn slot n lt says none) k c (is, at, named)
+      lone _ (512 * pfn + slot) (causes.NoFrame pfn slot) (λ h. let (n, says, none) = unknown_is s.names (s.says pfn slot) h in nameless pfn slot n lt says none) k c (is, at, named)
   row_line k c (inr (inr (inr (inr (inl (key, context, at, h)))))) = lone _ (key_rank s.parts key) (causes.GdtEnts key.key1 (gdt_ents context)) (λ p. many_descriptors key context at p.0 p.1) k c h
   row_line k c (inr (inr (inr (inr (inr (inl (key, context, at, (code, (field, lt, is, place, named))))))))) =
       lone _ (32 * key_rank s.parts key + field) (causes.VcpuFrame key.key1 field)

@@ -1,37 +1,22 @@
 -- What is in the way of seeing a guest where it stands, looked for row by row: each row's first cause, and the first of the rows.
-use Rattle.std.specs.Prelude.{◌≡◌, ◌<◌, ℕ, ◌+◌, ◌*◌, Bool, false, List, [], ◌∷◌, Option, Some, None, is_some, ◌&&◌, ◌||◌, not, find}
-use Rattle.std.specs.List.{list_any, range_with_len}
+use Rattle.std.specs.Prelude.{◌≡◌, ◌<◌, ℕ, Bool, List, [], ◌∷◌, Option, find}
+use Rattle.std.specs.List.{range_with_len}
 use Rattle.std.specs.Option.{option_map}
 use Rattle.std.specs.FinMap as maps
 use Rattle.mig_headers.specs.declared.unsound.Unsound.{Unsound}
 use Rattle.mig_headers.specs.declared.unsound.Unsound.TheVariants.{P2mFrame, Superpage, NoFrame, GdtEnts, VcpuFrame, BadContext}
-use Rattle.mig_pagetypes.specs.declared.page_type.PageType.{PageType}
 use Rattle.mig_guest.specs.declared.table.Entry.{Entry}
 use Rattle.mig_guest.specs.declared.table.Entry.TheVariants.{NotPresent}
-use Rattle.mig_guest.specs.Formed.{gdt_ents}
-use Rattle.mig_guest.specs.Parts.{PartMap}
 use Rattle.mig_guest.specs.PartKeys.{p2m_key}
 use Rattle.mig_pvtables.specs.BadEntries.{is_unknown}
-use Rattle.mig_pvtables.specs.Faults.{first_some, first_cause, slots, is_notab, is_this, fits_field, find_in_contexts}
-use Rattle.mig_pvtables.specs.P2mFrames.{count_in, listed}
+use Rattle.mig_pvtables.specs.Faults.{first_some, first_cause, slots, find_misplaced, find_in_contexts, misses}
 use Rattle.mig_pvtables.specs.Tables.{is_superpage}
-use Rattle.mig_pvtables.specs.VcpuContexts.{field_value, frame_of_field}
 use Rattle.mig_host_view.specs.Sound.{needed_keys, absent, find_gdt, find_context_fault}
 use Rattle.mig_host_laws.specs.Standing.{Standing, type_named}
 
--- some PFN of P2M frame k has a frame
-abbrev pub has_some : (ℕ → Option PageType) → ℕ → Bool
-has_some types k = list_any (λ slot. is_some (types (512 * k + slot))) slots
-
--- the PFN listed at k isn't a NOTAB frame, or it is listed before, at j, and one of the ranges of j and k has a frame
-abbrev pub is_ill_listed : (ℕ → Option PageType) → PartMap → ℕ → Option ℕ → Bool
-is_ill_listed types parts k None = false
-is_ill_listed types parts k (Some pfn) =
-    not (is_notab (types pfn)) || list_any (λ j. is_this pfn (listed parts j) && (has_some types j || has_some types k)) (range_with_len 0 k)
-
--- the least such index
+-- the least index at which the list of the P2M frames is wrong
 abbrev pub find_ill_listed : Standing → Option ℕ
-find_ill_listed s = find (λ k. is_ill_listed s.types s.parts k (listed s.parts k)) (range_with_len 0 (count_in (maps.get s.parts p2m_key)))
+find_ill_listed s = find_misplaced s.types (maps.get s.parts p2m_key)
 
 -- the first slot of a PFN below the width whose entry passes a test
 abbrev pub find_said : ℕ → (Entry → Bool) → (ℕ → ℕ → Entry) → Option (ℕ × ℕ)
@@ -39,7 +24,7 @@ find_said width bad says = first_some (λ pfn. option_map (λ slot. (pfn, slot))
 
 -- the field is used, and names no frame of its type
 abbrev pub names_ill : Standing → ℕ → List ℕ → ℕ → Bool
-names_ill s id context field = s.used id (gdt_ents context) field (field_value context field) && not (fits_field field (type_named s (frame_of_field field (field_value context field))))
+names_ill s id context field = misses s.used (type_named s) id context field
 
 -- ---- the rows, by their numbers
 

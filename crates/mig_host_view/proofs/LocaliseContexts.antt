@@ -62,7 +62,8 @@ module _ {u : Usage} {f : ℕ → Option ℕ} {id : ℕ} {context : List ℕ} wh
       abbrev says_in : List ℕ → Option ℕ
       says_in c = cond (u id (gdt_ents c) n (field_value c n)) (Some (frame_of_field n (field_value c n))) None
 
-      same_says : says_in now ≡ says_in context
+      -- one that isn't renamed yet says what it said
+      pub same_says : says_in now ≡ says_in context
       same_says =
           let same_ents : gdt_ents now ≡ ents = still is.so_far 620 (omega arith) refl in
           let same_value : field_value now n ≡ v = still is.so_far place there.1 step.before in

@@ -15,7 +15,7 @@ mod view_law;
 
 pub use localising::localise_guest;
 pub use normalising::normalise_guest;
-pub use soundness::{large_gdt, unsoundness};
+pub use soundness::{absent_needed, large_gdt, unsoundness};
 pub use view_law::{
     hvm_host_is_viewed, localised_guest_can_be_seen, localised_guest_comes_back,
     localised_p2m_frames_are_filled, renamed_context_comes_back, sound_host_has_no_unsoundness,

@@ -20,14 +20,14 @@ use mig_headers::{ContextFault, Kind, Unsound};
 use mig_hvm::scan_context;
 use mig_pagetypes::PageType;
 use mig_pvtables::{
-    FieldFrames, Frames, bad_field, frame_type, gdt_ents, host_frame, misplaced_frame,
+    FieldFrames, Frames, PartsByKey, bad_field, frame_type, gdt_ents, host_frame, misplaced_frame,
     missing_part, next_context, sole_key, superpage_slot, unknown_slot,
 };
 use std::alloc::Global;
 
 /// The first of the parts that each guest of this kind has that isn't there.
-fn absent_needed(kind: Kind, parts: &Parts) -> Option<Unsound>
-    ensures { result ≡ first_some (absent parts.now) (needed_keys kind) }
+pub fn absent_needed<P: PartsByKey>(kind: Kind, parts: &P) -> Option<Unsound>
+    ensures { result ≡ first_some (absent (P.parts parts.now)) (needed_keys kind) }
 {
     let code = missing_part(kind, parts)?;
     Some(Unsound::Missing(code))

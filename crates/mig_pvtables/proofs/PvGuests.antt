@@ -80,19 +80,26 @@ module _ (used : Usage) (type_of : ℕ → Option PageType) where
 
 -- ---- P2M frames
 
-pub not_needed : (frames : FrameMap) (k : ℕ) → (is_needed frames k ≡ false) ↔ IsEmptyRange frames k
+pub not_needed : (frames : FrameMap) (k : ℕ) → (is_needed (type_at frames) k ≡ false) ↔ IsEmptyRange frames k
 unfolding slots
-not_needed frames k = let search = any_in_range (λ s. is_some (maps.get frames (512 * k + s))) 512 in (λ is s lt. none_of (maps.get frames (512 * k + s)) (search.0 is s lt), λ empty. search.1 (λ s lt. ap is_some (empty s lt)))
+not_needed frames k = let search = any_in_range (λ s. is_some (type_at frames (512 * k + s))) 512 in (
+  λ is s lt. (none_mapped (λ (f : FrameOf). f.type) (maps.get frames (512 * k + s))).0 (none_of (type_at frames (512 * k + s)) (search.0 is s lt)),
+  λ empty. search.1 (λ s lt. ap (λ (o : Option FrameOf). is_some (option_map (λ (f : FrameOf). f.type) o)) (empty s lt)),
+)
+
+pub counted : (o : Option (List ℕ)) (k pfn : ℕ) → listed_in o k ≡ Some pfn → k < count_in o
+counted None k pfn is = cc
+counted (Some bytes) k pfn is = ltb-true k _ (cond_some _ _ _ is).0
 
 module _ (frames : FrameMap) (parts : PartMap) where
   -- what is listed at j isn't this PFN, or neither range is needed
-  not_again : (j k pfn : ℕ) (o : Option ℕ) → ((is_this pfn o && (is_needed frames j || is_needed frames k)) ≡ false) ↔ (o ≡ Some pfn → IsEmptyRange frames j × IsEmptyRange frames k)
+  not_again : (j k pfn : ℕ) (o : Option ℕ) → ((is_this pfn o && (is_needed (type_at frames) j || is_needed (type_at frames) k)) ≡ false) ↔ (o ≡ Some pfn → IsEmptyRange frames j × IsEmptyRange frames k)
   not_again j k pfn None = (λ is e. cc, λ go. refl)
   not_again j k pfn (Some n) = (
     λ is e.
-        let same : n ≡ pfn = cc in let both = or_parts (is_needed frames j) (is_needed frames k) (sym (ap (λ b. b && (is_needed frames j || is_needed frames k)) (eq-eqb n pfn same)) ∙ is) in
+        let same : n ≡ pfn = cc in let both = or_parts (is_needed (type_at frames) j) (is_needed (type_at frames) k) (sym (ap (λ b. b && (is_needed (type_at frames) j || is_needed (type_at frames) k)) (eq-eqb n pfn same)) ∙ is) in
         ((not_needed frames j).0 both.0, (not_needed frames k).0 both.1),
-    λ go. elim (n == pfn) as (λ b. (n == pfn) ≡ b → (b && (is_needed frames j || is_needed frames k)) ≡ false) [
+    λ go. elim (n == pfn) as (λ b. (n == pfn) ≡ b → (b && (is_needed (type_at frames) j || is_needed (type_at frames) k)) ≡ false) [
       | true ↦ λ t. let both = go (ap (λ m. Some m) (eqb-true n pfn t)) in or_from _ _ ((not_needed frames j).1 both.0) ((not_needed frames k).1 both.1)
       | false ↦ λ t. refl
     ] refl,
@@ -105,25 +112,21 @@ module _ (frames : FrameMap) (parts : PartMap) where
   abbrev IsPlaced : ℕ → ℕ → Type 0
   IsPlaced k pfn = (type_at frames pfn ≡ Some Notab) × ((j : ℕ) → j < k → listed parts j ≡ Some pfn → IsEmptyRange frames j × IsEmptyRange frames k)
 
-  is_placed : (k pfn : ℕ) → (is_misplaced frames parts k (Some pfn) ≡ false) ↔ IsPlaced k pfn
+  is_placed : (k pfn : ℕ) → (is_misplaced (type_at frames) (maps.get parts p2m_key) k (Some pfn) ≡ false) ↔ IsPlaced k pfn
   is_placed k pfn =
-      let search = any_in_range (λ j. is_this pfn (listed parts j) && (is_needed frames j || is_needed frames k)) k in (
+      let search = any_in_range (λ j. is_this pfn (listed parts j) && (is_needed (type_at frames) j || is_needed (type_at frames) k)) k in (
         (λ is. let both = or_parts (not (is_notab (type_at frames pfn))) _ is in (notab_only (type_at frames pfn) both.0, λ j lt. (not_again j k pfn (listed parts j)).0 (search.0 both.1 j lt))),
         (λ h. or_from _ _ (ap (λ t. not (is_notab t)) h.0) (search.1 (λ j lt. (not_again j k pfn (listed parts j)).1 (h.1 j lt)))),
       )
 
-  pub counted : (o : Option (List ℕ)) (k pfn : ℕ) → listed_in o k ≡ Some pfn → k < count_in o
-  counted None k pfn is = cc
-  counted (Some bytes) k pfn is = ltb-true k _ (cond_some _ _ _ is).0
-
   pub no_p2m : (find_p2m frames parts ≡ None) ↔ AreP2mFrames frames parts
   no_p2m =
-      let search = find_in_range (λ k. is_misplaced frames parts k (listed parts k)) (count_in (maps.get parts p2m_key)) in (
+      let search = find_in_range (λ k. is_misplaced (type_at frames) (maps.get parts p2m_key) k (listed parts k)) (count_in (maps.get parts p2m_key)) in (
         (λ none.
             let placed : (k pfn : ℕ) → listed parts k ≡ Some pfn → IsPlaced k pfn =
-            λ k pfn is. (is_placed k pfn).0 (ap (is_misplaced frames parts k) (sym is) ∙ search.0 none k (counted (maps.get parts p2m_key) k pfn is)) in
+            λ k pfn is. (is_placed k pfn).0 (ap (is_misplaced (type_at frames) (maps.get parts p2m_key) k) (sym is) ∙ search.0 none k (counted (maps.get parts p2m_key) k pfn is)) in
             record { types = λ k pfn is. (placed k pfn is).0; twice = λ j k pfn lt one two. (placed k pfn two).1 j lt one }),
-        (λ good. search.1 (λ k lt. elim (listed parts k) as (λ o. listed parts k ≡ o → is_misplaced frames parts k o ≡ false) [
+        (λ good. search.1 (λ k lt. elim (listed parts k) as (λ o. listed parts k ≡ o → is_misplaced (type_at frames) (maps.get parts p2m_key) k o ≡ false) [
           | None ↦ λ is. refl
           | Some pfn ↦ λ is. (is_placed k pfn).1 (good.types k pfn is, λ j less at. good.twice j k pfn less at is)
         ] refl)),

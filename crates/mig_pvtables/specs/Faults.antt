@@ -21,7 +21,7 @@ use Rattle.mig_guest.specs.PartKeys.{p2m_key, vcpu_key, shared_key, context_key}
 use Rattle.mig_guest.specs.Tables.{entry}
 use Rattle.mig_guest.specs.Formed.{gdt_ents}
 use Rattle.mig_pvtables.specs.VcpuContexts.{Usage, field_value, is_used, frame_of_field}
-use Rattle.mig_pvtables.specs.P2mFrames.{count_in, listed}
+use Rattle.mig_pvtables.specs.P2mFrames.{count_in, listed_in}
 
 -- the first answer that f gives along a list
 abbrev pub first_some : {A C : Type 0} → (A → Option C) → List A → Option C
@@ -59,22 +59,26 @@ abbrev pub is_notab : Option PageType → Bool
 is_notab (Some Notab) = true
 is_notab _ = false
 
--- some PFN of P2M frame k has a frame
-abbrev pub is_needed : FrameMap → ℕ → Bool
-is_needed frames k = list_any (λ slot. is_some (maps.get frames (512 * k + slot))) slots
+-- some PFN of P2M frame k has a frame, where types gives the type of a PFN's frame
+abbrev pub is_needed : (ℕ → Option PageType) → ℕ → Bool
+is_needed types k = list_any (λ slot. is_some (types (512 * k + slot))) slots
 
 abbrev pub is_this : ℕ → Option ℕ → Bool
 is_this pfn None = false
 is_this pfn (Some n) = n == pfn
 
 -- the PFN listed at k isn't a NOTAB frame, or it is listed before, at j, and the frames of j or k are needed
-abbrev pub is_misplaced : FrameMap → PartMap → ℕ → Option ℕ → Bool
-is_misplaced frames parts k None = false
-is_misplaced frames parts k (Some pfn) =
-    not (is_notab (type_at frames pfn)) || list_any (λ j. is_this pfn (listed parts j) && (is_needed frames j || is_needed frames k)) (range_with_len 0 k)
+abbrev pub is_misplaced : (ℕ → Option PageType) → Option (List ℕ) → ℕ → Option ℕ → Bool
+is_misplaced types list k None = false
+is_misplaced types list k (Some pfn) =
+    not (is_notab (types pfn)) || list_any (λ j. is_this pfn (listed_in list j) && (is_needed types j || is_needed types k)) (range_with_len 0 k)
+
+-- the least place at which a list of P2M frames is wrong
+abbrev pub find_misplaced : (ℕ → Option PageType) → Option (List ℕ) → Option ℕ
+find_misplaced types list = find (λ k. is_misplaced types list k (listed_in list k)) (range_with_len 0 (count_in list))
 
 abbrev pub find_p2m : FrameMap → PartMap → Option ℕ
-find_p2m frames parts = find (λ k. is_misplaced frames parts k (listed parts k)) (range_with_len 0 (count_in (maps.get parts p2m_key)))
+find_p2m frames parts = find_misplaced (type_at frames) (maps.get parts p2m_key)
 
 -- ---- an entry of a table, by the table's frame number and its slot
 

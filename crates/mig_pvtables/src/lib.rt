@@ -31,7 +31,9 @@ pub use law::{
     hvm_guest_is_blank, hvm_guest_is_whole, pv_guest_is_whole, some_blank_pv_guest_is_whole,
     whole_as_its_blank_form, worked_pv_guest_is_whole,
 };
-pub use listing::{PartsByKey, frame_type, listed_pfn, misplaced_frame, missing_part, sole_key};
+pub use listing::{
+    PartsByKey, frame_type, is_misplaced, listed_pfn, misplaced_frame, missing_part, sole_key,
+};
 pub use mig_guest::Entry;
 pub use p2m::p2m_page;
 pub use rename::{BadEntry, Why, localise_table, normalise_table, rename_back, unknown_slot};

@@ -1,6 +1,7 @@
 ghost use Rattle.std.specs.FinMap as maps;
 ghost use Rattle.mig_guest.specs.PartKeys.{p2m_key};
-ghost use Rattle.std.specs.Prelude.{◌≡◌, ◌≤◌, ◌<◌, ◌^◌, IfSome, IfOk, IsSome, is_none, ◌||◌, not, if◌then◌else◌};
+ghost use Rattle.std.specs.Prelude.{◌≡◌, ◌≤◌, ◌<◌, ◌^◌, IfSome, IfOk, IsSome, is_none, ◌==◌, ◌||◌, not, if◌then◌else◌};
+ghost use Rattle.std.specs.Option.{option_map};
 ghost use Rattle.mig_guest.specs.PartCodes.{code_number};
 ghost use Rattle.mig_guest.specs.Parts.{PartMap};
 ghost use Rattle.mig_pagetypes.specs.Limits.{pfn_limit};
@@ -15,7 +16,7 @@ use mig_pagestore_index::Index;
 use mig_pagetypes::PageType;
 use std::alloc::Global;
 
-/// Marks of PFNs that were listed: for ranges without frames, and for one that has some.
+/// How an index holds the marks of PFNs that were listed: for ranges without frames, and for one that has some.
 const EMPTY: u64 = 1;
 
 const NEEDED: u64 = 2;
@@ -92,7 +93,7 @@ pub fn listed_pfn(parts: &Parts, index: usize) -> Option<u64>
 #[tactic(auto, using(crate::proofs::P2mWalks::none_needed, crate::proofs::P2mWalks::some_needed, crate::proofs::P2mWalks::later_needed))]
 fn is_needed(frames: &FrameStore, index: usize) -> bool
     requires { index < 2 ^ 50 }
-    ensures { result ≡ has_frames frames.now.frames index }
+    ensures { result ≡ has_frames (type_at frames.now.frames) index }
 {
     let start = 512 * index as u64;
     match frames.next(start) {
@@ -102,15 +103,25 @@ fn is_needed(frames: &FrameStore, index: usize) -> bool
 }
 
 /// Whether a frame of this type can't be a P2M frame, or its PFN, which has this mark, is listed once too often.
-fn is_misplaced(kind: Option<PageType>, mark: Option<u64>, needed: bool) -> bool
+pub fn is_misplaced(kind: Option<PageType>, mark: Option<bool>, needed: bool) -> bool
     ensures { result ≡ (not (is_notab kind) || clashes mark needed) }
 {
     let Some(PageType::Notab) = kind else {
         return true;
     };
     match mark {
-        Some(mark) => mark != EMPTY || needed,
+        Some(mark) => mark || needed,
         None => false,
+    }
+}
+
+/// The mark of a PFN: whether one of the ranges that it was listed for has a frame.
+fn mark_of(marks: &Index, pfn: u64) -> Option<bool>
+    ensures { result ≡ option_map (λ v. v == 2) (maps.get marks.now.values pfn) }
+{
+    match marks.get(pfn) {
+        Some(mark) => Some(mark == NEEDED),
+        None => None,
     }
 }
 
@@ -147,7 +158,7 @@ pub fn misplaced_frame(
     let mut index = 0;
     while let Some(pfn) = listed_pfn(parts, index) {
         let needed = is_needed(frames, index);
-        if is_misplaced(frame_type(frames, pfn), marks.get(pfn), needed) {
+        if is_misplaced(frame_type(frames, pfn), mark_of(&marks, pfn), needed) {
             return Ok(Some(index));
         }
         let Ok(()) = marks.reserve(1) else {

@@ -1,11 +1,13 @@
 -- The causes that stand in a whole PV guest.
-use Rattle.mig_refusals.proofs.Common.{◌≡◌, ◌⊎◌, inl, inr, ℕ, ◌+◌, ◌*◌, ◌<◌, List, length, Bool, true, false, cond, not, nat_lt, is_none, is_some, Option, Some, None, refl, sym, ap, subst, ◌∙◌, arith, ltb-true, lt-ltb, false≢true, eqb-true, eq-eqb, and_parts, and_from, or_cases, or_left, or_right, Cause, ◌==◌, ◌&&◌, ◌||◌, IsSome, find, nat_cmp_total, ranked, nat_cmp-IsAntisymmetric, list_any, range_with_len, option_map, Less, number_of_cause, Missing, P2mFrame, TargetAbsent, VcpuFrame, most_frames, level_of, Notab, FrameOf, FrameMap, GuestOf, p2m_key, PartMap, entry, PartKey, part_exact, part_total, slots, field_numbers, is_notab, is_needed, is_this, is_misplaced, find_p2m, find_slot, find_entry, is_absent, misfits, find_field, count_in, listed, counted, PvGuestHas, rank_of, TooManyFrames, type_at}
+use Rattle.mig_refusals.proofs.Common.{◌≡◌, ◌⊎◌, inl, inr, ℕ, ◌+◌, ◌*◌, ◌<◌, List, length, Bool, true, false, cond, not, nat_lt, is_none, is_some, Option, Some, None, refl, sym, ap, subst, ◌∙◌, arith, ltb-true, lt-ltb, false≢true, eqb-true, eq-eqb, and_parts, and_from, or_cases, or_left, or_right, Cause, ◌==◌, ◌&&◌, ◌||◌, IsSome, find, nat_cmp_total, ranked, nat_cmp-IsAntisymmetric, list_any, range_with_len, option_map, Less, number_of_cause, Missing, P2mFrame, TargetAbsent, VcpuFrame, most_frames, level_of, Notab, FrameOf, FrameMap, GuestOf, p2m_key, PartMap, entry, PartKey, part_exact, part_total, field_numbers, is_notab, is_needed, is_this, is_misplaced, find_p2m, find_slot, find_entry, is_absent, misfits, find_field, count_in, listed, counted, PvGuestHas, rank_of, TooManyFrames, type_at}
+use Rattle.mig_guest.proofs.KeyedMaps.{is_some-mapped}
+use Rattle.mig_host_laws.specs.Standing.{in_stream}
 use Rattle.std.specs.FinMap as maps
 use Rattle.mig_refusals.specs.LibxcPv.PvGuestHas.{other_type, listed_twice}
 use Rattle.mig_refusals.proofs.Least.{Least, Alone, alone_least, turned}
 use Rattle.mig_host_laws.proofs.KeyRanks.{rank_lt}
 use Rattle.mig_host_laws.proofs.NamedFirst.{told_first, told_twice}
-use Rattle.mig_host_laws.proofs.Rows.{is_missing, is_other, notab_is, passes_some, same_pfn, some_passes}
+use Rattle.mig_host_laws.proofs.Rows.{has_needed, is_missing, is_other, needed, notab_is, passes_some, same_pfn, some_passes}
 use Rattle.mig_refusals.proofs.Firsts.{Sought, sought_least, slot_least, field_least, InEntries, Rises, entries_least}
 
 -- ---- causes that stand at one place
@@ -83,53 +85,44 @@ module _ (frames : FrameMap) (parts : PartMap) where
 
 -- ---- P2M frames
 
-module _ (frames : FrameMap) (parts : PartMap) where
-  -- a PFN of the range of P2M frame k that has a frame
-  abbrev Needed : ℕ → Type 0
-  Needed k = (slot : ℕ) × (slot < 512) × IsSome (maps.get frames (512 * k + slot))
-
-  needed : (k : ℕ) → is_needed frames k ≡ true → Needed k
-  unfolding slots
-  needed k h = let (slot, _, lt, is) = some_passes (λ slot. is_some (maps.get frames (512 * k + slot))) 0 512 h in (slot, omega (arith, lt), is)
-
-  has_needed : (k slot : ℕ) → slot < 512 → IsSome (maps.get frames (512 * k + slot)) → is_needed frames k ≡ true
-  unfolding slots
-  has_needed k slot lt is = passes_some (λ slot. is_some (maps.get frames (512 * k + slot))) 512 slot lt is
+-- a PFN of the range of P2M frame k has a type where it has a frame
+typed : (g : GuestOf) (k slot : ℕ) → is_some (type_at g.frames (512 * k + slot)) ≡ is_some (maps.get g.frames (512 * k + slot))
+typed g k slot = is_some-mapped (λ (f : FrameOf). f.type) (maps.get g.frames (512 * k + slot))
 
 module _ (g : GuestOf) where
   abbrev pub P2mAt : ℕ → Cause → Type 0
-  P2mAt = Sought (λ k. is_misplaced g.frames g.parts k (listed g.parts k)) (λ k. k) (λ k. P2mFrame k) (count_in (maps.get g.parts p2m_key))
+  P2mAt = Sought (λ k. is_misplaced (type_at g.frames) (maps.get g.parts p2m_key) k (listed g.parts k)) (λ k. k) (λ k. P2mFrame k) (count_in (maps.get g.parts p2m_key))
 
   pub p2m_are : Least P2mAt (option_map (λ k. P2mFrame k) (find_p2m g.frames g.parts))
-  p2m_are = sought_least (λ k. is_misplaced g.frames g.parts k (listed g.parts k)) (λ k. k) (λ k. P2mFrame k) (λ i j. refl) (λ i j less. less) (count_in (maps.get g.parts p2m_key))
+  p2m_are = sought_least (λ k. is_misplaced (type_at g.frames) (maps.get g.parts p2m_key) k (listed g.parts k)) (λ k. k) (λ k. P2mFrame k) (λ i j. refl) (λ i j less. less) (count_in (maps.get g.parts p2m_key))
 
   -- what is listed at j is this PFN, and one of the ranges of j and k is needed
   abbrev again : ℕ → ℕ → ℕ → Bool
-  again k pfn j = is_this pfn (listed g.parts j) && (is_needed g.frames j || is_needed g.frames k)
+  again k pfn j = is_this pfn (listed g.parts j) && (is_needed (type_at g.frames) j || is_needed (type_at g.frames) k)
 
-  pub misplaced_has : (k : ℕ) (o : Option ℕ) → listed g.parts k ≡ o → is_misplaced g.frames g.parts k o ≡ true → PvGuestHas g k (P2mFrame k)
+  pub misplaced_has : (k : ℕ) (o : Option ℕ) → listed g.parts k ≡ o → is_misplaced (type_at g.frames) (maps.get g.parts p2m_key) k o ≡ true → PvGuestHas g k (P2mFrame k)
   misplaced_has k None at h = cc
   misplaced_has k (Some pfn) at h = elim (or_cases (not (is_notab (type_at g.frames pfn))) (list_any (again k pfn) (range_with_len 0 k)) h) [
     | inl other ↦ other_type k pfn at (notab_is (type_at g.frames pfn) other)
     | inr twice ↦ let (j, _, less, is) = some_passes (again k pfn) 0 k twice in
-        let both = and_parts (is_this pfn (listed g.parts j)) (is_needed g.frames j || is_needed g.frames k) is in
+        let both = and_parts (is_this pfn (listed g.parts j)) (is_needed (type_at g.frames) j || is_needed (type_at g.frames) k) is in
         let before = same_pfn pfn (listed g.parts j) both.0 in
-        elim (or_cases (is_needed g.frames j) (is_needed g.frames k) both.1) [
-          | inl h ↦ let (slot, lt, is) = needed g.frames g.parts j h in listed_twice j k pfn slot (omega (arith, less)) before at lt (inl is)
-          | inr h ↦ let (slot, lt, is) = needed g.frames g.parts k h in listed_twice j k pfn slot (omega (arith, less)) before at lt (inr is)
+        elim (or_cases (is_needed (type_at g.frames) j) (is_needed (type_at g.frames) k) both.1) [
+          | inl h ↦ let (slot, lt, is) = needed (in_stream g) j h in listed_twice j k pfn slot (omega (arith, less)) before at lt (inl (sym (typed g j slot) ∙ is))
+          | inr h ↦ let (slot, lt, is) = needed (in_stream g) k h in listed_twice j k pfn slot (omega (arith, less)) before at lt (inr (sym (typed g k slot) ∙ is))
         ]
   ]
 
   -- an index at which the test is passed
-  placed : (k pfn : ℕ) → listed g.parts k ≡ Some pfn → is_misplaced g.frames g.parts k (Some pfn) ≡ true → P2mAt k (P2mFrame k)
-  placed k pfn at h = (k, counted g.frames g.parts (maps.get g.parts p2m_key) k pfn at, ap (is_misplaced g.frames g.parts k) at ∙ h, refl, refl)
+  placed : (k pfn : ℕ) → listed g.parts k ≡ Some pfn → is_misplaced (type_at g.frames) (maps.get g.parts p2m_key) k (Some pfn) ≡ true → P2mAt k (P2mFrame k)
+  placed k pfn at h = (k, counted (maps.get g.parts p2m_key) k pfn at, ap (is_misplaced (type_at g.frames) (maps.get g.parts p2m_key) k) at ∙ h, refl, refl)
 
   pub twice_placed : (j k pfn slot : ℕ) → j < k → listed g.parts j ≡ Some pfn → listed g.parts k ≡ Some pfn
       → slot < 512 → IsSome (maps.get g.frames (512 * j + slot)) ⊎ IsSome (maps.get g.frames (512 * k + slot)) → P2mAt k (P2mFrame k)
   twice_placed j k pfn slot less before at lt some =
       placed k pfn at (or_right (not (is_notab (type_at g.frames pfn))) _ (passes_some (again k pfn) k j less (and_from _ _ (ap (is_this pfn) before ∙ eq-eqb pfn pfn refl) (elim some [
-        | inl is ↦ or_left _ (is_needed g.frames k) (has_needed g.frames g.parts j slot lt is)
-        | inr is ↦ or_right (is_needed g.frames j) _ (has_needed g.frames g.parts k slot lt is)
+        | inl is ↦ or_left _ (is_needed (type_at g.frames) k) (has_needed (in_stream g) j slot lt (typed g j slot ∙ is))
+        | inr is ↦ or_right (is_needed (type_at g.frames) j) _ (has_needed (in_stream g) k slot lt (typed g k slot ∙ is))
       ]))))
 
   pub type_placed : (k pfn : ℕ) → listed g.parts k ≡ Some pfn → (type_at g.frames pfn ≡ Some Notab → ⊥) → P2mAt k (P2mFrame k)

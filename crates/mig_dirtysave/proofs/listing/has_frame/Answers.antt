@@ -1,9 +1,9 @@
-use Rattle.mig_dirtysave.proofs.Common.{arith, sym, ap, ◌∙◌, is_some, types_seen}
-use Rattle.mig_dirtysave.proofs.ListSteps.{none_has, one_has, far_has}
+use Rattle.mig_dirtysave.proofs.Common.{arith, None, get_or_past, sym, ap, ◌+◌, ◌*◌, ◌∙◌, is_some, types_seen}
+use Rattle.mig_pvtables.proofs.P2mWalks.{none_has, one_has}
 use Rattle.mig_dirtysave.proofs.listing.has_frame.Goals as goal
 
 pub returns-then-index-types : goal.returns-then-index-types
-returns-then-index-types c = sym (far_has c.args.types.now c.args.index c.if-index-types.true)
+returns-then-index-types c = sym (none_has (types_seen c.args.types.now) c.args.index (λ slot lt. ap is_some (get_or_past c.args.types.now (512 * c.args.index + slot) None (omega (arith, c.if-index-types.true)))))
 
 pub returns-then-is_some : goal.returns-then-is_some
 returns-then-is_some c =

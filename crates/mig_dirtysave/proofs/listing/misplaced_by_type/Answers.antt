@@ -1,37 +1,30 @@
-use Rattle.mig_dirtysave.proofs.Common.{arith, ◌<◌, length, get_or, Some, None, ap, subst, ◌∙◌, set, long_at, types_seen}
-use Rattle.mig_dirtysave.proofs.ListSteps.{nothing_marked, nothing_ill, found_ill, more_fine, more_marked, is_typed, none_ill, first_of_standing}
+use Rattle.mig_dirtysave.proofs.Common.{arith, ◌≡◌, ℕ, List, ◌<◌, length, Some, None, sym, ap, ◌∙◌, cond, long_at}
+use Rattle.std.proofs.Common.{◌/◌}
+use Rattle.std.proofs.lemmas.Bool.{lt-ltb, le-ltb}
+use Rattle.std.proofs.lemmas.List.{get_or-set_same, get_or-set_other}
+use Rattle.mig_pvtables.specs.P2mFrames.{listed_in}
+use Rattle.mig_pvtables.proofs.P2mWalks.{nothing_marked, nothing_ill, found_ill, more_fine, more_marked, is_typed, none_ill}
 use Rattle.mig_dirtysave.proofs.listing.misplaced_by_type.Goals as goal
 
+listed_here : (list : List ℕ) {k pfn : ℕ} → k < length list / 8 → pfn ≡ long_at list k → listed_in (Some list) k ≡ Some pfn
+listed_here list {k = k} lt is = ap (λ b. cond b (Some (long_at list k)) None) (lt-ltb k (length list / 8) lt) ∙ ap (λ n. Some n) (sym is)
+
 pub loop-index-init : goal.loop-index-init
-loop-index-init c = record {
-  marked = nothing_marked (types_seen c.args.types.now) c.args.list.now c.clear.new.marks c.clear.ensures;
-  fine = nothing_ill (types_seen c.args.types.now) c.args.list.now;
-}
+loop-index-init c = record { marked = nothing_marked _ _ c.clear.ensures; fine = nothing_ill _ _ }
 
 pub returns-then-is_misplaced : goal.returns-then-is_misplaced
-returns-then-is_misplaced c s same is =
-    let types = types_seen c.args.types.now in
-    found_ill types c.args.list.now c.loop-index.invariant.marked c.loop-index-test.true
-    (c.type_seen.ensures.value ∙ ap types c.u64_le-pfn.ensures)
-    (c.mark_of.ensures ∙ ap (λ n. get_or c.loop-index.marks n None) c.u64_le-pfn.ensures)
-    c.has_frame-needed.ensures c.is_misplaced.ensures c.loop-index.invariant.fine c.if-is_misplaced.true
-    ∙ first_of_standing s types c.args.list.now same is
+returns-then-is_misplaced c =
+    found_ill _ _ c.loop-index.invariant.marked (listed_here c.args.list.now c.loop-index-test.true c.u64_le-pfn.ensures) c.type_seen.ensures.value c.mark_of.ensures c.has_frame-needed.ensures c.is_misplaced.ensures c.loop-index.invariant.fine c.if-is_misplaced.true
 
 pub loop-index-preserved : goal.loop-index-preserved
 loop-index-preserved c =
-    let types = types_seen c.args.types.now in
-    let list = c.args.list.now in
-    let type = c.type_seen.ensures.value ∙ ap types c.u64_le-pfn.ensures in
-    let mark = c.mark_of.ensures ∙ ap (λ n. get_or c.loop-index.marks n None) c.u64_le-pfn.ensures in
-    let typed = is_typed types list c.loop-index.invariant.marked c.loop-index-test.true type mark c.has_frame-needed.ensures c.is_misplaced.ensures c.if-is_misplaced.false in
-    let inside : long_at list c.loop-index.index < length c.loop-index.marks =
-    subst (λ n. n < length c.loop-index.marks) c.u64_le-pfn.ensures (omega (arith, c.type_seen.ensures.inside typed, c.requires, c.loop-index.auto.marks)) in
+    let typed = is_typed _ _ c.loop-index.invariant.marked (listed_here c.args.list.now c.loop-index-test.true c.u64_le-pfn.ensures) c.type_seen.ensures.value c.mark_of.ensures c.has_frame-needed.ensures c.is_misplaced.ensures c.if-is_misplaced.false in
+    let inside : c.u64_le-pfn.result < length c.loop-index.marks = omega (arith, c.type_seen.ensures.inside typed, c.requires, c.loop-index.auto.marks) in
     record {
-      marked = more_marked types list c.loop-index.invariant.marked c.loop-index-test.true type mark c.has_frame-needed.ensures c.is_misplaced.ensures c.if-is_misplaced.false inside
-          (ap (λ n. set c.loop-index.marks n (Some c.has_frame-needed.result)) c.u64_le-pfn.ensures);
-      fine = more_fine types list c.loop-index.invariant.marked c.loop-index-test.true type mark c.has_frame-needed.ensures c.is_misplaced.ensures c.loop-index.invariant.fine c.if-is_misplaced.false;
+      marked = more_marked _ _ c.loop-index.invariant.marked (listed_here c.args.list.now c.loop-index-test.true c.u64_le-pfn.ensures) c.type_seen.ensures.value c.mark_of.ensures c.has_frame-needed.ensures c.is_misplaced.ensures c.if-is_misplaced.false
+          (get_or-set_same c.loop-index.marks c.u64_le-pfn.result (Some c.has_frame-needed.result) None inside) (λ q ne. get_or-set_other c.loop-index.marks c.u64_le-pfn.result q (Some c.has_frame-needed.result) None ne);
+      fine = more_fine _ _ c.loop-index.invariant.marked (listed_here c.args.list.now c.loop-index-test.true c.u64_le-pfn.ensures) c.type_seen.ensures.value c.mark_of.ensures c.has_frame-needed.ensures c.is_misplaced.ensures c.loop-index.invariant.fine c.if-is_misplaced.false;
     }
 
 pub returns : goal.returns
-returns c s same is =
-    none_ill (types_seen c.args.types.now) c.args.list.now c.loop-index.invariant.fine (omega (arith, c.loop-index-test.false)) ∙ first_of_standing s (types_seen c.args.types.now) c.args.list.now same is
+returns c = none_ill _ _ c.loop-index.invariant.fine (ap (λ b. cond b (Some (long_at c.args.list.now c.loop-index.index)) None) (le-ltb c.loop-index.index (length c.args.list.now / 8) (omega (arith, c.loop-index-test.false))))
