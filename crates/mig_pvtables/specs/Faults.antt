@@ -131,18 +131,26 @@ find_field frames parts = find_in_contexts (misfits frames) parts
 abbrev pub too_many : FrameMap → Option Cause
 too_many frames = if nat_lt most_frames (length (maps.entries frames)) then Some TooManyFrames else None
 
--- the causes that are tried, in the order of their numbers. An HVM guest has no P2M frames, tables and contexts of vCPUs.
-abbrev pub faults_for : Kind → GuestOf → List (Option Cause)
-faults_for Hvm g = missing g.parts context_key ∷ too_many g.frames ∷ []
-faults_for Pv g =
+-- the causes that are tried, in the order of their numbers, where these frames tell the types that P2M frames and fields
+-- ask for. An HVM guest has no P2M frames, tables and contexts of vCPUs.
+abbrev pub faults_by : FrameMap → Kind → GuestOf → List (Option Cause)
+faults_by typed Hvm g = missing g.parts context_key ∷ too_many g.frames ∷ []
+faults_by typed Pv g =
     missing g.parts p2m_key
     ∷ missing g.parts shared_key
     ∷ missing g.parts (vcpu_key 0)
-    ∷ option_map (λ k. P2mFrame k) (find_p2m g.frames g.parts)
+    ∷ option_map (λ k. P2mFrame k) (find_p2m typed g.parts)
     ∷ option_map (λ at. TargetAbsent at.0 at.1) (find_entry (is_absent g.frames) g.frames)
-    ∷ option_map (λ at. VcpuFrame at.0 at.1) (find_field g.frames g.parts)
+    ∷ option_map (λ at. VcpuFrame at.0 at.1) (find_field typed g.parts)
     ∷ too_many g.frames
     ∷ []
+
+abbrev pub fault_by : FrameMap → GuestOf → Option Cause
+fault_by typed g = first_cause (faults_by typed g.kind g)
+
+-- they are told by the guest's own frames
+abbrev pub faults_for : Kind → GuestOf → List (Option Cause)
+faults_for kind g = faults_by g.frames kind g
 
 abbrev pub fault_of_guest : GuestOf → Option Cause
 fault_of_guest g = first_cause (faults_for g.kind g)

@@ -5,9 +5,10 @@ ghost use Rattle.mig_guest.specs.declared.part_key.PartKey.{PartKey};
 ghost use Rattle.mig_pvtables.specs.Faults.{type_at, fits_field, field_numbers, find_in_contexts, misses};
 ghost use Rattle.mig_pvtables.specs.VcpuContexts.{Usage, is_used, says_where};
 
+use crate::listing::TypedFrames;
 use crate::vcpu::{FIELDS, vcpu_frame};
 use crate::walking::next_context;
-use mig_guest::{Guest, Parts};
+use mig_guest::Parts;
 use mig_pagetypes::PageType;
 
 /// Whether a field of a vCPU's context may say a frame of this type.
@@ -39,17 +40,23 @@ pub trait FieldFrames {
         ensures { result ≡ types self.now frame };
 }
 
-impl FieldFrames for Guest {
+/// The frames of a guest in a stream, by their numbers.
+#[derive(Drop)]
+pub(crate) struct InStream<'a, T> {
+    pub(crate) frames: &'a T,
+}
+
+impl<T: TypedFrames> FieldFrames for InStream<'_, T> {
     ghost used = { λ _. is_used };
 
-    ghost types = { λ guest. type_at guest.frames };
+    ghost types = { λ it. type_at (T.frames it.frames.now) };
 
     fn field_frame(&self, context: &[u8; 5168], id: u32, field: u8) -> Option<u64> {
         vcpu_frame(context, id, field)
     }
 
     fn type_of(&self, frame: u64) -> Option<PageType> {
-        self.frame(frame)
+        self.frames.type_of_frame(frame)
     }
 }
 

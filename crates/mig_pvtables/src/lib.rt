@@ -32,7 +32,8 @@ pub use law::{
     whole_as_its_blank_form, worked_pv_guest_is_whole,
 };
 pub use listing::{
-    PartsByKey, frame_type, is_misplaced, listed_pfn, misplaced_frame, missing_part, sole_key,
+    PartsByKey, TypedFrames, frame_type, is_misplaced, listed_pfn, misplaced_frame, missing_part,
+    sole_key,
 };
 pub use mig_guest::Entry;
 pub use p2m::p2m_page;
@@ -41,7 +42,7 @@ pub use renaming_law::{
     localised_table_comes_back, normalise_table_refuses_the_first, renamed_table_says_the_same,
 };
 pub use table::{check_table, entry, put_entry, superpage_slot};
-pub use testing::{WholeAnswer, whole};
+pub use testing::{WholeAnswer, whole, whole_by};
 pub use vcpu::{FIELDS, VCPU_BASIC, gdt_ents, host_frame, put_vcpu_frame, vcpu_frame};
 pub use walking::{
     ContextStep, P2mStep, TableStep, each_context, each_p2m_frame, each_table, next_context,

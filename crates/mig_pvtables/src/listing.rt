@@ -3,6 +3,7 @@ ghost use Rattle.mig_guest.specs.PartKeys.{p2m_key};
 ghost use Rattle.std.specs.Prelude.{◌≡◌, ◌≤◌, ◌<◌, ◌^◌, IfSome, IfOk, IsSome, is_none, ◌==◌, ◌||◌, not, if◌then◌else◌};
 ghost use Rattle.std.specs.Option.{option_map};
 ghost use Rattle.mig_guest.specs.PartCodes.{code_number};
+ghost use Rattle.mig_guest.specs.Frames.{FrameMap};
 ghost use Rattle.mig_guest.specs.Parts.{PartMap};
 ghost use Rattle.mig_pagetypes.specs.Limits.{pfn_limit};
 ghost use Rattle.mig_pvtables.specs.Faults.{first_some, needed_keys, missing_code as code_of_missing, is_needed as has_frames, is_notab, type_at, find_p2m};
@@ -89,16 +90,36 @@ pub fn listed_pfn(parts: &Parts, index: usize) -> Option<u64>
     }
 }
 
-/// Whether a PFN of P2M frame `index` has a frame.
-#[tactic(auto, using(crate::proofs::P2mWalks::none_needed, crate::proofs::P2mWalks::some_needed, crate::proofs::P2mWalks::later_needed))]
-fn is_needed(frames: &FrameStore, index: usize) -> bool
-    requires { index < 2 ^ 50 }
-    ensures { result ≡ has_frames (type_at frames.now.frames) index }
-{
-    let start = 512 * index as u64;
-    match frames.next(start) {
-        Some((pfn, _, _)) => pfn - start < 512,
-        None => false,
+/// Whoever tells the types of frames.
+pub trait TypedFrames {
+    /// The frames.
+    ghost frames: { Self → FrameMap };
+
+    /// The type of a frame.
+    fn type_of_frame(&self, pfn: u64) -> Option<PageType>
+        ensures value { result ≡ type_at (frames self.now) pfn }
+        ensures small { IsSome result → pfn < pfn_limit };
+
+    /// Whether a PFN of P2M frame `index` has a frame.
+    fn is_needed(&self, index: usize) -> bool
+        requires { index < 2 ^ 50 }
+        ensures { result ≡ has_frames (type_at (frames self.now)) index };
+}
+
+impl TypedFrames for FrameStore {
+    ghost frames = { λ store. store.frames };
+
+    fn type_of_frame(&self, pfn: u64) -> Option<PageType> {
+        frame_type(self, pfn)
+    }
+
+    #[tactic(auto, using(crate::proofs::P2mWalks::none_needed, crate::proofs::P2mWalks::some_needed, crate::proofs::P2mWalks::later_needed))]
+    fn is_needed(&self, index: usize) -> bool {
+        let start = 512 * index as u64;
+        match self.next(start) {
+            Some((pfn, _, _)) => pfn - start < 512,
+            None => false,
+        }
     }
 }
 
@@ -146,19 +167,19 @@ pub fn frame_type(frames: &FrameStore, pfn: u64) -> Option<PageType>
 
 /// The first place at which the list of the P2M frames is wrong. A mark is kept of each PFN that is a frame of its own, so
 /// that memory is taken for frames that were sent, and not for what the list names.
-pub fn misplaced_frame(
+pub fn misplaced_frame<T: TypedFrames>(
     alloc: Global,
-    frames: &FrameStore,
+    frames: &T,
     parts: &Parts,
 ) -> Result<Option<usize>, Memory>
     requires { count_in (maps.get parts.now p2m_key) ≤ 2 ^ 43 }
-    ensures { IfOk result (λ place. place ≡ find_p2m frames.now.frames parts.now) }
+    ensures { IfOk result (λ place. place ≡ find_p2m (T.frames frames.now) parts.now) }
 {
     let mut marks = Index::new(alloc);
     let mut index = 0;
     while let Some(pfn) = listed_pfn(parts, index) {
-        let needed = is_needed(frames, index);
-        if is_misplaced(frame_type(frames, pfn), mark_of(&marks, pfn), needed) {
+        let needed = frames.is_needed(index);
+        if is_misplaced(frames.type_of_frame(pfn), mark_of(&marks, pfn), needed) {
             return Ok(Some(index));
         }
         let Ok(()) = marks.reserve(1) else {

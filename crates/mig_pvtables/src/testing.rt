@@ -5,12 +5,13 @@ ghost use Rattle.mig_headers.specs.declared.fault.Cause.TheVariants.{TargetAbsen
 ghost use Rattle.mig_headers.specs.declared.kind.Kind.TheVariants.{Hvm, Pv};
 ghost use Rattle.mig_pagetypes.specs.PageTypes.{level_of};
 ghost use Rattle.mig_guest.specs.Formed.{IsFormed};
+ghost use Rattle.mig_guest.specs.Frames.{FrameMap};
 ghost use Rattle.mig_guest.specs.Tables.{entry as what_is_said};
-ghost use Rattle.mig_pvtables.specs.Faults.{find_slot, find_entry, is_absent, slots, find_field, needed_keys, first_some, missing, too_many as more_than_allowed, first_cause, fault_of_guest};
+ghost use Rattle.mig_pvtables.specs.Faults.{find_slot, find_entry, is_absent, slots, find_field, needed_keys, first_some, missing, too_many as more_than_allowed, first_cause, fault_by, fault_of_guest};
 ghost use Rattle.mig_pvtables.specs.declared.testing.WholeAnswer.TheVariants.{Fault, Memory as NoMemory};
 
-use crate::fields::bad_field;
-use crate::listing::{misplaced_frame, missing_part};
+use crate::fields::{InStream, bad_field};
+use crate::listing::{TypedFrames, misplaced_frame, missing_part};
 use crate::table::{SLOTS, entry};
 use mig_bytes::Memory;
 use mig_guest::{Entry, Guest};
@@ -92,39 +93,43 @@ fn absent_target(guest: &Guest) -> Option<(u64, usize)>
 }
 
 /// The first cause in a PV guest that comes behind those of its P2M frames.
-fn later_fault(guest: &Guest) -> Option<Cause>
+fn later_fault<T: TypedFrames>(guest: &Guest, frames: &T) -> Option<Cause>
     requires { IsFormed guest.now }
     ensures { result ≡ first_cause (option_map (λ at. TargetAbsent at.0 at.1) (find_entry (is_absent guest.now.frames) guest.now.frames)
-        ∷ option_map (λ at. VcpuFrame at.0 at.1) (find_field guest.now.frames guest.now.parts) ∷ more_than_allowed guest.now.frames ∷ []) }
+        ∷ option_map (λ at. VcpuFrame at.0 at.1) (find_field (T.frames frames.now) guest.now.parts) ∷ more_than_allowed guest.now.frames ∷ []) }
 {
     if let Some((pfn, slot)) = absent_target(guest) {
         return Some(Cause::TargetAbsent(pfn, slot as u64));
     }
-    if let Some((id, field)) = bad_field(guest.parts(), guest) {
+    if let Some((id, field)) = bad_field(guest.parts(), &InStream { frames }) {
         return Some(Cause::VcpuFrame(u64::from(id), u64::from(field)));
     }
     too_many(guest)
 }
 
 /// The first cause in a PV guest.
-fn pv_fault(alloc: Global, guest: &Guest) -> Result<Option<Cause>, Memory>
+fn pv_fault<T: TypedFrames>(
+    alloc: Global,
+    guest: &Guest,
+    frames: &T,
+) -> Result<Option<Cause>, Memory>
     requires formed { IsFormed guest.now }
     requires pv { guest.now.kind ≡ Pv }
-    ensures { IfOk result (λ fault. fault ≡ fault_of_guest guest.now) }
+    ensures { IfOk result (λ fault. fault ≡ fault_by (T.frames frames.now) guest.now) }
 {
     if let Some(cause) = absent_part(guest) {
         return Ok(Some(cause));
     }
-    if let Some(place) = misplaced_frame(alloc, guest.frame_store(), guest.parts())? {
+    if let Some(place) = misplaced_frame(alloc, frames, guest.parts())? {
         return Ok(Some(Cause::P2mFrame(place as u64)));
     }
-    Ok(later_fault(guest))
+    Ok(later_fault(guest, frames))
 }
 
 /// The first cause in an HVM guest.
 fn hvm_fault(guest: &Guest) -> Option<Cause>
     requires { guest.now.kind ≡ Hvm }
-    ensures { result ≡ fault_of_guest guest.now }
+    ensures { (typed : FrameMap) → result ≡ fault_by typed guest.now }
 {
     absent_part(guest).or(too_many(guest))
 }
@@ -137,9 +142,19 @@ pub fn whole(alloc: Global, guest: &Guest) -> Result<(), WholeAnswer>
     ensures fault { (c : Cause) → result ≡ Err (Fault c) → fault_of_guest guest.now ≡ Some c }
     ensures hvm { guest.now.kind ≡ Hvm → result ≢ Err NoMemory }
 {
+    whole_by(alloc, guest, guest.frame_store())
+}
+
+/// The same, where others than the guest tell the types of the frames that P2M frames and fields of vCPUs ask for.
+pub fn whole_by<T: TypedFrames>(alloc: Global, guest: &Guest, frames: &T) -> Result<(), WholeAnswer>
+    requires { IsFormed guest.now }
+    ensures ok { OnOk result (fault_by (T.frames frames.now) guest.now ≡ None) }
+    ensures fault { (c : Cause) → result ≡ Err (Fault c) → fault_by (T.frames frames.now) guest.now ≡ Some c }
+    ensures hvm { guest.now.kind ≡ Hvm → result ≢ Err NoMemory }
+{
     let fault = match guest.kind() {
         Kind::Hvm => hvm_fault(guest),
-        Kind::Pv => match pv_fault(alloc, guest) {
+        Kind::Pv => match pv_fault(alloc, guest, frames) {
             Ok(fault) => fault,
             Err(Memory) => return Err(WholeAnswer::Memory),
         },

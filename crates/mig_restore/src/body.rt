@@ -124,7 +124,7 @@ fn take_p2m<S: Source>(
 }
 
 /// Takes the body of an optional record, and keeps nothing of it.
-fn skip_body<S: Source>(src: &mut S, len: u32) -> Result<(), Stop<Cause>>
+pub fn skip_body<S: Source>(src: &mut S, len: u32) -> Result<(), Stop<Cause>>
     ensures read { Gives (λ _ c. c ≡ Nothing) (S.left src.old) (S.left src.new) (plain_at Truncated (λ _. Nothing) len) result }
     ensures faults { RisesOnReadFault (S.faults src.old) (S.faults src.new) result }
     ensures takes_no_memory { ¬ IsErrOf result Memory }
@@ -154,7 +154,7 @@ fn take_words<S: Source>(alloc: Global, src: &mut S, count: u32) -> Result<Vec<u
 
 /// Takes the page that goes with the word at this place of its record, where its type has data, and sets the frame. A
 /// table of a PV guest is judged before.
-fn take_entry<S: Source>(
+pub fn take_entry<S: Source>(
     src: &mut S,
     place: u32,
     word: u64,
@@ -208,7 +208,7 @@ pub fn take_entries<S: Source>(
 }
 
 /// Takes the count and the words of a PAGE_DATA record, for frame numbers up to top, and judges them.
-pub(crate) fn take_list<S: Source>(
+pub fn take_list<S: Source>(
     alloc: Global,
     src: &mut S,
     len: u32,

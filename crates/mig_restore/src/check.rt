@@ -109,7 +109,7 @@ fn check_pages<S: Source>(
 
 /// Takes a record's body, and keeps what it says; behind a VERIFY it keeps no frames, but compares them. Says how many
 /// entries differ.
-pub(crate) fn take_placed<S: Source>(
+pub fn take_placed<S: Source>(
     alloc: Global,
     src: &mut S,
     head: RecordHead,

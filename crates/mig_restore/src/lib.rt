@@ -18,6 +18,7 @@ mod page;
 mod read;
 
 pub use answer::StreamAnswer;
-pub use body::take_entries;
+pub use body::{skip_body, take_entries, take_entry, take_list};
+pub use check::take_placed;
 pub use page::are_bytes;
-pub use read::{Reading, read_image, read_image_rest};
+pub use read::{Reading, read_head, read_headers, read_image, read_image_rest, read_opening};

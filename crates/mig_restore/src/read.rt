@@ -41,7 +41,7 @@ pub struct Reading {
 }
 
 /// Takes the next record's head.
-fn read_head<S: Source>(src: &mut S, seen: &mut RecordsSeen) -> Result<RecordHead, Stop<Cause>>
+pub fn read_head<S: Source>(src: &mut S, seen: &mut RecordsSeen) -> Result<RecordHead, Stop<Cause>>
     ensures read { (b : Before) → IsSeen seen.old b.opening b.types →
         Gives (λ h head. h ≡ head_in head) (S.left src.old) (S.left src.new) (head_at b) result }
     ensures seen { IfOk result (λ h. (o : Opening) (types : List ℕ) → IsSeen seen.old o types → IsSeen seen.new o (types ++ h.kind ∷ [])) }
@@ -194,7 +194,7 @@ fn read_kind<S: Source>(src: &mut S) -> Result<Kind, Stop<Cause>>
 }
 
 /// Takes both headers behind the marker: the version and the kind.
-fn read_headers<S: Source>(src: &mut S) -> Result<(u32, Kind), Stop<(Place, Cause)>>
+pub fn read_headers<S: Source>(src: &mut S) -> Result<(u32, Kind), Stop<(Place, Cause)>>
     ensures read { Gives (λ read opening. opening ≡ opening_of read.0 read.1) (S.left src.old) (S.left src.new) opening_behind result }
     ensures faults { RisesOnReadFault (S.faults src.old) (S.faults src.new) result }
     ensures takes_no_memory { ¬ IsErrOf result Memory }
@@ -210,7 +210,7 @@ fn read_headers<S: Source>(src: &mut S) -> Result<(u32, Kind), Stop<(Place, Caus
 }
 
 /// Takes both headers: the version and the kind.
-fn read_opening<S: Source>(src: &mut S) -> Result<(u32, Kind), Stop<(Place, Cause)>>
+pub fn read_opening<S: Source>(src: &mut S) -> Result<(u32, Kind), Stop<(Place, Cause)>>
     ensures read { Gives (λ read opening. opening ≡ opening_of read.0 read.1) (S.left src.old) (S.left src.new) opening_at result }
     ensures faults { RisesOnReadFault (S.faults src.old) (S.faults src.new) result }
     ensures takes_no_memory { ¬ IsErrOf result Memory }

@@ -4,10 +4,10 @@ use Rattle.std.specs.FinMap as maps
 use Rattle.mig_pvtables.proofs.listing.misplaced_frame.Given as goal
 
 abbrev pub invariant-loop-pfn : goal.invariant-loop-pfn
-invariant-loop-pfn l = record {
-  are : AreMarked (type_at l.fn.frames.frames) (maps.get l.fn.parts p2m_key) l.index (marks_in l.marks.values);
-  fine : IsFineTo (type_at l.fn.frames.frames) (maps.get l.fn.parts p2m_key) l.index;
+invariant-loop-pfn g l = record {
+  are : AreMarked (type_at (g.T.TypedFrames.frames l.fn.frames)) (maps.get l.fn.parts p2m_key) l.index (marks_in l.marks.values);
+  fine : IsFineTo (type_at (g.T.TypedFrames.frames l.fn.frames)) (maps.get l.fn.parts p2m_key) l.index;
 }
 
 abbrev pub decreases-loop-pfn : goal.decreases-loop-pfn
-decreases-loop-pfn l = count_in (maps.get l.fn.parts p2m_key) - l.index
+decreases-loop-pfn g l = count_in (maps.get l.fn.parts p2m_key) - l.index

@@ -1,0 +1,6 @@
+pub mod Changed
+pub mod Faults
+pub mod Forgotten
+pub mod Outline
+pub mod Entries
+pub mod Arrivals

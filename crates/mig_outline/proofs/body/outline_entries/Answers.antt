@@ -1,0 +1,40 @@
+use Rattle.mig_restore.proofs.Common.{◌≡◌, ◌≤◌, get_or, [], refl, rules, subst, sym, length, take, Ok, done, each_step, each_ends, with_places, entry_at, IsGoodWord, Gives}
+use Rattle.std.proofs.lemmas.List.Elements.{All-get_or}
+use Rattle.std.proofs.lemmas.List.{take_all}
+use Rattle.mig_bytes.specs.Judged.{each}
+use Rattle.mig_restore_form.proofs.Growth.{grows_not, grows_on}
+use Rattle.mig_restore_form.proofs.Batches.{places_len, entry_here, place_within}
+use Rattle.mig_outline.specs.Outline.{put_outline_entries}
+use Rattle.mig_outline.proofs.Entries.{one_more_outlined}
+use Rattle.mig_outline.proofs.body.outline_entries.Goals as goal
+
+pub loop-place-init : goal.loop-place-init
+unfolding each
+loop-place-init g c = record { read = done _ _ _ tt [] (λ i. refl) refl; grown = grows_not c.args.guest.now; top = refl; quiet = search rules }
+
+pub outline_entry-requires : goal.outline_entry-requires
+outline_entry-requires g c =
+    subst (λ t. IsGoodWord c.loop-place.guest.kind t (get_or c.args.list.now c.loop-place.place 0)) (sym c.loop-place.invariant.top)
+    (subst (λ k. IsGoodWord k c.args.guest.now.top (get_or c.args.list.now c.loop-place.place 0)) (sym c.loop-place.invariant.grown.kind)
+    (All-get_or (IsGoodWord c.args.guest.now.kind c.args.guest.now.top) c.args.list.now c.loop-place.place 0 c.loop-place-test.true c.requires.good))
+
+pub returns-in_err-outline_entry-clause-read : goal.returns-in_err-outline_entry-clause-read
+returns-in_err-outline_entry-clause-read g c =
+    each_ends (entry_at c.args.guest.now.kind c.args.guest.now.top) _ _ _ _ _ _ (with_places 0 c.args.list.now) c.loop-place.place (0, 0) tt c.in_err-outline_entry.field-0.0 c.from_residual.result (place_within c.loop-place.place c.args.list.now c.loop-place-test.true) c.loop-place.invariant.read
+    (entry_here _ _ _ _ c.args.guest.now.kind _ c.args.guest.now.top _ c.loop-place.place c.args.list.now c.loop-place.invariant.grown.kind c.loop-place.invariant.top c.loop-place-test.true c.in_err-outline_entry.ensures.read) (search rules)
+
+pub loop-place-preserved : goal.loop-place-preserved
+loop-place-preserved g c = record {
+  read = each_step (entry_at c.args.guest.now.kind c.args.guest.now.top) _ _ _ _ _ _ (with_places 0 c.args.list.now) c.loop-place.place (0, 0) tt _ tt (place_within c.loop-place.place c.args.list.now c.loop-place-test.true) c.loop-place.invariant.read
+      (entry_here _ _ _ _ c.args.guest.now.kind _ c.args.guest.now.top _ c.loop-place.place c.args.list.now c.loop-place.invariant.grown.kind c.loop-place.invariant.top c.loop-place-test.true c.in_ok-outline_entry.ensures.read)
+      (λ es e r q. one_more_outlined _ _ _ es e r q);
+  grown = grows_on c.args.guest.now _ _ c.loop-place.invariant.grown c.in_ok-outline_entry.ensures.grown;
+  top = search rules;
+  quiet = search rules;
+}
+
+pub returns-clause-read : goal.returns-clause-read
+returns-clause-read g c =
+    let at_end : length c.args.list.now ≤ c.loop-place.place = search rules in
+    let whole : take c.loop-place.place (with_places 0 c.args.list.now) ≡ with_places 0 c.args.list.now = take_all c.loop-place.place (with_places 0 c.args.list.now) (subst (λ n. n ≤ c.loop-place.place) (sym (places_len 0 c.args.list.now)) at_end) in
+    subst (λ ats. Gives {X = Unit {0}} (λ _ es. c.loop-place.guest ≡ record c.args.guest.now { frames = put_outline_entries c.args.guest.now.kind c.args.guest.now.frames es }) (g.S.Source.left c.args.src.now) (g.S.Source.left c.loop-place.src) (each (entry_at c.args.guest.now.kind c.args.guest.now.top) ats) (Ok tt)) whole c.loop-place.invariant.read

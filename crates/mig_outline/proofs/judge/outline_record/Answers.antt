@@ -1,0 +1,31 @@
+use Rattle.mig_restore.proofs.Common.{Bool, refl, rules, ap, ◌∙◌, padding_len, part, Passes, is_verified, placed_content, mapped, then_reads, stopped, Truncated, head_at, body_at}
+use Rattle.mig_restore_form.specs.Judging.{record_at}
+use Rattle.mig_restore_form.proofs.Parts.{behind_body, behind_head, begins, goes_on, padded}
+use Rattle.mig_outline.specs.Outline.{put_outline_content}
+use Rattle.mig_outline.proofs.judge.outline_record.Goals as goal
+
+pub returns-in_err-head-clause-read : goal.returns-in_err-head-clause-read
+returns-in_err-head-clause-read g c = λ b seen kind top verified.
+    stopped _ _ _ _ (head_at b) (record_at b) (behind_head b) c.in_err-head.field-0.0 c.from_residual.result (begins b) (search rules) (c.in_err-head.ensures.read b seen)
+
+pub returns-in_err-outline_body-clause-read : goal.returns-in_err-outline_body-clause-read
+returns-in_err-outline_body-clause-read g c = λ b seen kind top verified.
+    then_reads _ _ _ _ _ (head_at b) (record_at b) (behind_head b) c.in_ok-head.head c.from_residual-in_err-outline_body.result (begins b) (c.in_ok-head.ensures.read b seen)
+    (λ head is. stopped _ _ _ _ (body_at c.args.guest.now.kind c.args.guest.now.top c.in_ok-head.head.kind c.in_ok-head.head.len) (λ i. behind_head b (head, i)) (behind_body b head) c.in_err-outline_body.field-0.0 c.from_residual-in_err-outline_body.result
+    (goes_on b head c.in_ok-head.head c.args.guest.now.kind c.args.guest.now.top is kind top) (search rules) c.in_err-outline_body.ensures.read)
+
+pub returns-in_err-take_padding-clause-read : goal.returns-in_err-take_padding-clause-read
+returns-in_err-take_padding-clause-read g c = λ b seen kind top verified.
+    then_reads _ _ _ _ _ (head_at b) (record_at b) (behind_head b) c.in_ok-head.head c.from_residual-in_err-take_padding.result (begins b) (c.in_ok-head.ensures.read b seen)
+    (λ head is. then_reads _ _ _ _ _ (body_at c.args.guest.now.kind c.args.guest.now.top c.in_ok-head.head.kind c.in_ok-head.head.len) (λ i. behind_head b (head, i)) (behind_body b head) _ c.from_residual-in_err-take_padding.result
+    (goes_on b head c.in_ok-head.head c.args.guest.now.kind c.args.guest.now.top is kind top) c.in_ok-outline_body.ensures.read
+    (λ r _. stopped _ _ _ _ (part Truncated (padding_len c.in_ok-head.head.len)) (λ i. behind_body b head (r, i)) (λ padding. Passes (record { type = c.in_ok-head.head.kind; content = placed_content (is_verified b.types) r }) padding.1) c.in_err-take_padding.field-0.0 c.from_residual-in_err-take_padding.result
+    (padded b head c.in_ok-head.head r is) (search rules) c.in_err-take_padding.ensures.read))
+
+pub returns-clause-read : goal.returns-clause-read
+returns-clause-read g c = λ b seen kind top verified.
+    then_reads _ _ _ _ _ (head_at b) (record_at b) (behind_head b) c.in_ok-head.head _ (begins b) (c.in_ok-head.ensures.read b seen)
+    (λ head is. then_reads _ _ _ _ _ (body_at c.args.guest.now.kind c.args.guest.now.top c.in_ok-head.head.kind c.in_ok-head.head.len) (λ i. behind_head b (head, i)) (behind_body b head) _ _
+    (goes_on b head c.in_ok-head.head c.args.guest.now.kind c.args.guest.now.top is kind top) c.in_ok-outline_body.ensures.read
+    (λ r told. mapped _ _ _ _ (part Truncated (padding_len c.in_ok-head.head.len)) (λ i. behind_body b head (r, i)) (λ _. record { type = c.in_ok-head.head.kind; content = placed_content (is_verified b.types) r }) _ _
+    (padded b head c.in_ok-head.head r is) c.in_ok-take_padding.ensures.read (λ _ _. (told ∙ ap (λ (v : Bool). put_outline_content c.args.guest.now (placed_content v r)) verified, refl, c.is_behind.ensures))))

@@ -1,0 +1,3 @@
+pub mod Forgotten
+pub mod Judges
+pub mod Outline
