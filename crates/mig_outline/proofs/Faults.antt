@@ -1,6 +1,7 @@
 -- What is wrong with a guest whose frames are each changed, so that tables stay, and NOTAB frames and roots stay such.
-use Rattle.mig_pvtables.proofs.Common.{◌≡◌, ◌*◌, ◌+◌, ℕ, Bool, true, false, not, List, [], ◌∷◌, length, nat_lt, nat_le, cond, Option, Some, None, is_some, refl, sym, ap, ◌∙◌, ◌&&◌, ◌||◌, option_map, option_or, list_any, range_with_len, find, nat_cmp_total, nat_cmp-IsAntisymmetric, Pv, Hvm, TooManyFrames, most_frames, level_of, Entry, Frame, FrameOf, FrameMap, GuestOf, PartMap, entry, type_at, listed, is_this, is_notab, is_needed, is_misplaced, find_slot, find_entry, find_p2m, is_absent, fits_field, first_some, first_cause, faults_for, fault_of_guest, count_in, p2m_key, gdt_ents, field_value, frame_of_field, is_used, PageType, each_value}
+use Rattle.mig_pvtables.proofs.Common.{◌≡◌, ◌*◌, ◌+◌, ℕ, Bool, true, false, not, List, [], ◌∷◌, length, nat_lt, nat_le, cond, Option, Some, None, is_some, refl, sym, ap, ◌∙◌, ◌&&◌, ◌||◌, option_map, option_or, list_any, range_with_len, find, nat_cmp_total, nat_cmp-IsAntisymmetric, Pv, Hvm, TooManyFrames, most_frames, level_of, Entry, Frame, FrameOf, FrameMap, GuestOf, PartMap, entry, type_at, listed_in, is_this, is_notab, is_needed, is_misplaced, find_slot, find_entry, find_p2m, is_absent, fits_field, first_some, first_cause, faults_for, fault_of_guest, count_in, p2m_key, gdt_ents, field_value, frame_of_field, is_used, PageType, each_value}
 use Rattle.std.specs.FinMap as maps
+use Rattle.mig_guest.proofs.KeyedMaps.{is_some-mapped}
 use Rattle.mig_headers.specs.declared.kind.Kind.{Kind}
 use Rattle.mig_guest.specs.declared.table.Entry.TheVariants.{Blank, NotPresent, Superpage}
 use Rattle.mig_headers.specs.declared.fault.Cause.{Cause}
@@ -11,7 +12,7 @@ use Rattle.mig_guest.specs.PartKeys.{shared_key, vcpu_key, context_key}
 use Rattle.mig_pvtables.proofs.EachValue.{shown, some_each, entries_each, len_each, each_each}
 use Rattle.std.specs.Prelude.{map, OnOk, Result, Ok, Err}
 use Rattle.mig_pvtables.specs.declared.testing.WholeAnswer.{WholeAnswer}
-use Rattle.mig_outline.specs.Forgotten.{forgotten, forgotten_page, forgotten_frame}
+use Rattle.mig_outline.specs.Forgotten.{forgotten_guest, forgotten_page, forgotten_frame}
 use Rattle.mig_outline.specs.Outline.{outline, outline_type, outline_frame, outline_frames, outline_page, seen_type, seen_frame, seen_frames}
 use Rattle.mig_outline.proofs.Changed.{changed, changed_get, changed_none}
 
@@ -22,8 +23,11 @@ module _ (f : FrameOf → FrameOf) (m : FrameMap) where
   pub same_some : (n : ℕ) → is_some (maps.get there n) ≡ is_some (maps.get m n)
   same_some n = some_each nat_cmp_total nat_cmp-IsAntisymmetric (λ _ x. f x) m n
 
-  pub same_needed : (k : ℕ) → is_needed there k ≡ is_needed m k
-  same_needed k = λ i. list_any (λ slot. same_some (512 * k + slot) i) slots
+  same_typed : (n : ℕ) → is_some (type_at there n) ≡ is_some (type_at m n)
+  same_typed n = is_some-mapped (λ (x : FrameOf). x.type) (maps.get there n) ∙ same_some n ∙ sym (is_some-mapped (λ (x : FrameOf). x.type) (maps.get m n))
+
+  pub same_needed : (k : ℕ) → is_needed (type_at there) k ≡ is_needed (type_at m) k
+  same_needed k = λ i. list_any (λ slot. same_typed (512 * k + slot) i) slots
 
   pub same_many : too_many there ≡ too_many m
   same_many = ap (λ n. cond (nat_lt most_frames n) (Some TooManyFrames) None) (len_each nat_cmp_total nat_cmp-IsAntisymmetric (λ _ x. f x) m)
@@ -72,13 +76,13 @@ module _ (f : FrameOf → FrameOf) (m : FrameMap) where
     same_root n = ap (λ o. is_root (option_map (λ (x : FrameOf). x.type) o)) (changed_get nat_cmp_total nat_cmp-IsAntisymmetric f m n)
         ∙ elim (maps.get m n) as (λ o. is_root (option_map (λ (x : FrameOf). x.type) (option_map f o)) ≡ is_root (option_map (λ (x : FrameOf). x.type) o)) [ None ↦ refl | Some x ↦ root x ]
 
-    same_misplaced : (parts : PartMap) (k : ℕ) (o : Option ℕ) → is_misplaced there parts k o ≡ is_misplaced m parts k o
-    same_misplaced parts k None = refl
-    same_misplaced parts k (Some pfn) =
-        λ i. not (same_plain pfn i) || list_any (λ j. is_this pfn (listed parts j) && (same_needed j i || same_needed k i)) (range_with_len 0 k)
+    same_misplaced : (list : Option (List ℕ)) (k : ℕ) (o : Option ℕ) → is_misplaced (type_at there) list k o ≡ is_misplaced (type_at m) list k o
+    same_misplaced list k None = refl
+    same_misplaced list k (Some pfn) =
+        λ i. not (same_plain pfn i) || list_any (λ j. is_this pfn (listed_in list j) && (same_needed j i || same_needed k i)) (range_with_len 0 k)
 
     same_p2m : (parts : PartMap) → find_p2m there parts ≡ find_p2m m parts
-    same_p2m parts = λ i. find (λ k. same_misplaced parts k (listed parts k) i) (range_with_len 0 (count_in (maps.get parts p2m_key)))
+    same_p2m parts = λ i. find (λ k. same_misplaced (maps.get parts p2m_key) k (listed_in (maps.get parts p2m_key) k) i) (range_with_len 0 (count_in (maps.get parts p2m_key)))
 
     same_fits : (field n : ℕ) → fits_field field (type_at there n) ≡ fits_field field (type_at m n)
     same_fits field n = λ i. cond (nat_le field 16) (same_plain n i) (same_root n i)
@@ -116,11 +120,11 @@ forgotten_slot : (bad : Entry → Bool) (level : Option ℕ) (page : Option (Lis
 forgotten_slot bad None page = refl
 forgotten_slot bad (Some level) page = refl
 
-pub same_fault : (g : GuestOf) → fault_of_guest (forgotten g) ≡ fault_of_guest g
+pub same_fault : (g : GuestOf) → fault_of_guest (forgotten_guest g) ≡ fault_of_guest g
 same_fault g =
     let plain : (x : FrameOf) → is_notab (Some x.type) ≡ is_notab (Some x.type) = λ x. refl in
     let root : (x : FrameOf) → is_root (Some x.type) ≡ is_root (Some x.type) = λ x. refl in
-    same_for g (forgotten g).frames (forgotten g).frames (same_p2m forgotten_frame g.frames plain root g.parts)
+    same_for g (forgotten_guest g).frames (forgotten_guest g).frames (same_p2m forgotten_frame g.frames plain root g.parts)
     (same_entry forgotten_frame g.frames (λ bad x. forgotten_slot bad (level_of x.type) x.page)) (same_field forgotten_frame g.frames plain root g.parts) (same_many forgotten_frame g.frames) g.kind
 
 -- ---- an outline, seen as a guest
@@ -146,7 +150,7 @@ both_root Broken = refl
 both_root Xtab = refl
 both_root _ = refl
 
-pub seen_needed : (m : FrameMap) (k : ℕ) → is_needed (seen_frames m) k ≡ is_needed m k
+pub seen_needed : (m : FrameMap) (k : ℕ) → is_needed (type_at (seen_frames m)) k ≡ is_needed (type_at m) k
 seen_needed m k = same_needed seen_frame m k
 
 pub type_seen : (m : FrameMap) (n : ℕ) → type_at (seen_frames m) n ≡ option_map seen_type (type_at m n)

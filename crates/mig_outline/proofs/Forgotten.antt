@@ -10,7 +10,7 @@ use Rattle.mig_pvtables.proofs.EachValue.{each_each, same_each}
 use Rattle.mig_restore_form.specs.Mean.{meant_type, put_entry, put_entries, put_content, put_record, empty_guest, sent}
 use Rattle.mig_restore_form.specs.Record.{FrameEntry, Content, StreamRecord}
 use Rattle.mig_restore_form.specs.Record.Content.{Nothing, Frames, Sets, Lists, Checks}
-use Rattle.mig_outline.specs.Forgotten.{forgotten, forgotten_page, forgotten_frame, forgotten_frames}
+use Rattle.mig_outline.specs.Forgotten.{forgotten_guest, forgotten_page, forgotten_frame, forgotten_frames}
 use Rattle.mig_outline.proofs.Changed.{changed_insert, changed_remove, changed_empty}
 
 -- ---- twice is once
@@ -51,25 +51,25 @@ entries_alike kind m n (e ∷ es) same = entries_alike kind (put_entry kind m e)
 abbrev with_frames : GuestOf → FrameMap → GuestOf
 with_frames g f = record { kind = g.kind; top = g.top; frames = f; parts = g.parts }
 
-content_on : (g : GuestOf) (c : Content) → forgotten (put_content (forgotten g) c) ≡ forgotten (put_content g c)
+content_on : (g : GuestOf) (c : Content) → forgotten_guest (put_content (forgotten_guest g) c) ≡ forgotten_guest (put_content g c)
 content_on g Nothing = ap (with_frames g) (frames_twice g.frames)
 content_on g (Frames es) = ap (with_frames g) (entries_alike g.kind (forgotten_frames g.frames) g.frames es (frames_twice g.frames))
 content_on g (Sets code ps) = ap (with_frames (put_content g (Sets code ps))) (frames_twice g.frames)
 content_on g (Lists last frames) = ap (with_frames (put_content g (Lists last frames))) (frames_twice g.frames)
 content_on g (Checks es) = ap (with_frames g) (frames_twice g.frames)
 
-pub forgotten_on : (g : GuestOf) (r : StreamRecord) → forgotten (put_record (forgotten g) r) ≡ forgotten (put_record g r)
+pub forgotten_on : (g : GuestOf) (r : StreamRecord) → forgotten_guest (put_record (forgotten_guest g) r) ≡ forgotten_guest (put_record g r)
 forgotten_on g r = content_on g r.content
 
 -- ---- all records
 
 abbrev step : GuestOf → StreamRecord → GuestOf
-step g r = forgotten (put_record g r)
+step g r = forgotten_guest (put_record g r)
 
-all_on : (g : GuestOf) (records : List StreamRecord) → fold step (forgotten g) records ≡ forgotten (fold put_record g records)
+all_on : (g : GuestOf) (records : List StreamRecord) → fold step (forgotten_guest g) records ≡ forgotten_guest (fold put_record g records)
 all_on g [] = refl
 all_on g (r ∷ records) = ap (λ (x : GuestOf). fold step x records) (forgotten_on g r) ∙ all_on (put_record g r) records
 
-pub forgotten_sent : (kind : Kind) (records : List StreamRecord) → fold (λ g r. forgotten (put_record g r)) (forgotten (empty_guest kind)) records ≡ forgotten (sent kind records)
+pub forgotten_sent : (kind : Kind) (records : List StreamRecord) → fold (λ g r. forgotten_guest (put_record g r)) (forgotten_guest (empty_guest kind)) records ≡ forgotten_guest (sent kind records)
 unfolding sent
 forgotten_sent kind records = all_on (empty_guest kind) records

@@ -1,7 +1,7 @@
 ghost use Rattle.std.specs.Prelude.{◌≡◌, List, fold};
 ghost use Rattle.mig_headers.specs.declared.kind.Kind.{Kind};
 ghost use Rattle.mig_guest.specs.Guests.{GuestOf};
-ghost use Rattle.mig_outline.specs.Forgotten.{forgotten};
+ghost use Rattle.mig_outline.specs.Forgotten.{forgotten_guest};
 ghost use Rattle.mig_outline.specs.Outline.{outline, seen_frames, put_outline_content};
 ghost use Rattle.mig_pvtables.specs.Faults.{fault_by, fault_of_guest};
 ghost use Rattle.mig_restore_form.specs.Mean.{put_content, put_record, empty_guest, sent};
@@ -10,20 +10,20 @@ ghost use Rattle.mig_restore_form.specs.Record.{Content, StreamRecord};
 /// What is wrong with a guest at the end of its stream is found without the pages of frames that are no tables.
 #[tactic(auto, using(crate::proofs::Faults::same_fault))]
 pub fn fault_needs_no_pages()
-    ensures { (g : GuestOf) → fault_of_guest (forgotten g) ≡ fault_of_guest g }
+    ensures { (g : GuestOf) → fault_of_guest (forgotten_guest g) ≡ fault_of_guest g }
 {}
 
 /// A record that is put into a guest whose pages were forgotten leaves the same, pages forgotten, as one that is put into
 /// the guest.
 #[tactic(auto, using(crate::proofs::Forgotten::forgotten_on))]
 pub fn forgotten_goes_on()
-    ensures { (g : GuestOf) (r : StreamRecord) → forgotten (put_record (forgotten g) r) ≡ forgotten (put_record g r) }
+    ensures { (g : GuestOf) (r : StreamRecord) → forgotten_guest (put_record (forgotten_guest g) r) ≡ forgotten_guest (put_record g r) }
 {}
 
 /// So whoever forgets behind each record comes to what is sent, pages forgotten.
 #[tactic(auto, using(crate::proofs::Forgotten::forgotten_sent))]
 pub fn forgotten_goes_on_whole()
-    ensures { (kind : Kind) (records : List StreamRecord) → fold (λ g r. forgotten (put_record g r)) (forgotten (empty_guest kind)) records ≡ forgotten (sent kind records) }
+    ensures { (kind : Kind) (records : List StreamRecord) → fold (λ g r. forgotten_guest (put_record g r)) (forgotten_guest (empty_guest kind)) records ≡ forgotten_guest (sent kind records) }
 {}
 
 /// The outline of a guest is put on by a content as the guest is.
