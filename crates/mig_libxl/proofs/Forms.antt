@@ -1,5 +1,5 @@
 -- A stream of either form behind its first 8 bytes, as it is read.
-use Rattle.mig_libxl.proofs.Common.{◌≡◌, ℕ, Bool, true, false, cond, List, [], ◌++◌, length, take, drop, nat_le, nat_lt, nat_eq, Option, Some, None, Ok, refl, sym, ap, subst, ◌∙◌, arith, length-append, le-leb, lt-leb, ◌>>=◌, part, placed, Passes, Cause, Truncated, LibxlHeader, ImageOf, Reading, header_at, bare_at, Bare, ltb-true, stop_at, Gives, image_behind, none_set, behind_header}
+use Rattle.mig_libxl.proofs.Common.{◌≡◌, ℕ, Bool, true, false, cond, List, [], ◌++◌, length, take, drop, nat_le, nat_lt, nat_eq, Option, Some, None, Ok, refl, sym, ap, subst, ◌∙◌, arith, length-append, le-leb, lt-leb, ◌>>=◌, part, placed, Passes, Cause, Truncated, LibxlHeader, header_at, bare_at, Bare, ltb-true, stop_at, Gives, image_behind, behind_header}
 use Rattle.std.proofs.Common.{Result, Err}
 use Rattle.mig_bytes.specs.Judged.{Judged, tried, Matches}
 use Rattle.mig_headers.specs.declared.fault.Place.{Place}
@@ -12,9 +12,7 @@ use Rattle.mig_headers.specs.Headers.{libxl_ident, fault_of_marker}
 use Rattle.mig_headers.specs.declared.fault.Place.TheVariants.{ImageHeader}
 use Rattle.mig_restore.proofs.Behind.{behind_is}
 use Rattle.mig_restore_form.specs.Stream.{image_at, marker_at, opening_at}
-use Rattle.mig_restore.specs.Reads.{IsReading as IsImageReading}
 use Rattle.mig_libxl_form.specs.Stream.{StreamOf, wrapped_at, stream_at}
-use Rattle.mig_libxl.specs.Reads.{IsStreamReading}
 use Rattle.mig_bytes.specs.declared.stop.Stop.TheVariants as stops
 
 -- ---- a libxl stream behind its ident
@@ -24,9 +22,6 @@ unfolding wrapped_at
 wrapped_is i = refl
 
 -- ---- a bare image
-
-pub bare_reading : (reading : Reading) (image : ImageOf) → IsImageReading reading image → IsStreamReading reading (Bare image)
-bare_reading reading image r = record { image = image; is = refl; guest = r.guest ∙ sym (none_set _); version = r.version; records = r.records; differs = r.differs }
 
 module _ (first : List ℕ) (size : length first ≡ 8) where
   -- the image header begins with the marker

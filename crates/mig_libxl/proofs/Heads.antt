@@ -1,19 +1,17 @@
 -- The image that the reader keeps, as heads ask for it.
-use Rattle.mig_libxl.proofs.Common.{◌≡◌, List, Option, Some, None, refl, ap, ◌∙◌, ImageOf, Reading, LibxlRecord, image_among, Holds, IsLibxlSeen, WrapperSeen, mean_kind}
-use Rattle.mig_libxl_form.specs.Behind.{AreBehind, kind_of_image}
-use Rattle.mig_libxl.specs.Seen.{kind_of_reading, behind_of}
+use Rattle.mig_libxl.proofs.Common.{◌≡◌, Option, Some, None, refl, ap, subst, ImageOf, Holds}
+use Rattle.std.proofs.lemmas.Option.{same_Some}
+use Rattle.mig_headers.specs.declared.kind.Kind.{Kind}
+use Rattle.mig_libxl_form.specs.Behind.{kind_of_image}
 
--- what was read of the image is of its kind
-held_kind : (o : Option Reading) (i : Option ImageOf) → Holds o i → kind_of_reading o ≡ kind_of_image i
-held_kind (Some reading) (Some image) h = ap Some (ap (λ g. g.kind) h.guest ∙ mean_kind image.opening.kind image.records)
-held_kind (Some reading) None h = absurd h
-held_kind None (Some image) h = absurd h
-held_kind None None h = refl
+module _ {I : Type 0} (is_of : I → ImageOf → Type 0) where
+  -- what is kept of the image is of its kind
+  pub held_kind : (o : Option I) (x : I) (kind : Kind) → o ≡ Some x → ((image : ImageOf) → is_of x image → kind ≡ image.opening.kind) → (i : Option ImageOf) → Holds is_of o i → Some kind ≡ kind_of_image i
+  held_kind None x kind is same i h = absurd (cc)
+  held_kind (Some y) x kind is same None h = absurd h
+  held_kind (Some y) x kind is same (Some image) h = ap Some (same image (subst (λ z. is_of z image) (same_Some y x is) h))
 
--- what the reader keeps is what a head is judged by
-pub seen_behind : (seen : WrapperSeen) (records : List LibxlRecord) → IsLibxlSeen seen records → AreBehind (behind_of seen) records
-seen_behind seen records is = record {
-  count = is.count;
-  emulated = is.emulated;
-  image = held_kind seen.image (image_among records) is.image;
-}
+  pub none_held : (o : Option I) → o ≡ None → (i : Option ImageOf) → Holds is_of o i → None ≡ kind_of_image i
+  none_held None is None h = refl
+  none_held None is (Some image) h = absurd h
+  none_held (Some y) is i h = absurd (cc)

@@ -15,3 +15,4 @@ pub mod Forms
 pub mod Heads
 pub mod Recorded
 pub mod Taking
+pub mod Images

@@ -1,11 +1,10 @@
 -- What the reader keeps of a record's content.
-use Rattle.mig_libxl.proofs.Common.{◌≡◌, ℕ, ◌-◌, ◌≤◌, ◌<◌, true, false, List, length, take, drop, nat_eq, nat_le, nat_lt, Option, Some, None, Ok, refl, sym, ap, subst, ◌∙◌, arith, ◌||◌, le-leb, lt-leb, common_steps, ◌>>=◌, Passes, Cause, pairs_fault, Reading, LibxlContent, image_in, Image, Pairs, Context, EmulatorsOf, add_pairs, put_libxl_content, emulator_key, Holds, WrapperSeen, length-drop, le32, Gives, pairs_in, TakesLibxl}
+use Rattle.mig_libxl.proofs.Common.{◌≡◌, ℕ, ◌-◌, ◌≤◌, ◌<◌, true, false, List, length, take, drop, nat_eq, nat_le, nat_lt, Option, Some, None, Ok, refl, sym, ap, subst, ◌∙◌, arith, ◌||◌, le-leb, lt-leb, common_steps, ◌>>=◌, Passes, Cause, pairs_fault, ImageOf, LibxlContent, image_in, Image, Pairs, Context, EmulatorsOf, add_pairs, put_libxl_content, emulator_key, Holds, WrapperSeen, length-drop, le32, Gives, pairs_in, TakesLibxl}
 use Rattle.std.proofs.lemmas.Bool.{le-ltb, lt-ltb}
 use Rattle.std.proofs.lemmas.List.{take_all}
 use Rattle.std.proofs.lemmas.Option.{none-some, same_Some}
 use Rattle.mig_headers.specs.declared.fault.Cause.TheVariants.{BadEmulator, TooManyPairs, EmulatorIndex}
 use Rattle.mig_restore_form.specs.Stream.{image_at}
-use Rattle.mig_restore.specs.Reads.{IsReading as IsImageReading}
 use Rattle.mig_libxl_form.specs.Emulators.{spelled_with}
 use Rattle.mig_libxl_form.specs.Judging.{fault_of_pairs, fault_of_context, inner_at}
 use Rattle.mig_libxl_form.proofs.Bodies.{fine_pairs}
@@ -102,8 +101,8 @@ module _ (e : EmulatorsOf) (body slice : List ℕ) (id index : ℕ) (r : IsRead 
 
 -- ---- what is kept
 
-pub takes_of : (old new : WrapperSeen) (type : ℕ) (c : LibxlContent) → image_in c ≡ None → (nat_eq type 2 || nat_eq type 3) ≡ true → new.emulators ≡ put_libxl_content old.emulators c → new.emulated ≡ true → new.image ≡ old.image → new.records ≡ old.records → TakesLibxl old new type c
-takes_of old new type c none of_emulator emulators emulated image records = record {
+pub takes_of : {I : Type 0} (is_of : I → ImageOf → Type 0) (old new : WrapperSeen I) (type : ℕ) (c : LibxlContent) → image_in c ≡ None → (nat_eq type 2 || nat_eq type 3) ≡ true → new.emulators ≡ put_libxl_content old.emulators c → new.emulated ≡ true → new.image ≡ old.image → new.records ≡ old.records → TakesLibxl is_of old new type c
+takes_of is_of old new type c none of_emulator emulators emulated image records = record {
   emulators = emulators;
   emulated = emulated ∙ grind (arith, common_steps, of_emulator);
   first = λ i is. absurd (none-some i (sym none ∙ is));
@@ -114,10 +113,10 @@ takes_of old new type c none of_emulator emulators emulated image records = reco
 
 -- ---- the image
 
-pub image_read : (old new : WrapperSeen) (a b : Option (List ℕ)) (reading : Reading) → old.image ≡ None → new.emulators ≡ old.emulators → new.emulated ≡ old.emulated → new.image ≡ Some reading → new.records ≡ old.records
-    → Gives IsImageReading a b image_at (Ok reading) → Gives {X = Unit {0}} (λ _ c. TakesLibxl old new 1 c) a b inner_at (Ok tt)
-image_read old new None b reading none emulators emulated image records h = tt
-image_read old new (Some i) b reading none emulators emulated image records (im, rest, is, left, read) = (
+pub image_read : {I : Type 0} (is_of : I → ImageOf → Type 0) (old new : WrapperSeen I) (a b : Option (List ℕ)) (kept : I) → old.image ≡ None → new.emulators ≡ old.emulators → new.emulated ≡ old.emulated → new.image ≡ Some kept → new.records ≡ old.records
+    → Gives is_of a b image_at (Ok kept) → Gives {X = Unit {0}} (λ _ c. TakesLibxl is_of old new 1 c) a b inner_at (Ok tt)
+image_read is_of old new None b kept none emulators emulated image records h = tt
+image_read {I = I} is_of old new (Some i) b kept none emulators emulated image records (im, rest, is, left, read) = (
   Image im,
   rest,
   ap (λ j. j >>= λ x. Passes (Image x.0) x.1) is,
@@ -126,7 +125,7 @@ image_read old new (Some i) b reading none emulators emulated image records (im,
     emulators = emulators;
     emulated = emulated ∙ grind (arith, common_steps);
     first = λ _ _. none;
-    image = λ j e. subst (λ (o : Option Reading). Holds o (Some j)) (sym image) (subst (IsImageReading reading) (same_Some im j e) read);
+    image = λ j e. subst (λ (o : Option I). Holds is_of o (Some j)) (sym image) (subst (is_of kept) (same_Some im j e) read);
     others = λ no. absurd (none-some im (sym no));
     records = records;
   },

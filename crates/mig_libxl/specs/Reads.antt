@@ -1,5 +1,6 @@
 -- What a reader of streams of either form answers.
-use Rattle.std.specs.Prelude.{◌≡◌, ℕ, List, length, Option, Some, Result}
+use Rattle.std.specs.Prelude.{◌≡◌, ℕ, List, length, Option, Some, is_some, Result}
+use Rattle.std.specs.FinMap as maps
 use Rattle.mig_bytes.specs.Answers.{or_stop}
 use Rattle.mig_bytes.specs.Judged.{Gives}
 use Rattle.mig_bytes.specs.declared.answer.Answer.{Answer}
@@ -7,6 +8,7 @@ use Rattle.mig_headers.specs.declared.fault.Cause.{Cause}
 use Rattle.mig_headers.specs.declared.fault.Place.{Place}
 use Rattle.mig_restore_form.specs.Mean.{differs_of}
 use Rattle.mig_restore_form.specs.Stream.{ImageOf}
+use Rattle.mig_outline.specs.declared.judge.Tally.{Tally}
 use Rattle.mig_restore.specs.declared.read.Reading.{Reading}
 use Rattle.mig_libxl_form.specs.Stream.{StreamOf, image_of_stream, guest_of, stream_at}
 
@@ -23,3 +25,18 @@ pub record IsStreamReading (reading : Reading) (s : StreamOf) : Type 0 where
 -- what a reader of streams answered, and what it left in the source, is what judging gives
 abbrev pub ReadsStream : Option (List ℕ) → Option (List ℕ) → Result Reading (Answer Place Cause) → Type 0
 ReadsStream old new result = Gives IsStreamReading old new stream_at (or_stop result)
+
+-- a tally of a stream: the number of frames of the guest that it means, and of its image the version, the kind, the number
+-- of records, and whether frames are compared in it
+pub record IsStreamTally (tally : Tally) (s : StreamOf) : Type 0 where
+  pub image : ImageOf
+  pub is : image_of_stream s ≡ Some image
+  pub frames : tally.frames ≡ maps.len (guest_of image s).frames
+  pub version : tally.version ≡ image.opening.version
+  pub kind : tally.kind ≡ image.opening.kind
+  pub records : tally.records ≡ length image.records
+  pub verified : tally.verified ≡ is_some (differs_of image.opening.kind image.records)
+
+-- what a judge of streams answered, and what it left in the source, is what judging gives
+abbrev pub JudgesStream : Option (List ℕ) → Option (List ℕ) → Result Tally (Answer Place Cause) → Type 0
+JudgesStream old new result = Gives IsStreamTally old new stream_at (or_stop result)

@@ -1,4 +1,4 @@
-ghost use Rattle.std.specs.Prelude.{◌≡◌, ◌≤◌, ◌+◌, ◌==◌, ◌∷◌, [], ◌++◌, ⊤, ◌≢◌, ◌<◌, List, true, None, IfOk, IfNone, OnOk, IsErrOf};
+ghost use Rattle.std.specs.Prelude.{Option, ◌≡◌, ◌≤◌, ◌+◌, ◌==◌, ◌∷◌, [], ◌++◌, ⊤, ◌≢◌, ◌<◌, List, true, None, IfOk, IfNone, OnOk, IsErrOf};
 ghost use Rattle.mig_bytes.specs.Answers.{or_stop};
 ghost use Rattle.mig_bytes.specs.Bytes.{AreBytes};
 ghost use Rattle.mig_bytes.specs.Faults.{RisesOnReadFault};
@@ -10,27 +10,31 @@ ghost use Rattle.mig_pvtables.specs.Whole.{IsStreamed};
 ghost use Rattle.mig_records.specs.Heads.{head_in};
 ghost use Rattle.mig_restore_form.specs.Judging.{most_records};
 ghost use Rattle.mig_libxl_form.specs.Content.{LibxlRecord};
-ghost use Rattle.mig_libxl_form.specs.Behind.{AreBehind, MayFollow};
-ghost use Rattle.mig_libxl.specs.Seen.{behind_of};
+ghost use Rattle.mig_libxl_form.specs.Behind.{AreBehind, MayFollow, kind_of_image};
+ghost use Rattle.mig_restore_form.specs.Stream.{ImageOf};
+ghost use Rattle.std.specs.Option.{option_map};
+ghost use Rattle.mig_libxl.specs.Seen.{Holds, behind_of};
 ghost use Rattle.mig_libxl_form.specs.Content.LibxlContent.{Nothing};
 ghost use Rattle.mig_libxl_form.specs.Judging.{fault_of_libxl_head, libxl_head_at, pairs_at, context_at, skipped_at, inner_at, body_of_type, libxl_content_at, libxl_record_at, allows_length as length_allowed};
 ghost use Rattle.mig_libxl.specs.Seen.{IsLibxlSeen, IsLibxlBegun, IsClosed};
 ghost use Rattle.mig_libxl_form.specs.Stream.StreamOf.{Wrapped};
 ghost use Rattle.mig_libxl_form.specs.Stream.{header_at, libxl_records_at, wrapped_at, bare_at, stream_at};
-ghost use Rattle.mig_libxl.specs.Reads.{IsStreamReading, ReadsStream};
+ghost use Rattle.mig_libxl.specs.Reads.{ReadsStream, JudgesStream};
 
+use crate::image::KeptImage;
 use mig_bytes::{
     Memory, ReadFailed, Source, Stop, answer_for, skip, stop_for, take_long, take_part, u32_le,
 };
 use mig_guest::PartKey;
-use mig_headers::{Cause, ImageHeader, LibxlHeader, Place};
+use mig_headers::{Cause, ImageHeader, Kind, LibxlHeader, Place};
 use mig_libxl_form::{
     EMULATOR_CONTEXT, EMULATOR_XENSTORE_DATA, Emulators, LIBXC_CONTEXT, LIBXL_END, RecordsBehind,
     libxl_head_fault,
 };
+use mig_outline::Tally;
 use mig_policy::{PairsAnswer, pairs_fault};
 use mig_records::{RecordHead, take_head, take_padding};
-use mig_restore::{Reading, StreamAnswer, read_image, read_image_rest};
+use mig_restore::{Reading, StreamAnswer};
 use std::alloc::Global;
 
 /// The codes of the parts that are an emulator's pairs, and its context.
@@ -64,23 +68,23 @@ fn skip_body<S: Source>(src: &mut S, len: u32) -> Result<(), Stop<Cause>>
 
 /// What the reader keeps of the records before.
 #[derive(Drop)]
-pub(crate) struct WrapperSeen {
+pub(crate) struct WrapperSeen<I> {
     pub(crate) emulators: Emulators,
-    /// What was read of the image.
-    pub(crate) image: Option<Reading>,
+    /// What is kept of the image.
+    pub(crate) image: Option<I>,
     /// Whether some record was an emulator's.
     pub(crate) emulated: bool,
     pub(crate) records: u32,
 }
 
-impl WrapperSeen {
+impl<I: KeptImage> WrapperSeen<I> {
     ghost use Rattle.mig_libxl.specs.Seen.{IsLibxlSeen, IsLibxlBegun, IsClosed, TakesLibxl};
 
     /// Before the first record.
     #[tactic(auto, unfolding(mig_libxl_form::specs::Emulators::emulators_of))]
-    fn new(alloc: Global) -> WrapperSeen
-        ensures seen { IsLibxlSeen result [] }
-        ensures begun { IsLibxlBegun result }
+    fn new(alloc: Global) -> WrapperSeen<I>
+        ensures seen { IsLibxlSeen I.is_of result [] }
+        ensures begun { IsLibxlBegun I.kept result }
     {
         WrapperSeen {
             emulators: Emulators::new(alloc),
@@ -90,34 +94,41 @@ impl WrapperSeen {
         }
     }
 
+    /// The kind of guest of the image, where there was one.
+    fn kind(&self) -> Option<Kind>
+        ensures value { result ≡ option_map I.kind_of self.now.image }
+        ensures same { (image : Option ImageOf) → Holds I.is_of self.now.image image → result ≡ kind_of_image image }
+    {
+        match &self.image {
+            Some(kept) => Some(kept.kind()),
+            None => None,
+        }
+    }
+
     /// What a head is judged by, of these records.
-    #[tactic(auto, using(crate::proofs::Heads::seen_behind))]
     fn behind(&self) -> RecordsBehind
-        ensures kept { result ≡ behind_of self.now }
-        ensures behind { (records : List LibxlRecord) → IsLibxlSeen self.now records → AreBehind result records }
+        ensures kept { result ≡ behind_of I.kind_of self.now }
+        ensures behind { (records : List LibxlRecord) → IsLibxlSeen I.is_of self.now records → AreBehind result records }
     {
         RecordsBehind {
             records: self.records,
             emulated: self.emulated,
-            image: match &self.image {
-                Some(reading) => Some(reading.guest.kind()),
-                None => None,
-            },
+            image: self.kind(),
         }
     }
 
     /// What is wrong with a head behind these records.
     fn head_fault(&self, head: RecordHead) -> Option<Cause>
-        ensures fault { (records : List LibxlRecord) → IsLibxlSeen self.now records → result ≡ fault_of_libxl_head records head.kind head.len }
-        ensures may { IfNone result (MayFollow (behind_of self.now) head.kind head.len) }
+        ensures fault { (records : List LibxlRecord) → IsLibxlSeen I.is_of self.now records → result ≡ fault_of_libxl_head records head.kind head.len }
+        ensures may { IfNone result (MayFollow (behind_of I.kind_of self.now) head.kind head.len) }
     {
         libxl_head_fault(head, self.behind())
     }
 
     /// Takes the next record's head.
     fn take_head<S: Source>(&self, src: &mut S) -> Result<RecordHead, Stop<Cause>>
-        ensures read { (records : List LibxlRecord) → IsLibxlSeen self.now records → Gives (λ h head. h ≡ head_in head) (S.left src.old) (S.left src.new) (libxl_head_at records) result }
-        ensures may { IfOk result (λ h. MayFollow (behind_of self.now) h.kind h.len) }
+        ensures read { (records : List LibxlRecord) → IsLibxlSeen I.is_of self.now records → Gives (λ h head. h ≡ head_in head) (S.left src.old) (S.left src.new) (libxl_head_at records) result }
+        ensures may { IfOk result (λ h. MayFollow (behind_of I.kind_of self.now) h.kind h.len) }
         ensures faults { RisesOnReadFault (S.faults src.old) (S.faults src.new) result }
         ensures takes_no_memory { ¬ IsErrOf result NoMemory }
     {
@@ -137,9 +148,9 @@ impl WrapperSeen {
     ) -> Result<(), Stop<Cause>>
         requires front { 8 ≤ len }
         requires small { len ≤ most_body }
-        requires begun { IsLibxlBegun self.old }
-        ensures read { Gives (λ _ c. TakesLibxl self.old self.new 2 c) (S.left src.old) (S.left src.new) (pairs_at self.old.emulators len) result }
-        ensures begun { OnOk result (IsLibxlBegun self.new) }
+        requires begun { IsLibxlBegun I.kept self.old }
+        ensures read { Gives (λ _ c. TakesLibxl I.is_of self.old self.new 2 c) (S.left src.old) (S.left src.new) (pairs_at self.old.emulators len) result }
+        ensures begun { OnOk result (IsLibxlBegun I.kept self.new) }
         ensures others { OnOk result ((self.new.records ≡ self.old.records) × (self.new.image ≡ self.old.image)) }
         ensures faults { RisesOnReadFault (S.faults src.old) (S.faults src.new) result }
     {
@@ -180,9 +191,9 @@ impl WrapperSeen {
     ) -> Result<(), Stop<Cause>>
         requires front { 8 ≤ len }
         requires small { len ≤ most_body }
-        requires begun { IsLibxlBegun self.old }
-        ensures read { Gives (λ _ c. TakesLibxl self.old self.new 3 c) (S.left src.old) (S.left src.new) (context_at len) result }
-        ensures begun { OnOk result (IsLibxlBegun self.new) }
+        requires begun { IsLibxlBegun I.kept self.old }
+        ensures read { Gives (λ _ c. TakesLibxl I.is_of self.old self.new 3 c) (S.left src.old) (S.left src.new) (context_at len) result }
+        ensures begun { OnOk result (IsLibxlBegun I.kept self.new) }
         ensures others { OnOk result ((self.new.records ≡ self.old.records) × (self.new.image ≡ self.old.image)) }
         ensures faults { RisesOnReadFault (S.faults src.old) (S.faults src.new) result }
     {
@@ -217,15 +228,15 @@ impl WrapperSeen {
         src: &mut S,
     ) -> Result<(), Stop<(Place, Cause)>>
         requires first { self.old.image ≡ None }
-        requires begun { IsLibxlBegun self.old }
-        ensures read { Gives (λ _ c. TakesLibxl self.old self.new 1 c) (S.left src.old) (S.left src.new) inner_at result }
-        ensures begun { OnOk result (IsLibxlBegun self.new) }
+        requires begun { IsLibxlBegun I.kept self.old }
+        ensures read { Gives (λ _ c. TakesLibxl I.is_of self.old self.new 1 c) (S.left src.old) (S.left src.new) inner_at result }
+        ensures begun { OnOk result (IsLibxlBegun I.kept self.new) }
         ensures others { OnOk result ((self.new.records ≡ self.old.records) × (self.new.emulated ≡ self.old.emulated)) }
         ensures faults { RisesOnReadFault (S.faults src.old) (S.faults src.new) result }
     {
-        match read_image(alloc, src) {
-            Ok(reading) => {
-                self.image = Some(reading);
+        match I::take(alloc, src) {
+            Ok(kept) => {
+                self.image = Some(kept);
                 Ok(())
             }
             Err(answer) => Err(stop_for(answer)),
@@ -242,9 +253,9 @@ impl WrapperSeen {
         requires small { head.len ≤ most_body }
         requires allowed { length_allowed head.kind head.len ≡ true }
         requires no_image { head.kind ≢ 1 }
-        requires begun { IsLibxlBegun self.old }
-        ensures read { Gives (λ _ c. TakesLibxl self.old self.new head.kind c) (S.left src.old) (S.left src.new) (body_of_type self.old.emulators head.kind head.len) result }
-        ensures begun { OnOk result (IsLibxlBegun self.new) }
+        requires begun { IsLibxlBegun I.kept self.old }
+        ensures read { Gives (λ _ c. TakesLibxl I.is_of self.old self.new head.kind c) (S.left src.old) (S.left src.new) (body_of_type self.old.emulators head.kind head.len) result }
+        ensures begun { OnOk result (IsLibxlBegun I.kept self.new) }
         ensures others { OnOk result ((self.new.records ≡ self.old.records) × (self.new.image ≡ self.old.image)) }
         ensures end { OnOk result (head.kind ≡ 0 → self.new ≡ self.old) }
         ensures faults { RisesOnReadFault (S.faults src.old) (S.faults src.new) result }
@@ -263,10 +274,10 @@ impl WrapperSeen {
         src: &mut S,
         head: RecordHead,
     ) -> Result<(), Stop<(Place, Cause)>>
-        requires may { MayFollow (behind_of self.old) head.kind head.len }
-        requires begun { IsLibxlBegun self.old }
-        ensures read { (records : List LibxlRecord) → IsLibxlSeen self.old records → Gives (λ _ c. TakesLibxl self.old self.new head.kind c) (S.left src.old) (S.left src.new) (libxl_content_at records head.kind head.len) result }
-        ensures begun { OnOk result (IsLibxlBegun self.new) }
+        requires may { MayFollow (behind_of I.kind_of self.old) head.kind head.len }
+        requires begun { IsLibxlBegun I.kept self.old }
+        ensures read { (records : List LibxlRecord) → IsLibxlSeen I.is_of self.old records → Gives (λ _ c. TakesLibxl I.is_of self.old self.new head.kind c) (S.left src.old) (S.left src.new) (libxl_content_at records head.kind head.len) result }
+        ensures begun { OnOk result (IsLibxlBegun I.kept self.new) }
         ensures others { OnOk result (self.new.records ≡ self.old.records) }
         ensures end { OnOk result (head.kind ≡ 0 → self.new ≡ self.old) }
         ensures faults { RisesOnReadFault (S.faults src.old) (S.faults src.new) result }
@@ -287,11 +298,11 @@ impl WrapperSeen {
         alloc: Global,
         src: &mut S,
     ) -> Result<bool, Stop<(Place, Cause)>>
-        requires begun { IsLibxlBegun self.old }
-        ensures read { (records : List LibxlRecord) → IsLibxlSeen self.old records →
-            Gives (λ over r. IsLibxlSeen self.new (records ++ r ∷ []) × (over ≡ (r.type == 0))) (S.left src.old) (S.left src.new) (libxl_record_at records) result }
-        ensures begun { OnOk result (IsLibxlBegun self.new) }
-        ensures closed { IfOk result (λ over. over ≡ true → IsClosed self.new) }
+        requires begun { IsLibxlBegun I.kept self.old }
+        ensures read { (records : List LibxlRecord) → IsLibxlSeen I.is_of self.old records →
+            Gives (λ over r. IsLibxlSeen I.is_of self.new (records ++ r ∷ []) × (over ≡ (r.type == 0))) (S.left src.old) (S.left src.new) (libxl_record_at records) result }
+        ensures begun { OnOk result (IsLibxlBegun I.kept self.new) }
+        ensures closed { IfOk result (λ over. over ≡ true → IsClosed I.kind_of self.new) }
         ensures counted { OnOk result ((self.new.records ≡ self.old.records + 1) × (self.old.records < most_records)) }
         ensures faults { RisesOnReadFault (S.faults src.old) (S.faults src.new) result }
     {
@@ -309,31 +320,31 @@ impl WrapperSeen {
         Ok(head.kind == LIBXL_END)
     }
 
-    /// The reading of the image, with the emulators put into its guest.
-    fn finish(self) -> Result<Reading, Memory>
-        requires begun { IsLibxlBegun self }
-        requires closed { IsClosed self }
-        ensures read { IfOk result (λ reading. (records : List LibxlRecord) → IsLibxlSeen self records → IsStreamReading reading (Wrapped records)) }
-        ensures streamed { IfOk result (λ reading. IsStreamed reading.guest) }
+    /// What is kept of the whole stream.
+    fn finish(self) -> Result<I, Memory>
+        requires begun { IsLibxlBegun I.kept self }
+        requires closed { IsClosed I.kind_of self }
+        ensures read { IfOk result (λ whole. (records : List LibxlRecord) → IsLibxlSeen I.is_of self records → I.is_of_stream whole (Wrapped records)) }
+        ensures finished { IfOk result (λ whole. I.finished whole) }
     {
         let WrapperSeen {
             emulators,
             image,
             ..
         } = self;
-        let Some(mut reading) = image else {
-            unreachable!()
-        };
-        emulators.put_into(&mut reading.guest)?;
-        Ok(reading)
+        let Some(kept) = image else { unreachable!() };
+        kept.finish(emulators)
     }
 }
 
 /// Takes records up to the one that ends the stream.
-fn take_records<S: Source>(alloc: Global, src: &mut S) -> Result<WrapperSeen, Stop<(Place, Cause)>>
-    ensures read { Gives IsLibxlSeen (S.left src.old) (S.left src.new) libxl_records_at result }
-    ensures begun { IfOk result (λ seen. IsLibxlBegun seen) }
-    ensures closed { IfOk result (λ seen. IsClosed seen) }
+fn take_records<S: Source, I: KeptImage>(
+    alloc: Global,
+    src: &mut S,
+) -> Result<WrapperSeen<I>, Stop<(Place, Cause)>>
+    ensures read { Gives (IsLibxlSeen I.is_of) (S.left src.old) (S.left src.new) libxl_records_at result }
+    ensures begun { IfOk result (λ seen. IsLibxlBegun I.kept seen) }
+    ensures closed { IfOk result (λ seen. IsClosed I.kind_of seen) }
     ensures faults { RisesOnReadFault (S.faults src.old) (S.faults src.new) result }
 {
     let mut seen = WrapperSeen::new(alloc);
@@ -356,44 +367,47 @@ fn take_header<S: Source>(src: &mut S) -> Result<(), Stop<Cause>>
 }
 
 /// Takes a libxl stream behind its ident.
-fn read_wrapped<S: Source>(alloc: Global, src: &mut S) -> Result<Reading, Stop<(Place, Cause)>>
-    ensures read { Gives IsStreamReading (S.left src.old) (S.left src.new) wrapped_at result }
-    ensures streamed { IfOk result (λ reading. IsStreamed reading.guest) }
+fn read_wrapped<S: Source, I: KeptImage>(
+    alloc: Global,
+    src: &mut S,
+) -> Result<I, Stop<(Place, Cause)>>
+    ensures read { Gives I.is_of_stream (S.left src.old) (S.left src.new) wrapped_at result }
+    ensures finished { IfOk result (λ kept. I.finished kept) }
     ensures faults { RisesOnReadFault (S.faults src.old) (S.faults src.new) result }
 {
     if let Err(stop) = take_header(src) {
         return Err(stop.at(Place::LibxlHeader));
     }
-    let seen = take_records(alloc, src)?;
+    let seen = take_records::<S, I>(alloc, src)?;
     match seen.finish() {
-        Ok(reading) => Ok(reading),
+        Ok(kept) => Ok(kept),
         Err(Memory) => Err(Stop::Memory),
     }
 }
 
 /// Takes an image behind its first 8 bytes.
-fn read_bare<S: Source>(
+fn read_bare<S: Source, I: KeptImage>(
     alloc: Global,
     src: &mut S,
     first: &[u8; 8],
-) -> Result<Reading, Stop<(Place, Cause)>>
-    ensures read { Gives IsStreamReading (S.left src.old) (S.left src.new) (λ rest. bare_at (first.now ++ rest)) result }
-    ensures streamed { IfOk result (λ reading. IsStreamed reading.guest) }
+) -> Result<I, Stop<(Place, Cause)>>
+    ensures read { Gives I.is_of_stream (S.left src.old) (S.left src.new) (λ rest. bare_at (first.now ++ rest)) result }
+    ensures finished { IfOk result (λ kept. I.finished kept) }
     ensures faults { RisesOnReadFault (S.faults src.old) (S.faults src.new) result }
 {
     if let Some(cause) = ImageHeader::marker_fault(first) {
         return Err(Stop::Refused((Place::ImageHeader, cause)));
     }
-    match read_image_rest(alloc, src) {
-        Ok(reading) => Ok(reading),
+    match I::take_bare(alloc, src) {
+        Ok(kept) => Ok(kept),
         Err(answer) => Err(stop_for(answer)),
     }
 }
 
 /// Takes a stream of either form.
-fn read_form<S: Source>(alloc: Global, src: &mut S) -> Result<Reading, Stop<(Place, Cause)>>
-    ensures read { Gives IsStreamReading (S.left src.old) (S.left src.new) stream_at result }
-    ensures streamed { IfOk result (λ reading. IsStreamed reading.guest) }
+fn read_form<S: Source, I: KeptImage>(alloc: Global, src: &mut S) -> Result<I, Stop<(Place, Cause)>>
+    ensures read { Gives I.is_of_stream (S.left src.old) (S.left src.new) stream_at result }
+    ensures finished { IfOk result (λ kept. I.finished kept) }
     ensures faults { RisesOnReadFault (S.faults src.old) (S.faults src.new) result }
 {
     let mut first = [0; 8];
@@ -416,8 +430,20 @@ pub fn read_any<S: Source>(alloc: Global, src: &mut S) -> Result<Reading, Stream
     ensures streamed { IfOk result (λ reading. IsStreamed reading.guest) }
     ensures faults { RisesOnReadFault (S.faults src.old) (S.faults src.new) (or_stop result) }
 {
-    match read_form(alloc, src) {
+    match read_form::<S, Reading>(alloc, src) {
         Ok(reading) => Ok(reading),
+        Err(stop) => Err(answer_for(stop)),
+    }
+}
+
+/// Judges a stream of either form, and leaves unread what `read_any` leaves. It keeps emulators and page tables, and no
+/// other page; it compares nothing behind a VERIFY, and says in the tally that one came.
+pub fn judge_any<S: Source>(alloc: Global, src: &mut S) -> Result<Tally, StreamAnswer>
+    ensures read { JudgesStream (S.left src.old) (S.left src.new) result }
+    ensures faults { RisesOnReadFault (S.faults src.old) (S.faults src.new) (or_stop result) }
+{
+    match read_form::<S, Tally>(alloc, src) {
+        Ok(tally) => Ok(tally),
         Err(stop) => Err(answer_for(stop)),
     }
 }

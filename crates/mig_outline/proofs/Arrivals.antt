@@ -1,5 +1,5 @@
 -- The front of a stream that a judge has behind it.
-use Rattle.mig_restore.proofs.Common.{◌≡◌, ℕ, List, [], ◌∷◌, ◌++◌, length, Bool, true, false, nat_eq, ◌||◌, Option, None, is_some, Result, Ok, Err, refl, sym, ap, subst, ◌∙◌, length-map, map-append, Stop, stop_at, Gives, Passes, Cause, Record, Kind, GuestOf, RecordsSeen, empty_guest, StreamRecord, types_of, is_ended, is_verified, Opening, before, IsSeen, image_of, records_at, Follows}
+use Rattle.mig_restore.proofs.Common.{◌≡◌, ℕ, List, [], ◌∷◌, ◌++◌, length, Bool, true, false, nat_eq, ◌||◌, Option, Result, Ok, Err, refl, sym, ap, subst, ◌∙◌, length-map, map-append, Stop, stop_at, Gives, Passes, Cause, Record, Kind, GuestOf, RecordsSeen, empty_guest, StreamRecord, types_of, is_ended, is_verified, Opening, before, IsSeen, image_of, records_at, Follows}
 use Rattle.std.specs.FinMap as maps
 use Rattle.mig_bytes.proofs.Arrivals as fronts
 use Rattle.mig_bytes.proofs.Joins.{any_stop, mapped, stop}

@@ -1,5 +1,5 @@
 -- The entry of a word, as a judge takes it that puts it into an outline.
-use Rattle.mig_restore.proofs.Common.{◌≡◌, ◌≢◌, ◌<◌, ℕ, List, [], ◌∷◌, ◌++◌, Option, Some, None, Result, Ok, Err, true, false, Bool, cond, not, refl, sym, ap, subst, ◌∙◌, is_some, none-some, length, AreBytes, part, Gives, Judged, ◌>>=◌, Passes, Stop, Cause, Truncated, Kind, GuestOf, PageType, level_of, pfn_limit, IsInside, IsWithin, entry, word_pfn, word_has_data, FrameEntry, Content, Nothing, Frames, Sets, Lists, Checks, type_in_word, fault_of_level, fault_of_page, meant_type, entry_at, body_at, put_entry, put_content, Grows, IsGoodWord, IsPut, placed_content}
+use Rattle.mig_restore.proofs.Common.{◌≡◌, ◌≢◌, ◌<◌, ℕ, List, [], ◌∷◌, ◌++◌, Option, Some, None, Result, Ok, Err, true, false, Bool, refl, sym, ap, subst, ◌∙◌, is_some, none-some, part, Gives, Passes, Stop, Cause, Truncated, Kind, GuestOf, PageType, level_of, pfn_limit, IsInside, entry, word_pfn, word_has_data, FrameEntry, Content, Nothing, Frames, Sets, Lists, Checks, type_in_word, fault_of_level, fault_of_page, meant_type, entry_at, put_entry, put_content, Grows, IsGoodWord, placed_content}
 use Rattle.std.specs.Prelude.{⊤}
 use Rattle.std.proofs.lemmas.List.Sums.{fold-append}
 use Rattle.mig_bytes.specs.Judged.{plain_at}
@@ -10,9 +10,9 @@ use Rattle.mig_guest.specs.Frames.{FrameMap, framed}
 use Rattle.mig_headers.specs.declared.kind.Kind.TheVariants.{Pv, Hvm}
 use Rattle.mig_outline.specs.Outline.{outline_type, outline_page, outline_framed, put_outline_entry, put_outline_entries, put_outline_content}
 use Rattle.mig_pagetypes.specs.PageTypes.{type_has_data}
-use Rattle.mig_pagetypes.specs.declared.page_type.PageType.TheVariants.{Notab, L1Tab, L2Tab, L3Tab, L4Tab, L1Pinned, L2Pinned, L3Pinned, L4Pinned, Broken, Xalloc, Xtab}
+use Rattle.mig_pagetypes.specs.declared.page_type.PageType.TheVariants.{Notab, Broken, Xalloc, Xtab}
 use Rattle.mig_restore.proofs.Compared.{judged_too}
-use Rattle.mig_restore_form.proofs.Compared.{IsSaid, body_said}
+use Rattle.mig_restore_form.proofs.Compared.{IsSaid}
 use Rattle.mig_restore_form.proofs.Growth.{word_inside, grows_frame}
 use Rattle.mig_restore_form.specs.Judging.{page_at}
 

@@ -1,17 +1,15 @@
 -- Pages are forgotten behind each record, or behind all of them.
-use Rattle.mig_pvtables.proofs.Common.{◌≡◌, ℕ, List, [], ◌∷◌, Option, Some, None, refl, sym, ap, ◌∙◌, option_map, nat_cmp_total, nat_cmp-IsAntisymmetric, level_of, PageType, FrameOf, FrameMap, GuestOf, PartMap, each_value}
+use Rattle.mig_pvtables.proofs.Common.{◌≡◌, ℕ, List, [], ◌∷◌, Option, Some, None, refl, sym, ap, ◌∙◌, nat_cmp_total, nat_cmp-IsAntisymmetric, level_of, PageType, FrameOf, FrameMap, GuestOf}
 use Rattle.std.specs.Prelude.{fold}
-use Rattle.std.specs.FinMap as maps
 use Rattle.mig_headers.specs.declared.kind.Kind.{Kind}
 use Rattle.mig_pagetypes.specs.declared.page_type.PageType.TheVariants.{Xtab}
 use Rattle.mig_guest.specs.Frames.{framed}
-use Rattle.mig_records.specs.Shapes.{set_parts}
 use Rattle.mig_pvtables.proofs.EachValue.{each_each, same_each}
 use Rattle.mig_restore_form.specs.Mean.{meant_type, put_entry, put_entries, put_content, put_record, empty_guest, sent}
 use Rattle.mig_restore_form.specs.Record.{FrameEntry, Content, StreamRecord}
 use Rattle.mig_restore_form.specs.Record.Content.{Nothing, Frames, Sets, Lists, Checks}
 use Rattle.mig_outline.specs.Forgotten.{forgotten_guest, forgotten_page, forgotten_frame, forgotten_frames}
-use Rattle.mig_outline.proofs.Changed.{changed_insert, changed_remove, changed_empty}
+use Rattle.mig_outline.proofs.Changed.{changed_insert, changed_remove}
 
 -- ---- twice is once
 

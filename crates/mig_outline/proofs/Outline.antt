@@ -1,6 +1,5 @@
 -- The outline of a guest: what is put into it.
 use Rattle.mig_pvtables.proofs.Common.{◌≡◌, ℕ, List, [], ◌∷◌, Option, refl, ap, ◌∙◌, nat_cmp_total, nat_cmp-IsAntisymmetric, PageType, FrameMap, GuestOf}
-use Rattle.std.specs.Prelude.{fold}
 use Rattle.std.specs.FinMap as maps
 use Rattle.mig_headers.specs.declared.kind.Kind.{Kind}
 use Rattle.mig_pagetypes.specs.declared.page_type.PageType.TheVariants.{Xtab}
@@ -8,7 +7,7 @@ use Rattle.mig_guest.specs.Frames.{framed}
 use Rattle.mig_restore_form.specs.Mean.{empty_guest, meant_type, put_entry, put_entries, put_content}
 use Rattle.mig_restore_form.specs.Record.{FrameEntry, Content}
 use Rattle.mig_restore_form.specs.Record.Content.{Nothing, Frames, Sets, Lists, Checks}
-use Rattle.mig_outline.specs.Outline.{outline, outline_type, outline_page, outline_frame, outline_frames, outline_framed, put_outline_entry, put_outline_entries, put_outline_content}
+use Rattle.mig_outline.specs.Outline.{outline, outline_frame, outline_frames, outline_framed, put_outline_entries, put_outline_content}
 use Rattle.mig_outline.proofs.Changed.{changed_empty, changed_insert, changed_remove}
 
 outlined : (m : FrameMap) (p : ℕ) (t : PageType) (page : Option (List ℕ)) → outline_frames (framed m p t page) ≡ outline_framed (outline_frames m) p t page

@@ -2,7 +2,6 @@ ghost use Rattle.std.specs.Prelude.{◌≡◌, ℕ, ◌<◌, ◌+◌, ◌==◌, 
 ghost use Rattle.mig_bytes.specs.Answers.{or_stop};
 ghost use Rattle.mig_bytes.specs.Faults.{RisesOnReadFault};
 ghost use Rattle.mig_bytes.specs.Judged.{Gives};
-ghost use Rattle.mig_headers.specs.RecordTypes.{record_row_of, type_of_number};
 ghost use Rattle.mig_outline.specs.Judges.{IsTally, JudgesImage, JudgesRest};
 ghost use Rattle.mig_outline.specs.Outline.{outline, put_outline_content};
 ghost use Rattle.mig_restore_form.specs.Judging.{Opening, Before, most_records, opening_of, record_at, next_at};

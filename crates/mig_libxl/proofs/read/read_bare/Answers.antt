@@ -1,7 +1,7 @@
 use Rattle.mig_libxl.proofs.Common.{◌++◌, sym, ◌∙◌, Passes, mapped, stopped, bare_at, Bare, image_behind}
 use Rattle.mig_bytes.specs.Answers.{stop_of}
 use Rattle.mig_bytes.proofs.Joins.{refused}
-use Rattle.mig_libxl.proofs.Forms.{bare_is, bare_refused, bare_reading}
+use Rattle.mig_libxl.proofs.Forms.{bare_is, bare_refused}
 use Rattle.mig_libxl.proofs.read.read_bare.Goals as goal
 
 pub returns-in-Some-clause-read : goal.returns-in-Some-clause-read
@@ -10,8 +10,8 @@ returns-in-Some-clause-read g c =
 
 pub returns-in-Ok-clause-read : goal.returns-in-Ok-clause-read
 returns-in-Ok-clause-read g c =
-    mapped _ _ _ _ image_behind (λ rest. bare_at (c.args.first.now ++ rest)) Bare c.in-Ok.reading c.in-Ok.reading (bare_is c.args.first.now c.told-first (sym c.marker_fault.ensures.fault ∙ c.in_default.is)) c.in-Ok.ensures.read
-    (λ image is. bare_reading c.in-Ok.reading image is)
+    mapped _ _ _ _ image_behind (λ rest. bare_at (c.args.first.now ++ rest)) Bare c.in-Ok.kept c.in-Ok.kept (bare_is c.args.first.now c.told-first (sym c.marker_fault.ensures.fault ∙ c.in_default.is)) c.in-Ok.ensures.read
+    (λ image is. is)
 
 pub returns-in-Err-clause-read : goal.returns-in-Err-clause-read
 returns-in-Err-clause-read g c =

@@ -18,4 +18,4 @@ pub returns-in-Ok-clause-read : goal.returns-in-Ok-clause-read
 returns-in-Ok-clause-read g c =
     judged_so _ _ _ (λ i. placed LibxlHeader (header_at i) >>= behind_header) wrapped_at _ wrapped_is
     (placed_then _ _ LibxlHeader header_at behind_header _ _ _ _ _ c.in_default.ensures.read
-    (λ header _. mapped _ _ _ _ libxl_records_at (λ i. behind_header (header, i)) Wrapped c.in_ok-seen.seen c.in-Ok.reading (λ i. refl) c.in_ok-seen.ensures.read (λ records seen. c.in-Ok.ensures.read records seen)))
+    (λ header _. mapped _ _ _ _ libxl_records_at (λ i. behind_header (header, i)) Wrapped c.in_ok-seen.seen c.in-Ok.kept (λ i. refl) c.in_ok-seen.ensures.read (λ records seen. c.in-Ok.ensures.read records seen)))

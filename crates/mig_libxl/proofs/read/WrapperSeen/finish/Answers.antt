@@ -1,13 +1,11 @@
-use Rattle.mig_libxl.proofs.Common.{◌≡◌, Option, Some, subst, false, Pv, Reading, with_emulators, IsStreamedBare, WrapperSeen, IfSome, IsLibxlBegun}
-use Rattle.mig_libxl.specs.Seen.{IsClosed}
-use Rattle.mig_libxl_form.proofs.EmulatorGuests.{guest_done}
-use Rattle.mig_pvtables.specs.Whole.{IsStreamed}
+use Rattle.mig_libxl.proofs.Images.{kept_there, alone_there, stream_there}
 use Rattle.mig_libxl.proofs.read.WrapperSeen.finish.Goals as goal
 
-done : (seen : WrapperSeen) (reading : Reading) → IsLibxlBegun seen → IsClosed seen → seen.image ≡ Some reading → IsStreamed (with_emulators reading.guest seen.emulators)
-done seen reading begun closed is =
-    guest_done reading.guest seen.emulators (subst (λ (o : Option Reading). IfSome o (λ r. IsStreamedBare r.guest)) is begun.guest) begun.emulators
-    (λ pv. begun.none (subst (λ (o : Option Reading). IfSome o (λ r. r.guest.kind ≡ Pv → seen.emulated ≡ false)) is closed.alone pv))
+pub finish-requires-clause-kept : goal.finish-requires-clause-kept
+finish-requires-clause-kept g c = kept_there g.I.KeptImage.is_of g.I.KeptImage.kept g.I.KeptImage.kind_of c.args.self c.in-Some.kept c.in-Some.is c.requires.begun
 
-pub returns-clause-streamed : goal.returns-clause-streamed
-returns-clause-streamed c = rw c.in_ok-put_into.ensures.ok (done c.args.self c.in-Some.reading c.requires.begun c.requires.closed c.in-Some.is)
+pub finish-requires-clause-alone : goal.finish-requires-clause-alone
+finish-requires-clause-alone g c = alone_there g.I.KeptImage.is_of g.I.KeptImage.kept g.I.KeptImage.kind_of c.args.self c.in-Some.kept c.in-Some.is c.requires.begun c.requires.closed
+
+pub returns-clause-read : goal.returns-clause-read
+returns-clause-read g c = stream_there g.I.KeptImage.is_of g.I.KeptImage.kept g.I.KeptImage.kind_of c.args.self c.in-Some.kept c.in-Some.is g.I.KeptImage.is_of_stream c.finish.result c.finish.ensures.stream

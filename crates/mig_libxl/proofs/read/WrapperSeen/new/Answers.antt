@@ -3,4 +3,4 @@ use Rattle.mig_libxl_form.proofs.Formed.{none_yet}
 use Rattle.mig_libxl.proofs.read.WrapperSeen.new.Goals as goal
 
 pub returns-clause-begun : goal.returns-clause-begun
-returns-clause-begun c = record { emulators = subst AreEmulators (sym c.new.ensures) none_yet; none = λ _. c.new.ensures; guest = tt }
+returns-clause-begun g c = record { emulators = subst AreEmulators (sym c.new.ensures) none_yet; none = λ _. c.new.ensures; guest = tt }

@@ -25,7 +25,7 @@ returns-in-Ok-clause-read g c =
     (λ bytes is.
     let r = read_in bytes read is in (
       fine_context bytes (subst (λ k. k < 3) r.id_is c.if-id-ge-EMULATORS.false) (subst (λ k. k < 256) r.index_is c.if-index-ge-INDICES.false),
-      takes_of c.args.self.now _ 3 (Context (emulator_key 259 bytes) (drop 8 bytes)) refl refl (c.in-Ok.ensures.ok ∙ context_put c.args.self.now.emulators bytes _ _ _ r) refl refl refl,
+      takes_of g.I.KeptImage.is_of c.args.self.now _ 3 (Context (emulator_key 259 bytes) (drop 8 bytes)) refl refl (c.in-Ok.ensures.ok ∙ context_put c.args.self.now.emulators bytes _ _ _ r) refl refl refl,
     ))
 
 pub returns-in-Ok-clause-begun : goal.returns-in-Ok-clause-begun
@@ -33,5 +33,5 @@ returns-in-Ok-clause-begun g c =
     let body = c.deref-4.result.now in
     let alike : c.deref.result.now ≡ body = search rules in
     let size : length body ≡ c.args.len = search rules in
-    context_begun c.args.self.now c.set_context.new.self _ c.u32_le-id.result c.u32_le-index.result c.requires.begun c.if-id-ge-EMULATORS.false c.if-index-ge-INDICES.false body c.in-Ok.ensures.ok (behind_front body body _ refl refl)
+    context_begun g.I.KeptImage.kept c.args.self.now c.set_context.new.self _ c.u32_le-id.result c.u32_le-index.result c.requires.begun c.if-id-ge-EMULATORS.false c.if-index-ge-INDICES.false body c.in-Ok.ensures.ok (behind_front body body _ refl refl)
     (subst (λ n. 8 ≤ n) (sym size) c.requires.front) (subst (λ n. n ≤ most_body) (sym size) c.requires.small) (subst AreBytes alike c.are_bytes.ensures)

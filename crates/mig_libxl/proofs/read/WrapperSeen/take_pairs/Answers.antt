@@ -44,12 +44,12 @@ returns-clause-read g c =
     said_read Truncated _ _ c.args.len _ refl (λ b. Pairs (emulator_key 258 b) (pairs_in (drop 8 b))) c.in_ok-body.body (fault_of_pairs e) _ _ tt c.in_ok-body.ensures.read
     (λ bytes is. (
       pairs_fine e bytes _ _ _ (read_in bytes read is) (sym c.pairs_fault.ensures.value ∙ c.in_default.is) c.if-id-ge-EMULATORS.false c.in-Ok.ensures.fits c.if-index-ge-INDICES.false,
-      takes_of c.args.self.now _ 2 (Pairs (emulator_key 258 bytes) (pairs_in (drop 8 bytes))) refl refl (c.in-Ok.ensures.ok ∙ pairs_put e bytes _ _ _ (read_in bytes read is)) refl refl refl,
+      takes_of g.I.KeptImage.is_of c.args.self.now _ 2 (Pairs (emulator_key 258 bytes) (pairs_in (drop 8 bytes))) refl refl (c.in-Ok.ensures.ok ∙ pairs_put e bytes _ _ _ (read_in bytes read is)) refl refl refl,
     ))
 
 pub returns-clause-begun : goal.returns-clause-begun
 returns-clause-begun g c =
     let body = c.deref-4.result.now in
     let alike : c.deref.result.now ≡ body = search rules in
-    pairs_begun c.args.self.now c.add_pairs.new.self _ c.u32_le-id.result c.u32_le-index.result c.requires.begun c.if-id-ge-EMULATORS.false c.if-index-ge-INDICES.false
+    pairs_begun g.I.KeptImage.kept c.args.self.now c.add_pairs.new.self _ c.u32_le-id.result c.u32_le-index.result c.requires.begun c.if-id-ge-EMULATORS.false c.if-index-ge-INDICES.false
     c.in-Ok.ensures.ok (sym c.pairs_fault.ensures.value ∙ c.in_default.is) c.in-Ok.ensures.fits (subst AreBytes (sym (behind_front body body _ refl refl)) (All-drop (λ b. b < 256) 8 body (subst AreBytes alike c.are_bytes.ensures)))

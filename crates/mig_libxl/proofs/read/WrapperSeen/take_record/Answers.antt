@@ -36,4 +36,4 @@ returns-clause-read g c = λ records seen.
     (goes_behind records head c.in-Ok.head is) (c.in_ok-take_content.ensures.read records seen)
     (λ content told. mapped _ _ _ _ (λ i. placed (AtRecord (length records)) (part Truncated (padding_len c.in-Ok.head.len) i)) (λ i. behind_content records head (content, i)) (λ _. record { type = c.in-Ok.head.kind; content = content }) _ _
     (padded records head c.in-Ok.head content is) (placed_fine _ (AtRecord (length records)) _ _ (part Truncated (padding_len c.in-Ok.head.len)) _ c.in-Ok-take_padding.ensures.read)
-    (λ _ _. (seen_more c.args.self.now c.take_content.new.self records c.in-Ok.head.kind content seen told, refl)))))
+    (λ _ _. (seen_more g.I.KeptImage.is_of c.args.self.now c.take_content.new.self records c.in-Ok.head.kind content seen told, refl)))))
