@@ -3,14 +3,14 @@ use Rattle.mig_show.proofs.Common.{◌≡◌, ◌≢◌, ◌⊎◌, inl, inr, �
 use Rattle.std.specs.Prelude.{nat_le, ◌&&◌, ◌||◌, option_map}
 use Rattle.std.proofs.Math.Seq.{drop-append-add, take-append-le, take_all}
 use Rattle.std.proofs.lemmas.Bool.{le-leb, ne_eqb, eq-eqb}
-use Rattle.std.proofs.lemmas.List.FromFn.{length-map-range_with_len}
 use Rattle.byteorder.specs.Endian.{big_number}
-use Rattle.mig_bytes.specs.Fields.{le64, be32}
+use Rattle.mig_bytes.specs.Fields.{be32}
 use Rattle.mig_headers.specs.declared.kind.Kind.{Kind as KindOf}
 use Rattle.mig_pagetypes.specs.FrameWords.{word_has_data}
 use Rattle.mig_records.specs.Words.{words}
 use Rattle.mig_restore_form.specs.Judging.{Opening}
 use Rattle.mig_restore_form.specs.Record.{StreamRecord}
+use Rattle.mig_relay.proofs.Paging.{words_number}
 use Rattle.mig_relay.specs.Following.{FillsBody, ComesNext, image_opens, wrapper_opens, wrapper_header, marker, version, kind, libxl_begins, libxl_whole, image_begins, pages_begin, image_whole, count, more, whole}
 use Rattle.mig_relay.specs.Spots.{is_ident}
 use Rattle.mig_relay.specs.Steps.{IsStep}
@@ -88,9 +88,6 @@ past_be32 : (front xs : List ℕ) (k : ℕ) → be32 (front ++ xs) (length front
 unfolding be32
 past_be32 front xs k = ap (big_number 4) (drop-append-add front xs k)
 
-words_number : (n : ℕ) (bytes : List ℕ) → length (words n bytes) ≡ n
-words_number n bytes = length-map-range_with_len (λ k. le64 bytes (8 * k)) 0 n
-
 -- ---- behind a head
 
 pub headed : (head : RecordHead) (wrapped : Bool) (part piece : List ℕ) (shown : Seen1) → length part ≡ 0 → length piece ≡ 8 → head_in piece ≡ head → shown ≡ begun_record wrapped head → {d : Due} → HasSome d [] head shown → InHand head d (bytes_behind_head head) wrapped [] (part ++ piece) shown
@@ -121,6 +118,16 @@ module _ (bytes piece front part : List ℕ) (split : bytes ≡ front ++ part) (
 
   form_more : (wrapper was : Bool) → wrapper ≡ was → was ≡ begins_with_ident bytes → wrapper ≡ begins_with_ident (bytes ++ piece)
   form_more wrapper was same is = same ∙ is ∙ sym (form_on bytes piece long)
+
+  -- what comes next isn't the start, and the piece is more of a part, or the rest of it
+  module _ (next : Spot) (begun : List ℕ) (later : SeenState) (was : Bool) (on : is_start next ≡ false) (form : later.front.wrapper ≡ was) (is : was ≡ begins_with_ident bytes) (around : IsAround next later.front) where
+    more_has : StandsBefore front later.front (place_of_spot next) → HandOf (in_hand next) (due next) (to_come next) (is_libxl next) (opened next) begun (part ++ piece) later.hand → Has next begun (bytes ++ piece) later
+    more_has stands hand =
+        record { front = front; part = part ++ piece; split = split_more; stands = stands; hand = hand; around = around; form = form_more later.front.wrapper was form is; long = λ _. long_more; none = λ never. absurd (apart (sym never ∙ on)) }
+
+    rest_has : StandsBefore (front ++ (part ++ piece)) later.front (place_of_spot next) → HandOf (in_hand next) (due next) (to_come next) (is_libxl next) (opened next) begun [] later.hand → Has next begun (bytes ++ piece) later
+    rest_has stands hand =
+        record { front = front ++ (part ++ piece); part = []; split = split_whole; stands = stands; hand = hand; around = around; form = form_more later.front.wrapper was form is; long = λ _. long_more; none = λ never. absurd (apart (sym never ∙ on)) }
 
 -- nothing was in hand
 unhanded : (seen : SeenState) → seen.hand ≡ None → with_end false seen ≡ seen
@@ -173,17 +180,7 @@ wrapper_opened bytes piece seen t size is h _ e = absurd e
 header_passed : (bytes piece : List ℕ) (seen : SeenState) (t : Relay) → length piece ≡ 8 → Has AtLibxlHeader [] bytes seen → (step : Step) → IsStep AtLibxlHeader piece t step → Has (AtLibxlHead []) [] (bytes ++ piece) (with_end false (with_step seen step (words_in_hand t)))
 header_passed bytes piece seen t size h steps.Piece e =
     subst (Has (AtLibxlHead []) [] (bytes ++ piece)) (sym (unhanded seen h.hand.0))
-    (record {
-      front = h.front ++ (h.part ++ piece);
-      part = [];
-      split = split_whole bytes piece h.front h.part h.split (h.long refl);
-      stands = libxl_header h.front (h.part ++ piece) seen.front h.stands (omega (arith, size, h.hand.1, length-append h.part piece));
-      hand = (h.hand.0, refl);
-      around = h.around;
-      form = form_more bytes piece h.front h.part h.split (h.long refl) _ _ refl h.form;
-      long = λ _. long_more bytes piece h.front h.part h.split (h.long refl);
-      none = λ never. absurd (apart (sym never));
-    })
+    (rest_has bytes piece h.front h.part h.split (h.long refl) (AtLibxlHead []) [] seen _ refl refl h.form h.around (libxl_header h.front (h.part ++ piece) seen.front h.stands (omega (arith, size, h.hand.1, length-append h.part piece))) (h.hand.0, refl))
 header_passed bytes piece seen t size h _ e = absurd e
 
 marker_passed : (outer : Outer) (bytes piece : List ℕ) (seen : SeenState) (t : Relay) → length piece ≡ 8 → Has (InImage outer AtMarker) [] bytes seen → (step : Step) → IsStep (InImage outer AtMarker) piece t step → Has (InImage outer AtVersion) [] (bytes ++ piece) (with_end false (with_step seen step (words_in_hand t)))
@@ -191,17 +188,8 @@ marker_passed outer bytes piece seen t size h (steps.Marker w) e =
     let seen2 : SeenState = with_step seen (steps.Marker w) (words_in_hand t) in
     let same : seen2.front ≡ seen.front = ap {B = ShownFront} (λ b. record seen.front { wrapper = seen.front.wrapper || b }) e ∙ ap {B = ShownFront} (λ b. record seen.front { wrapper = b }) (or_false seen.front.wrapper) in
     subst (Has (InImage outer AtVersion) [] (bytes ++ piece)) (sym (unhanded seen2 h.hand.0))
-    (record {
-      front = h.front;
-      part = h.part ++ piece;
-      split = split_more bytes piece h.front h.part h.split (h.long refl);
-      stands = subst (λ (f : ShownFront). StandsBefore h.front f (Some ImageHeader)) (sym same) h.stands;
-      hand = (h.hand.0, omega (arith, size, h.hand.1, length-append h.part piece));
-      around = subst (IsAroundImage outer) (sym same) h.around;
-      form = form_more bytes piece h.front h.part h.split (h.long refl) _ _ (ap (λ (f : ShownFront). f.wrapper) same) h.form;
-      long = λ _. long_more bytes piece h.front h.part h.split (h.long refl);
-      none = λ never. absurd (apart (sym never));
-    })
+    (more_has bytes piece h.front h.part h.split (h.long refl) (InImage outer AtVersion) [] seen2 _ refl (ap (λ (f : ShownFront). f.wrapper) same) h.form (subst (IsAroundImage outer) (sym same) h.around)
+    (subst (λ (f : ShownFront). StandsBefore h.front f (Some ImageHeader)) (sym same) h.stands) (h.hand.0, omega (arith, size, h.hand.1, length-append h.part piece)))
 marker_passed outer bytes piece seen t size h steps.Piece e = absurd (apart (sym e.0))
 marker_passed outer bytes piece seen t size h _ e = absurd e
 
@@ -211,19 +199,9 @@ version_passed outer n bytes piece seen t size h (steps.Version v) e =
     let at : 12 ≡ length h.part + 4 = omega (arith, h.hand.1) in
     let field : be32 (h.part ++ piece) 12 ≡ v = ap (be32 (h.part ++ piece)) at ∙ past_be32 h.part piece 4 ∙ sym e in
     subst (Has (InImage outer (AtKind n)) [] (bytes ++ piece)) (sym (unhanded seen2 h.hand.0))
-    (record {
-      front = h.front ++ (h.part ++ piece);
-      part = [];
-      split = split_whole bytes piece h.front h.part h.split (h.long refl);
-      stands =
-          subst (λ m. StandsBefore (h.front ++ (h.part ++ piece)) (record seen.front { version = Some m }) (Some DomainHeader)) field
-          (image_header h.front (h.part ++ piece) seen.front h.stands (omega (arith, size, h.hand.1, length-append h.part piece)));
-      hand = (h.hand.0, refl);
-      around = around_same outer seen.front seen2.front refl refl h.around;
-      form = form_more bytes piece h.front h.part h.split (h.long refl) _ _ refl h.form;
-      long = λ _. long_more bytes piece h.front h.part h.split (h.long refl);
-      none = λ never. absurd (apart (sym never));
-    })
+    (rest_has bytes piece h.front h.part h.split (h.long refl) (InImage outer (AtKind n)) [] seen2 _ refl refl h.form (around_same outer seen.front seen2.front refl refl h.around)
+    (subst (λ m. StandsBefore (h.front ++ (h.part ++ piece)) (record seen.front { version = Some m }) (Some DomainHeader)) field
+    (image_header h.front (h.part ++ piece) seen.front h.stands (omega (arith, size, h.hand.1, length-append h.part piece)))) (h.hand.0, refl))
 version_passed outer n bytes piece seen t size h steps.Piece e = absurd (apart (sym e.0))
 version_passed outer n bytes piece seen t size h _ e = absurd e
 
@@ -232,19 +210,9 @@ kind_passed outer n o bytes piece seen t size h (steps.Kind k) e =
     let seen2 : SeenState = with_step seen (steps.Kind k) (words_in_hand t) in
     let field : kind_of_number (le32 (h.part ++ piece) 0) ≡ k = ap (λ l. kind_of_number (le32 (l ++ piece) 0)) (no_bytes h.part h.hand.1) ∙ sym e in
     subst (Has (InImage outer (AtHead o [])) [] (bytes ++ piece)) (sym (unhanded seen2 h.hand.0))
-    (record {
-      front = h.front ++ (h.part ++ piece);
-      part = [];
-      split = split_whole bytes piece h.front h.part h.split (h.long refl);
-      stands =
-          subst (λ (m : KindOf). StandsBefore (h.front ++ (h.part ++ piece)) (record seen.front { kind = Some m }) (Some (Record 0))) field
-          (domain_header h.front (h.part ++ piece) seen.front h.stands (omega (arith, size, h.hand.1, length-append h.part piece)));
-      hand = (h.hand.0, refl);
-      around = around_same outer seen.front seen2.front refl refl h.around;
-      form = form_more bytes piece h.front h.part h.split (h.long refl) _ _ refl h.form;
-      long = λ _. long_more bytes piece h.front h.part h.split (h.long refl);
-      none = λ never. absurd (apart (sym never));
-    })
+    (rest_has bytes piece h.front h.part h.split (h.long refl) (InImage outer (AtHead o [])) [] seen2 _ refl refl h.form (around_same outer seen.front seen2.front refl refl h.around)
+    (subst (λ (m : KindOf). StandsBefore (h.front ++ (h.part ++ piece)) (record seen.front { kind = Some m }) (Some (Record 0))) field
+    (domain_header h.front (h.part ++ piece) seen.front h.stands (omega (arith, size, h.hand.1, length-append h.part piece)))) (h.hand.0, refl))
 kind_passed outer n o bytes piece seen t size h steps.Piece e = absurd (apart (sym e.0))
 kind_passed outer n o bytes piece seen t size h _ e = absurd e
 
@@ -256,17 +224,8 @@ ended {at} {next} behind bytes piece front part seen shown split long form stand
     let s = stood behind front (part ++ piece) seen.front shown stands stands_whole kind_is around in
     subst (λ b. Has next [] (bytes ++ piece) (with_end b seen)) (sym (ap is_some s.none))
     (subst (λ (o : Option Seen1). Has next [] (bytes ++ piece) (record { front = with_hand seen.front o; hand = None })) (sym hand)
-    (record {
-      front = front ++ (part ++ piece);
-      part = [];
-      split = split_whole bytes piece front part split long;
-      stands = s.stands;
-      hand = subst (λ (o : Option RecordHead). HandOf o (due next) (to_come next) (is_libxl next) (opened next) [] [] None) (sym s.none) (refl, sym s.nothing_opened);
-      around = s.around;
-      form = form_more bytes piece front part split long _ _ refl form;
-      long = λ _. long_more bytes piece front part split long;
-      none = λ never. absurd (apart (sym never ∙ s.goes_on));
-    }))
+    (rest_has bytes piece front part split long next [] (record { front = with_hand seen.front (Some shown); hand = None }) _ s.goes_on refl form s.around s.stands
+    (subst (λ (o : Option RecordHead). HandOf o (due next) (to_come next) (is_libxl next) (opened next) [] [] None) (sym s.none) (refl, sym s.nothing_opened))))
 
 -- ---- heads
 
@@ -279,49 +238,25 @@ module _ (bytes piece : List ℕ) (seen : SeenState) (wrapped w : Bool) (head : 
   begun_is = ap (λ b. Some (begun_record b head)) w_is ∙ ap (λ (h : RecordHead). Some (begun_record wrapped h)) head_is
 
 libxl_begun : (records : List LibxlRecord) (bytes piece : List ℕ) (seen : SeenState) (t : Relay) → length piece ≡ 8 → Has (AtLibxlHead records) [] bytes seen → (step : Step) → IsStep (AtLibxlHead records) piece t step → Has (AtLibxlBody records (head_in piece)) [] (bytes ++ piece) (with_end true (with_step seen step (words_in_hand t)))
-libxl_begun records bytes piece seen t size h (steps.Head w head) e = record {
-  front = h.front;
-  part = h.part ++ piece;
-  split = split_more bytes piece h.front h.part h.split (h.long refl);
-  stands = h.stands;
-  hand = (begun_record true (head_in piece), begun_is bytes piece seen true w head e.0 e.1, headed (head_in piece) true h.part piece _ h.hand.1 size refl refl (λ paged. absurd (apart (sym paged)), λ _. (refl, refl)));
-  around = h.around;
-  form = form_more bytes piece h.front h.part h.split (h.long refl) _ _ refl h.form;
-  long = λ _. long_more bytes piece h.front h.part h.split (h.long refl);
-  none = λ never. absurd (apart (sym never));
-}
+libxl_begun records bytes piece seen t size h (steps.Head w head) e =
+    more_has bytes piece h.front h.part h.split (h.long refl) (AtLibxlBody records (head_in piece)) [] (with_step seen (steps.Head w head) (words_in_hand t)) _ refl refl h.form h.around h.stands
+    (begun_record true (head_in piece), begun_is bytes piece seen true w head e.0 e.1, headed (head_in piece) true h.part piece _ h.hand.1 size refl refl (λ paged. absurd (apart (sym paged)), λ _. (refl, refl)))
 libxl_begun records bytes piece seen t size h steps.Piece e = absurd (apart (sym e.0))
 libxl_begun records bytes piece seen t size h _ e = absurd e
 
 image_begun : (outer : Outer) (o : Opening) (records : List StreamRecord) (bytes piece : List ℕ) (seen : SeenState) (t : Relay) → length piece ≡ 8 → (head_in piece).kind ≢ 1 → Has (InImage outer (AtHead o records)) [] bytes seen → (step : Step) → IsStep (InImage outer (AtHead o records)) piece t step
     → Has (InImage outer (AtBody o records (head_in piece))) [] (bytes ++ piece) (with_end true (with_step seen step (words_in_hand t)))
-image_begun outer o records bytes piece seen t size other h (steps.Head w head) e = record {
-  front = h.front;
-  part = h.part ++ piece;
-  split = split_more bytes piece h.front h.part h.split (h.long refl);
-  stands = h.stands;
-  hand = (begun_record false (head_in piece), begun_is bytes piece seen false w head e.0 e.1, headed (head_in piece) false h.part piece _ h.hand.1 size refl refl (λ paged. absurd (apart (sym paged ∙ ne_eqb (head_in piece).kind 1 other)), λ _. (refl, refl)));
-  around = h.around;
-  form = form_more bytes piece h.front h.part h.split (h.long refl) _ _ refl h.form;
-  long = λ _. long_more bytes piece h.front h.part h.split (h.long refl);
-  none = λ never. absurd (apart (sym never));
-}
+image_begun outer o records bytes piece seen t size other h (steps.Head w head) e =
+    more_has bytes piece h.front h.part h.split (h.long refl) (InImage outer (AtBody o records (head_in piece))) [] (with_step seen (steps.Head w head) (words_in_hand t)) _ refl refl h.form h.around h.stands
+    (begun_record false (head_in piece), begun_is bytes piece seen false w head e.0 e.1, headed (head_in piece) false h.part piece _ h.hand.1 size refl refl (λ paged. absurd (apart (sym paged ∙ ne_eqb (head_in piece).kind 1 other)), λ _. (refl, refl)))
 image_begun outer o records bytes piece seen t size other h steps.Piece e = absurd (apart (sym e.0))
 image_begun outer o records bytes piece seen t size other h _ e = absurd e
 
 pages_begun : (outer : Outer) (o : Opening) (records : List StreamRecord) (bytes piece : List ℕ) (seen : SeenState) (t : Relay) → length piece ≡ 8 → (head_in piece).kind ≡ 1 → Has (InImage outer (AtHead o records)) [] bytes seen → (step : Step) → IsStep (InImage outer (AtHead o records)) piece t step
     → Has (InImage outer (AtFront o records (head_in piece))) [] (bytes ++ piece) (with_end true (with_step seen step (words_in_hand t)))
-pages_begun outer o records bytes piece seen t size one h (steps.Head w head) e = record {
-  front = h.front;
-  part = h.part ++ piece;
-  split = split_more bytes piece h.front h.part h.split (h.long refl);
-  stands = h.stands;
-  hand = (begun_record false (head_in piece), begun_is bytes piece seen false w head e.0 e.1, headed (head_in piece) false h.part piece _ h.hand.1 size refl refl {d = CountDue} (refl, eq-eqb (head_in piece).kind 1 one));
-  around = h.around;
-  form = form_more bytes piece h.front h.part h.split (h.long refl) _ _ refl h.form;
-  long = λ _. long_more bytes piece h.front h.part h.split (h.long refl);
-  none = λ never. absurd (apart (sym never));
-}
+pages_begun outer o records bytes piece seen t size one h (steps.Head w head) e =
+    more_has bytes piece h.front h.part h.split (h.long refl) (InImage outer (AtFront o records (head_in piece))) [] (with_step seen (steps.Head w head) (words_in_hand t)) _ refl refl h.form h.around h.stands
+    (begun_record false (head_in piece), begun_is bytes piece seen false w head e.0 e.1, headed (head_in piece) false h.part piece _ h.hand.1 size refl refl {d = CountDue} (refl, eq-eqb (head_in piece).kind 1 one))
 pages_begun outer o records bytes piece seen t size one h steps.Piece e = absurd (apart (sym e.0))
 pages_begun outer o records bytes piece seen t size one h _ e = absurd e
 
@@ -350,32 +285,22 @@ count_passed : (outer : Outer) (o : Opening) (records : List StreamRecord) (head
     → Has (InImage outer (AtWords o records head (le32 piece 0))) [] (bytes ++ piece) (with_end true (with_step seen step (words_in_hand t)))
 count_passed outer o records head bytes piece seen t size fit h steps.Piece e =
     let i = h.hand.2 in
-    record {
-      front = h.front;
-      part = h.part ++ piece;
-      split = split_more bytes piece h.front h.part h.split (h.long refl);
-      stands = h.stands;
-      hand = (
-        h.hand.0,
-        h.hand.1,
-        record {
-          first = i.first;
-          inner = i.inner ++ piece;
-          whole = ap (λ l. l ++ piece) i.whole ∙ append_assoc i.first i.inner piece;
-          first_len = i.first_len;
-          headed = i.headed;
-          kind = i.kind;
-          len = i.len;
-          layer = i.layer;
-          size = omega (arith, i.size, size, fit, length-append i.inner piece);
-          words = (omega (arith, size, ap length i.words.0, length-append i.inner piece), ap (λ l. le32 (l ++ piece) 0) i.words.0, i.words.1, fit);
-        },
-      );
-      around = h.around;
-      form = form_more bytes piece h.front h.part h.split (h.long refl) _ _ refl h.form;
-      long = λ _. long_more bytes piece h.front h.part h.split (h.long refl);
-      none = λ never. absurd (apart (sym never));
-    }
+    more_has bytes piece h.front h.part h.split (h.long refl) (InImage outer (AtWords o records head (le32 piece 0))) [] seen _ refl refl h.form h.around h.stands (
+      h.hand.0,
+      h.hand.1,
+      record {
+        first = i.first;
+        inner = i.inner ++ piece;
+        whole = ap (λ l. l ++ piece) i.whole ∙ append_assoc i.first i.inner piece;
+        first_len = i.first_len;
+        headed = i.headed;
+        kind = i.kind;
+        len = i.len;
+        layer = i.layer;
+        size = omega (arith, i.size, size, fit, length-append i.inner piece);
+        words = (omega (arith, size, ap length i.words.0, length-append i.inner piece), ap (λ l. le32 (l ++ piece) 0) i.words.0, i.words.1, fit);
+      },
+    )
 count_passed outer o records head bytes piece seen t size fit h _ e = absurd e
 
 -- the record in hand behind a piece more, with what the piece says of it
@@ -407,68 +332,50 @@ grows here begun bytes piece head seen t hand counted full h step e = by (held_s
     i : InHand head (due here) (to_come here) (is_libxl here) begun h.part held.0
     i = held.2
 
-    more_inner : h.part ++ piece ≡ i.first ++ (i.inner ++ piece)
-    more_inner = ap (λ l. l ++ piece) i.whole ∙ append_assoc i.first i.inner piece
-
-    more_size : length (i.inner ++ piece) + to_come here ≡ bytes_behind_head head + (length begun + length piece)
-    more_size = omega (arith, i.size, length-append i.inner piece)
-
-    piece_more : due here ≡ NothingDue → Grows here begun piece h.part head seen (with_step seen steps.Piece (words_in_hand t))
-    piece_more nothing = record {
-      front = refl;
+    grown_by : (step : Step) (shown : Seen1) → (with_step seen step (words_in_hand t)).front ≡ seen.front → (with_step seen step (words_in_hand t)).hand ≡ Some shown → shown.kind ≡ held.0.kind → shown.len ≡ held.0.len → shown.wrapped ≡ held.0.wrapped → HasSome NothingDue (i.inner ++ piece) head shown
+        → Grows here begun piece h.part head seen (with_step seen step (words_in_hand t))
+    grown_by step shown front is same_kind same_len same_layer told = record {
+      front = front;
       grown = record {
-        shown = held.0;
-        is = held.1;
+        shown = shown;
+        is = is;
         first = i.first;
         inner = i.inner ++ piece;
-        whole_is = more_inner;
+        whole_is = ap (λ l. l ++ piece) i.whole ∙ append_assoc i.first i.inner piece;
         first_len = i.first_len;
         is_head = i.headed;
-        kind_is = i.kind;
-        len_is = i.len;
-        layer = i.layer;
-        size = more_size;
-        words_are = more_some i.inner piece head held.0 (subst (λ (d : Due). HasSome d i.inner head held.0) nothing i.words);
+        kind_is = same_kind ∙ i.kind;
+        len_is = same_len ∙ i.len;
+        layer = same_layer ∙ i.layer;
+        size = omega (arith, i.size, length-append i.inner piece);
+        words_are = told;
       };
     }
+
+    piece_more : due here ≡ NothingDue → Grows here begun piece h.part head seen (with_step seen steps.Piece (words_in_hand t))
+    piece_more nothing = grown_by steps.Piece held.0 refl held.1 refl refl refl (more_some i.inner piece head held.0 (subst (λ (d : Due). HasSome d i.inner head held.0) nothing i.words))
 
     words_more : (n : ℕ) → due here ≡ WordsDue n → words_in_hand t ≡ words n piece → length piece ≡ 8 * n → Grows here begun piece h.part head seen (with_step seen steps.Words (words_in_hand t))
     words_more n are ws size =
         let d : HasSome (WordsDue n) i.inner head held.0 = subst (λ (d : Due). HasSome d i.inner head held.0) are i.words in
         let number : length (words_in_hand t) ≡ n = ap length ws ∙ words_number n piece in
         let fills : FillsBody (WordsDue n) piece head = subst (λ (d : Due). FillsBody d piece head) are full in
-        record {
-          front = refl;
-          grown = record {
-            shown = counted_record (words_in_hand t) held.0;
-            is = ap (option_map (counted_record (words_in_hand t))) held.1;
-            first = i.first;
-            inner = i.inner ++ piece;
-            whole_is = more_inner;
-            first_len = i.first_len;
-            is_head = i.headed;
-            kind_is = i.kind;
-            len_is = i.len;
-            layer = i.layer;
-            size = more_size;
-            words_are = (
-              λ paged. (
-                record {
-                  front = i.inner;
-                  spelled = piece;
-                  rest = [];
-                  whole = ap (λ l. i.inner ++ l) (sym (append-nil piece));
-                  front_len = d.0;
-                  number_is = number ∙ sym d.1;
-                  spelled_len = omega (arith, size, number);
-                  pages_is = ap (count_by word_has_data) (ws ∙ ap (λ m. words m piece) (sym number));
-                },
-                omega (arith, fills, number, ap (count_by word_has_data) ws),
-              ),
-              λ plain. absurd (apart (sym d.2 ∙ plain)),
-            );
-          };
-        }
+        grown_by steps.Words (counted_record (words_in_hand t) held.0) refl (ap (option_map (counted_record (words_in_hand t))) held.1) refl refl refl (
+          λ paged. (
+            record {
+              front = i.inner;
+              spelled = piece;
+              rest = [];
+              whole = ap (λ l. i.inner ++ l) (sym (append-nil piece));
+              front_len = d.0;
+              number_is = number ∙ sym d.1;
+              spelled_len = omega (arith, size, number);
+              pages_is = ap (count_by word_has_data) (ws ∙ ap (λ m. words m piece) (sym number));
+            },
+            omega (arith, fills, number, ap (count_by word_has_data) ws),
+          ),
+          λ plain. absurd (apart (sym d.2 ∙ plain)),
+        )
 
     by : ((step ≡ steps.Piece) × (due here ≢ CountDue → due here ≡ NothingDue)) ⊎ ((step ≡ steps.Words) × (n : ℕ) × (due here ≡ WordsDue n) × (words_in_hand t ≡ words n piece) × (length piece ≡ 8 * n)) → Grows here begun piece h.part head seen (with_step seen step (words_in_hand t))
     by (inl (is, nothing)) = subst (λ (s : Step). Grows here begun piece h.part head seen (with_step seen s (words_in_hand t))) (sym is) (piece_more (nothing counted))
@@ -487,19 +394,10 @@ more_passed here next begun bytes piece front head seen t hand hand_next same_sp
     let own : InHand head NothingDue (to_come next) (is_libxl next) front (h.part ++ piece) i.shown =
     record { first = i.first; inner = i.inner; whole = i.whole_is; first_len = i.first_len; headed = i.is_head; kind = i.kind_is; len = i.len_is; layer = layer; size = omega (arith, i.size, size); words = i.words_are } in
     subst (λ b. Has next front (bytes ++ piece) (with_end b later)) (sym (ap is_some hand_next))
-    (record {
-      front = h.front;
-      part = h.part ++ piece;
-      split = split_more bytes piece h.front h.part h.split long;
-      stands = subst (λ (f : ShownFront). StandsBefore h.front f (place_of_spot next)) (sym g.front) (subst (StandsBefore h.front seen.front) place h.stands);
-      hand =
-          subst (λ (o : Option RecordHead). HandOf o (due next) (to_come next) (is_libxl next) (opened next) front (h.part ++ piece) later.hand) (sym hand_next)
-          (i.shown, i.is, subst (λ (d : Due). InHand head d (to_come next) (is_libxl next) front (h.part ++ piece) i.shown) (sym nothing) own);
-      around = subst (IsAround next) (sym g.front) around;
-      form = form_more bytes piece h.front h.part h.split long _ _ (ap (λ (f : ShownFront). f.wrapper) g.front) h.form;
-      long = λ _. long_more bytes piece h.front h.part h.split long;
-      none = λ never. absurd (apart (sym never ∙ hand_goes_on next head hand_next));
-    })
+    (more_has bytes piece h.front h.part h.split long next front later _ (hand_goes_on next head hand_next) (ap (λ (f : ShownFront). f.wrapper) g.front) h.form (subst (IsAround next) (sym g.front) around)
+    (subst (λ (f : ShownFront). StandsBefore h.front f (place_of_spot next)) (sym g.front) (subst (StandsBefore h.front seen.front) place h.stands))
+    (subst (λ (o : Option RecordHead). HandOf o (due next) (to_come next) (is_libxl next) (opened next) front (h.part ++ piece) later.hand) (sym hand_next)
+    (i.shown, i.is, subst (λ (d : Due). InHand head d (to_come next) (is_libxl next) front (h.part ++ piece) i.shown) (sym nothing) own)))
 
 whole_passed : (here next : Spot) (begun bytes piece : List ℕ) (head : RecordHead) (seen : SeenState) (t : Relay) → in_hand here ≡ Some head → due here ≢ CountDue → FillsBody (due here) piece head → length begun + length piece ≡ to_come here → ComesBehind (head_spot here) head.kind next
     → Has here begun bytes seen → (step : Step) → IsStep here piece t step → Has next [] (bytes ++ piece) (with_end (is_some (in_hand next)) (with_step seen step (words_in_hand t)))

@@ -2,13 +2,14 @@ ghost use Rattle.std.specs.Prelude.{◌≡◌, ◌<◌, ◌++◌, false, length,
 ghost use Rattle.serde_json.specs.View.{view};
 ghost use Rattle.serde_json.specs.Written.{has_float, comma_if, compact_text};
 ghost use Rattle.mig_show.specs.Lines.{records_text};
-ghost use Rattle.mig_show.specs.Tree.{record_tree, shown_tree};
-ghost use Rattle.mig_show.specs.Shows.{tree_line};
+ghost use Rattle.mig_show.specs.Tree.{record_tree};
+ghost use Rattle.mig_show.specs.Shows.{front_tree, tree_line};
 ghost use Rattle.mig_show.specs.declared.record.Seen1.{Seen1 as Listed};
 
 use crate::record::{Seen1, record_object};
+use crate::seen::Seen;
 use crate::tree::{kind_value, refused_value, version_value};
-use mig_headers::{Cause, Kind, Place};
+use mig_headers::{Cause, Place};
 use serde_json::Value;
 use std::alloc::{AllocError, Global};
 
@@ -65,27 +66,24 @@ fn put_list(line: &mut String, alloc: Global, list: &[Seen1]) -> Result<(), Allo
     put_records(line, alloc, list)
 }
 
-/// The JSON text of the tree that shows a stream, and a line feed.
+/// The JSON text of the tree that shows what was seen of a stream, and a line feed.
 pub(crate) fn stream_line(
     alloc: Global,
-    wrapper: bool,
-    version: Option<u32>,
-    kind: Option<Kind>,
-    list: &[Seen1],
+    seen: &Seen,
     refused: Option<(Place, Cause)>,
 ) -> Result<String, AllocError>
-    ensures { IfOk result (λ line. string_bytes line ≡ tree_line (shown_tree wrapper version kind list.now refused)) }
+    ensures { IfOk result (λ line. string_bytes line ≡ tree_line (front_tree seen.now.front refused)) }
 {
     let mut line = String::from_str(alloc, "{\"kind\":")?;
-    put_value(&mut line, alloc, &kind_value(alloc, kind)?)?;
+    put_value(&mut line, alloc, &kind_value(alloc, seen.kind)?)?;
     line.push_str(",\"records\":[")?;
-    put_list(&mut line, alloc, list)?;
+    put_list(&mut line, alloc, &seen.records)?;
     line.push_str("],\"refused\":")?;
     put_value(&mut line, alloc, &refused_value(alloc, refused)?)?;
     line.push_str(",\"version\":")?;
-    put_value(&mut line, alloc, &version_value(version))?;
+    put_value(&mut line, alloc, &version_value(seen.version))?;
     line.push_str(",\"wrapper\":")?;
-    put_value(&mut line, alloc, &Value::from(wrapper))?;
+    put_value(&mut line, alloc, &Value::from(seen.wrapper))?;
     line.push_str("}")?;
     line.push_str("\n")?;
     Ok(line)

@@ -111,15 +111,7 @@ pub fn show_text<S: Source>(alloc: Global, src: &mut S) -> Result<ShownText, Sho
 {
     let mut seen = Seen::new(alloc);
     let refused = see_all(alloc, &mut seen, src)?;
-    let line = stream_line(
-        alloc,
-        seen.wrapper,
-        seen.version,
-        seen.kind,
-        &seen.records,
-        refused,
-    );
-    match line {
+    match stream_line(alloc, &seen, refused) {
         Ok(line) => Ok(ShownText { line, refused }),
         Err(_) => Err(ShowAnswer::Memory),
     }
