@@ -1,9 +1,8 @@
 -- Sets of all numbers below a width.
-use Rattle.std.proofs.Common.{arith, ◌≡◌, ◌≢◌, ℕ, ◌+◌, ◌-◌, ◌*◌, ◌/◌, ◌%◌, ◌^◌, ◌≤◌, ◌<◌, List, length, get_or, slice_set, true, false, nat_lt, sym, ap, ◌∙◌, inl, inr}
+use Rattle.std.proofs.Common.{arith, ◌≡◌, ◌≢◌, ℕ, ◌+◌, ◌-◌, ◌*◌, ◌/◌, ◌%◌, ◌^◌, ◌≤◌, ◌<◌, List, length, get_or, slice_set, false, nat_lt, sym, ap, ◌∙◌, inl, inr}
 use Rattle.std.specs.Prelude.{◌==◌}
 use Rattle.std.specs.Int.{bit_at}
-use Rattle.std.proofs.lemmas.Bool.{cases_lt}
-use Rattle.std.proofs.lemmas.Bool.Decides.{nat_tests}
+use Rattle.std.proofs.lemmas.Bool.{cases_lt, lt-ltb, le-ltb}
 use Rattle.std.proofs.lemmas.List.{get_or_past}
 use Rattle.std.proofs.lemmas.Nat.{one_shl}
 use Rattle.std.proofs.lemmas.Nat.Bits.{bit_at-zero, bit_at_ones, bit_at_ones_above}
@@ -30,18 +29,12 @@ word_here words index word k within same = grind (arith, common_steps)
 word_other : (words : List ℕ) (index word k : ℕ) → k ≢ index → get_or (slice_set words index word) k 0 ≡ get_or words k 0
 word_other words index word k differ = grind (arith, common_steps)
 
-below : (p width : ℕ) → p < width → nat_lt p width ≡ true
-below p width h = grind (arith, nat_tests)
-
-above : (p width : ℕ) → width ≤ p → nat_lt p width ≡ false
-above p width h = grind (arith, nat_tests)
-
 module _ (words : List ℕ) (width index word : ℕ) (done : (p : ℕ) → p < 64 * index → pfns_of_words words p ≡ nat_lt p width) (within : index < length words)
     (low : (i : ℕ) → i < 64 → i < width - 64 * index → bit_at word i ≡ 1) (high : (i : ℕ) → i < 64 → width - 64 * index ≤ i → bit_at word i ≡ 0) where
   in_it : (p : ℕ) → p / 64 ≡ index → (bit_at word (p % 64) == 1) ≡ nat_lt p width
   in_it p at = elim (cases_lt p width) [
-    | inl less ↦ ap (λ b. b == 1) (low (p % 64) (omega arith) (omega arith)) ∙ sym (below p width less)
-    | inr past ↦ ap (λ b. b == 1) (high (p % 64) (omega arith) (omega arith)) ∙ sym (above p width past)
+    | inl less ↦ ap (λ b. b == 1) (low (p % 64) (omega arith) (omega arith)) ∙ sym (lt-ltb p width less)
+    | inr past ↦ ap (λ b. b == 1) (high (p % 64) (omega arith) (omega arith)) ∙ sym (le-ltb p width past)
   ]
 
   pub filled_more : (p : ℕ) → p < 64 * (index + 1) → pfns_of_words (slice_set words index word) p ≡ nat_lt p width
@@ -56,5 +49,5 @@ nothing_at words p e = ap (λ w. bit_at w (p % 64) == 1) e ∙ ap (λ b. b == 1)
 pub all_filled : (words : List ℕ) (width n : ℕ) → length words ≡ (width + 63) / 64 → length words ≤ n → ((p : ℕ) → p < 64 * n → pfns_of_words words p ≡ nat_lt p width) → pfns_of_words words ≡ all_below width
 all_filled words width n size end done = fun_ext (λ p. elim (cases_lt p (64 * n)) [
   | inl less ↦ done p less
-  | inr past ↦ nothing_at words p (get_or_past words (p / 64) 0 (omega arith)) ∙ sym (above p width (omega arith))
+  | inr past ↦ nothing_at words p (get_or_past words (p / 64) 0 (omega arith)) ∙ sym (le-ltb p width (omega arith))
 ])

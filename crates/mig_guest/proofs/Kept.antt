@@ -1,5 +1,6 @@
 -- What is kept of a well formed guest where parts are set: one lemma over the table, whatever the code.
 use Rattle.mig_guest.proofs.Common.{◌≡◌, ◌≢◌, ℕ, ◌≤◌, List, [], ◌∷◌, length, Bool, true, false, not, nat_eq, Option, Some, None, refl, sym, ap, subst, ◌∙◌, arith, nat_cmp, AllByRecursion, nat_cmp-IsAntisymmetric, nat_cmp_total, eqb-true, eq-eqb, PartKey, FrameOf, FrameMap, framed, GuestOf, part_cmp, Part, PartMap, put_part, put_parts, replace_code, parts_of, FitsPolicy, IsPart, IsTop, IsGuestFrame, is_policy, width_of, IsFormed, AreParts, is_emulator_code, HasNoEmulators, most_policy_entries}
+use Rattle.std.proofs.lemmas.List.{nil_from_length}
 use Rattle.std.specs.FinMap as fin
 use Rattle.mig_headers.specs.declared.kind.Kind.{Kind}
 use Rattle.mig_headers.specs.declared.kind.Kind.TheVariants.{Pv, Hvm}
@@ -102,12 +103,8 @@ bare_formed kind top fits = record {
   top = fits;
   frames = λ pfn frame got. let no : None ≡ Some frame = sym (fin.get-empty nat_cmp pfn) ∙ got in cc;
   parts = λ key bytes got. let no : None ≡ Some bytes = sym (fin.get-empty part_cmp key) ∙ got in cc;
-  policies = λ code one. subst (λ es. length (parts_of code es) ≤ most_policy_entries) (sym (empty_list (fin.entries fin.empty) (sym (fin.len-entries fin.empty) ∙ fin.len-empty part_cmp (List ℕ)))) (omega arith);
+  policies = λ code one. subst (λ es. length (parts_of code es) ≤ most_policy_entries) (sym (nil_from_length (fin.entries fin.empty) (sym (fin.len-entries fin.empty) ∙ fin.len-empty part_cmp (List ℕ)))) (omega arith);
 }
-  where
-    empty_list : (l : List Part) → length l ≡ 0 → l ≡ []
-    empty_list [] e = refl
-    empty_list (x ∷ l) e = absurd (omega (arith, e))
 
 pub empty_formed : (kind : Kind) → IsFormed (record { kind = kind; top = 0; frames = fin.empty; parts = fin.empty })
 empty_formed Pv = bare_formed Pv 0 (omega arith)

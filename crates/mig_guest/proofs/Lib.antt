@@ -2,7 +2,6 @@ pub mod Common
 pub mod PartOrder
 pub mod KeyedMaps
 pub mod PartMaps
-pub mod Loans
 pub mod PartCursor
 pub mod PartSets
 pub mod Counts

@@ -3,8 +3,7 @@ use Rattle.std.proofs.Common.{◌≡◌, ℕ, zero, suc, ◌+◌, ◌<◌, ◌�
 use Rattle.std.specs.Prelude.{filter, Contains}
 use Rattle.std.specs.List.{All, range_with_len}
 use Rattle.std.specs.List.Sorted.{IsStrictlyIncreasing}
-use Rattle.std.proofs.lemmas.Bool.{cases_lt}
-use Rattle.std.proofs.lemmas.Grind.{common_steps}
+use Rattle.std.proofs.lemmas.Bool.{cases_lt, lt-ltb}
 use Rattle.std.proofs.lemmas.List.Elements.{All-contains, All-filter, filter_passes, Contains-append_right}
 use Rattle.std.proofs.lemmas.List.FromFn.{length-range_with_len, get_or-range_with_len}
 use Rattle.std.proofs.lemmas.List.Kept.{IsStrictlyIncreasing-filter}
@@ -56,9 +55,6 @@ are_members width p set h = found set 0 width p (omega arith) (omega (arith, h.0
 
 -- ---- all below the width
 
-is_below : (a width : ℕ) → a < width → nat_lt a width ≡ true
-is_below a width h = grind (arith, common_steps)
-
 stays : (b : Bool) (a : ℕ) (others : List ℕ) → b ≡ true → cond b (a ∷ others) others ≡ a ∷ others
 stays true a others e = refl
 stays false a others e = cc
@@ -66,7 +62,7 @@ stays false a others e = cc
 all_stay : (width a n : ℕ) → a + n ≤ width → filter (all_below width) (range_with_len a n) ≡ range_with_len a n
 all_stay width a zero h = refl
 all_stay width a (suc n) h =
-    stays (nat_lt a width) a (filter (all_below width) (range_with_len (a + 1) n)) (is_below a width (omega arith))
+    stays (nat_lt a width) a (filter (all_below width) (range_with_len (a + 1) n)) (lt-ltb a width (omega arith))
     ∙ ap (λ l. a ∷ l) (all_stay width (a + 1) n (omega arith))
 
 pub all_members : (width : ℕ) → members width (all_below width) ≡ range_with_len 0 width

@@ -1,16 +1,17 @@
 -- A page behind the others that is filled, and comes to be that of a frame.
-use Rattle.mig_pagestore.proofs.Common.{◌≡◌, ◌≢◌, ℕ, zero, suc, ◌+◌, ◌-◌, ◌<◌, ◌≤◌, Bool, true, false, List, [], ◌∷◌, ◌++◌, length, set, slice_get, Some, refl, sym, ap, ◌∙◌, subst, arith, length-append, ValueMap, PageType, type_has_data, Placed, IsCell, IsLed, SameBut, is_place, place_of_page}
+use Rattle.mig_pagestore.proofs.Common.{◌≡◌, ℕ, zero, suc, ◌+◌, ◌-◌, ◌<◌, ◌≤◌, true, false, List, [], ◌∷◌, ◌++◌, length, set, slice_get, Some, refl, sym, ap, ◌∙◌, subst, arith, length-append, ValueMap, PageType, type_has_data, Placed, IsCell, IsLed, SameBut, is_place, place_of_page}
+use Rattle.mig_pagestore.proofs.FrameCells.{some_place}
 use Rattle.std.specs.FinMap as maps
-use Rattle.mig_pagetypes.specs.declared.page_type.PageType.TheVariants.{Xtab}
 use Rattle.mig_pagestore.specs.Filling.{PlacesLast}
 use Rattle.mig_pagestore.specs.FrameView.{cell_type, cell_place, page_at_place}
-use Rattle.mig_pagestore.proofs.Packing.{get_right, set_right}
-use Rattle.mig_pagestore.proofs.Led.{place_in_range, led_over, same_over, here_over, length_behind, led_behind, here_behind, same_behind}
+use Rattle.std_alloc.proofs.Rotate.{set_back}
+use Rattle.mig_pagestore.proofs.Packing.{get_right}
+use Rattle.mig_pagestore.proofs.Led.{led_over, same_over, here_over, length_behind, led_behind, here_behind, same_behind}
 
 -- the last page is written over, and reads as what was written
 pub last_over : (pages ps : List (List ℕ)) (y w v : List ℕ) (p : ℕ) → ps ≡ pages ++ y ∷ [] → p ≡ length pages → slice_get (set ps p w) p ≡ Some v → (set ps p w ≡ pages ++ w ∷ []) × (w ≡ v)
 last_over pages ps y w v p is at got =
-    let over : set ps p w ≡ pages ++ w ∷ [] = ap (λ l. set l p w) is ∙ set_right pages (y ∷ []) p 0 w (omega (arith, at)) in
+    let over : set ps p w ≡ pages ++ w ∷ [] = ap (λ l. set l p w) is ∙ set_back pages (y ∷ []) p 0 w (omega (arith, at)) in
     let here : Some w ≡ Some v = sym (get_right pages (w ∷ []) p 0 (omega (arith, at))) ∙ sym (ap (λ l. slice_get l p) over) ∙ got in
     (over, cc)
 
@@ -24,19 +25,15 @@ same_front (a ∷ xs) (b ∷ ys) x y e =
 -- the last page is taken out again
 pub last_out : (old pushed new : Placed) (y w r : List ℕ) (p : ℕ) → pushed.pages ≡ old.pages ++ y ∷ [] → pushed.room + 1 ≡ old.room → p ≡ length old.pages → set pushed.pages p w ≡ new.pages ++ r ∷ [] → new.room ≡ pushed.room + 1 → new ≡ old
 last_out old pushed new y w r p is less at out more =
-    let pages = same_front new.pages old.pages r w (sym out ∙ ap (λ l. set l p w) is ∙ set_right old.pages (y ∷ []) p 0 w (omega (arith, at))) in
+    let pages = same_front new.pages old.pages r w (sym out ∙ ap (λ l. set l p w) is ∙ set_back old.pages (y ∷ []) p 0 w (omega (arith, at))) in
     let room : new.room ≡ old.room = omega (arith, less, more) in
     λ i. record { pages = pages i; room = room i }
-
-place_true : (p : ℕ) → 0 < p → is_place p ≡ true
-place_true zero some = absurd (omega (arith, some))
-place_true (suc i) some = refl
 
 -- the cell of a frame whose page was filled
 pub filled_cell : (d p : ℕ) (t : PageType) → 0 < p → type_has_data t ≡ true → cell_type d ≡ t → cell_place d ≡ p → IsCell d
 filled_cell d p t some paged type place = record {
   there = λ e. let none : type_has_data t ≡ false = ap type_has_data (sym type ∙ e) in let no : false ≡ true = sym none ∙ paged in cc;
-  in_step = ap is_place place ∙ place_true p some ∙ sym paged ∙ ap type_has_data (sym type);
+  in_step = ap is_place place ∙ some_place p some ∙ sym paged ∙ ap type_has_data (sym type);
 }
 
 -- a page w that was behind the others is the page of k

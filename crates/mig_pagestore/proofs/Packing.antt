@@ -1,5 +1,6 @@
 -- What edits in one slab do to all pages.
 use Rattle.mig_pagestore.proofs.Common.{◌≡◌, ℕ, zero, suc, ◌+◌, ◌-◌, ◌*◌, ◌/◌, ◌%◌, ◌<◌, ◌≤◌, List, [], ◌∷◌, ◌++◌, length, take, drop, get_or, set, slice_get, refl, sym, ap, ◌∙◌, subst, arith, length-append, length-set, append-nil, append_assoc, IsArena}
+use Rattle.std_alloc.proofs.Rotate.{set_front, set_back}
 use Rattle.mig_pagestore.specs.Slab.{Pages}
 use Rattle.mig_pagestore.specs.Packed.{IsPacked, all_pages}
 
@@ -13,16 +14,6 @@ module _ {X : Type 0} where
   get_right [] ys i k e = let same : i ≡ k = omega arith in ap (slice_get ys) same
   get_right (x ∷ xs) ys zero k e = absurd (omega arith)
   get_right (x ∷ xs) ys (suc i) k e = get_right xs ys i k (omega arith)
-
-  set_left : (xs ys : List X) (i : ℕ) (w : X) → i < length xs → set (xs ++ ys) i w ≡ set xs i w ++ ys
-  set_left [] ys i w lt = absurd (omega arith)
-  set_left (x ∷ xs) ys zero w lt = refl
-  set_left (x ∷ xs) ys (suc i) w lt = ap (λ l. x ∷ l) (set_left xs ys i w (omega arith))
-
-  pub set_right : (xs ys : List X) (i k : ℕ) (w : X) → i ≡ length xs + k → set (xs ++ ys) i w ≡ xs ++ set ys k w
-  set_right [] ys i k w e = let same : i ≡ k = omega arith in ap (λ m. set ys m w) same
-  set_right (x ∷ xs) ys zero k w e = absurd (omega arith)
-  set_right (x ∷ xs) ys (suc i) k w e = ap (λ l. x ∷ l) (set_right xs ys i k w (omega arith))
 
   part_left : (xs ys : List X) (r c : ℕ) → r + c ≤ length xs → take c (drop r (xs ++ ys)) ≡ take c (drop r xs)
   part_left [] ys zero zero le = refl
@@ -91,11 +82,11 @@ set_place (t ∷ ss) n zero r s w p small lt e =
     let within : r < length t.pages = grind (arith, p.1, p.2, lt, small) in
     let long = length-set t.pages r w in
     subst (λ (u : Pages). IsPacked (with_pages (set u.pages r w) ∷ ss) n × (set u.pages r w ++ all_pages ss ≡ set (t.pages ++ all_pages ss) (0 * 64 + r) w)) (sym e)
-    ((omega (arith, long, p.0), λ le. long ∙ p.1 le, λ le. long ∙ p.2 le, p.3), sym (set_left t.pages (all_pages ss) r w within) ∙ ap (λ k. set (t.pages ++ all_pages ss) k w) (sym (zeroth r)))
+    ((omega (arith, long, p.0), λ le. long ∙ p.1 le, λ le. long ∙ p.2 le, p.3), sym (set_front t.pages (all_pages ss) r w within) ∙ ap (λ k. set (t.pages ++ all_pages ss) k w) (sym (zeroth r)))
 set_place (t ∷ ss) n (suc j) r s w p small lt e =
     let on = set_place ss (n - 64) j r s w p.3 small (omega (arith, lt)) e in
     let full : length t.pages ≡ 64 = p.1 (omega (arith, lt)) in
-    ((p.0, p.1, p.2, on.0), ap (λ l. t.pages ++ l) on.1 ∙ sym (set_right t.pages (all_pages ss) (suc j * 64 + r) (j * 64 + r) w (omega (arith, full))))
+    ((p.0, p.1, p.2, on.0), ap (λ l. t.pages ++ l) on.1 ∙ sym (set_back t.pages (all_pages ss) (suc j * 64 + r) (j * 64 + r) w (omega (arith, full))))
 
 pub push_place : (ss : List Pages) (n j r : ℕ) (s : Pages) (w : List ℕ) → IsPacked ss n → r < 64 → j * 64 + r ≡ n → n < length ss * 64 → s ≡ get_or ss j s
     → (length s.pages ≡ r) × IsPacked (set ss j (with_pages (s.pages ++ w ∷ []))) (n + 1) × (all_pages (set ss j (with_pages (s.pages ++ w ∷ []))) ≡ all_pages ss ++ w ∷ [])

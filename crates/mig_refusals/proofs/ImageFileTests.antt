@@ -1,5 +1,6 @@
 -- What the truth values in the conditions of an image file say.
 use Rattle.mig_refusals.proofs.Common.{Bool, FinMap, HostOf, Hvm, IsAntisymmetric, IsSome, IsTotalOrder, Kind, L4Pinned, L4Tab, Less, List, None, Notab, Option, Ordering, PageType, PartCode, PartKey, PartMap, Pv, Some, [], and_from, and_parts, ap, arith, cases_lt, eq-eqb, eqb-true, false, false≢true, inl, inr, le-leb, leb-true, list_any, nat_cmp-IsAntisymmetric, nat_cmp_total, nat_eq, nat_le, none-some, not, or_cases, part_cmp, part_exact, part_total, refl, subst, sym, true, ℕ, ◌∙◌, ◌∷◌, ◌≡◌, ◌≤◌, ◌⊎◌}
+use Rattle.mig_host.proofs.HostedGuests.{some_value}
 use Rattle.mig_guest.proofs.PartCursor.{less}
 use Rattle.mig_guest.specs.Frames.{is_type_of}
 use Rattle.mig_guest.specs.Hosts.{HostFrame}
@@ -22,10 +23,6 @@ use Rattle.mig_image.proofs.ImageWords.{each_zero, zero_each}
 use Rattle.mig_image.specs.ImageParts.{code_allows}
 use Rattle.mig_refusals.specs.ImageFile.{ImageTestsSay, IsCodeOf, IsNoType}
 
-value_of : {X : Type 0} (o : Option X) → IsSome o → (v : X) × (o ≡ Some v)
-value_of None some = absurd (false≢true some)
-value_of (Some v) some = (v, refl)
-
 -- an entry of a map that passes a test
 module _ {K X : Type 0} {R : K → K → Ordering} (total : IsTotalOrder R) (exact : IsAntisymmetric R) (p : K × X → Bool) (m : FinMap R X) where
   abbrev There : K × X → Type 0
@@ -47,7 +44,7 @@ pub frame_from : (h : HostOf) (pfn : ℕ) → has_frame_from h pfn ≡ true → 
 frame_from h pfn any = let (q, v, at, passes) = passing nat_cmp_total nat_cmp-IsAntisymmetric (λ e. nat_le pfn e.0) h.frames any in (q, subst IsSome (sym at) refl, leb-true pfn q passes)
 
 pub from_frame : (h : HostOf) (pfn q : ℕ) → IsSome (maps.get h.frames q) → pfn ≤ q → has_frame_from h pfn ≡ true
-from_frame h pfn q some le = let (v, at) = value_of _ some in some_entry nat_cmp_total nat_cmp-IsAntisymmetric (λ e. nat_le pfn e.0) h.frames q v at (le-leb pfn q le)
+from_frame h pfn q some le = let (v, at) = some_value _ some in some_entry nat_cmp_total nat_cmp-IsAntisymmetric (λ e. nat_le pfn e.0) h.frames q v at (le-leb pfn q le)
 
 pub machine_of : (h : HostOf) (machine : ℕ) → has_machine h machine ≡ true → (q : ℕ) × (frame : HostFrame) × (maps.get h.frames q ≡ Some frame) × (frame.machine ≡ machine)
 machine_of h machine any = let (q, v, at, passes) = passing nat_cmp_total nat_cmp-IsAntisymmetric (λ e. nat_eq e.1.machine machine) h.frames any in (q, v, at, eqb-true v.machine machine passes)
@@ -71,7 +68,7 @@ module _ (parts : PartMap) (key : PartKey) where
 
   pub from_part : (q : PartKey) → IsSome (maps.get parts q) → IsFrom key q → has_part_from parts key ≡ true
   from_part q some (inl same) = part_there key parts (subst (λ k. IsSome (maps.get parts k)) same some)
-  from_part q some (inr above) = let (v, at) = value_of _ some in some_entry part_total part_exact (λ e. not (is_lt (part_cmp e.0 key))) parts q v at (ap (λ r. not (is_lt r)) (part_total.antisymm q key ∙ ap ordering_reverse above))
+  from_part q some (inr above) = let (v, at) = some_value _ some in some_entry part_total part_exact (λ e. not (is_lt (part_cmp e.0 key))) parts q v at (ap (λ r. not (is_lt r)) (part_total.antisymm q key ∙ ap ordering_reverse above))
 
 -- ---- types
 

@@ -1,5 +1,6 @@
 -- The first wrong field of a toolstack's data stands where judging finds it.
-use Rattle.mig_refusals.proofs.Common.{◌≡◌, ◌⊎◌, inl, inr, ℕ, zero, suc, ◌+◌, ◌<◌, ◌≤◌, List, [], ◌∷◌, ◌++◌, length, take, drop, Bool, true, false, nat_eq, nat_lt, Option, Some, refl, sym, ap, subst, ◌∙◌, arith, common_steps, take-append-drop, length-append, length-take-le, cases_eq, cases_lt, eq-eqb, ne_eqb, le-ltb, lt-ltb, none-some, same_Some, both_ways, le32, not, first_fault, drop-drop, length-drop, take-append_seam, drop-append_seam, le64, entries_fault, entry_fault, entry_len, is_name, name_at, name_in, name_len, toolstack_fault, Physmap, IsName, IsPhysmapHead, name_bytes, faultless_first, faulty_first, nothing_left, in32, first32, name_passes, name_spelled, fault_of, behind_all, len_is, PhysmapsTo, EntryWrong, FieldWrong, fine_entry}
+use Rattle.mig_refusals.proofs.Common.{◌≡◌, ◌⊎◌, inl, inr, ℕ, zero, suc, ◌+◌, ◌<◌, ◌≤◌, List, [], ◌∷◌, ◌++◌, length, take, drop, Bool, true, false, nat_lt, Option, Some, refl, sym, ap, subst, ◌∙◌, arith, common_steps, take-append-drop, length-append, length-take-le, cases_eq, cases_lt, eq-eqb, ne_eqb, le-ltb, lt-ltb, none-some, same_Some, both_ways, le32, not, first_fault, drop-drop, length-drop, take-append_seam, drop-append_seam, le64, entries_fault, entry_fault, entry_len, is_name, name_at, name_in, name_len, toolstack_fault, Physmap, IsName, IsPhysmapHead, name_bytes, faultless_first, faulty_first, nothing_left, in32, first32, name_passes, name_spelled, fault_of, behind_all, len_is, PhysmapsTo, EntryWrong, FieldWrong, fine_entry}
+use Rattle.std.proofs.lemmas.Bool.{cases_Bool, false_from_ne_true}
 use Rattle.mig_refusals.specs.LegacyToolstack.PhysmapsTo.{at_first, one_more}
 use Rattle.mig_refusals.specs.LegacyToolstack.EntryWrong.{short_phys, short_start, short_size, short_length, short_name, no_name, short_padding}
 use Rattle.mig_refusals.specs.LegacyToolstack.FieldWrong.{short_version, other_version, short_count, in_entry, more_bytes}
@@ -27,11 +28,7 @@ module _ (bytes : List ℕ) where
 
 -- a text of which no name has the bytes
 no_name_is : (text : List ℕ) → ((name : Option (List ℕ)) → IsName name → text ≡ name_bytes name → ⊥) → is_name text ≡ false
-no_name_is text never = by (is_name text) refl
-  where
-    by : (b : Bool) → is_name text ≡ b → is_name text ≡ false
-    by false is = is
-    by true is = let s = name_spelled text is in absurd (never (name_in text) s.1 (sym s.0))
+no_name_is text never = false_from_ne_true (is_name text) (λ is. let s = name_spelled text is in never (name_in text) s.1 (sym s.0))
 
 module _ (head text rest : List ℕ) (size : length head ≡ 28) (len : le32 head 24 ≡ length text) where
   abbrev all : List ℕ
@@ -167,11 +164,7 @@ some_left offset left some = nothing_left offset left ∙ rw (ne_eqb (length lef
 pub field_found : (body : List ℕ) (offset : ℕ) → FieldWrong body offset → toolstack_fault body ≡ Some offset
 unfolding toolstack_fault
 field_found body _ (short_version h) = rw (lt-ltb (length body) 4 h) refl
-field_found body _ (other_version h) = other (nat_lt (length body) 4) (nat_eq (le32 body 0) 1) refl (ne_eqb (le32 body 0) 1 h)
-  where
-    other : (a b : Bool) → nat_lt (length body) 4 ≡ a → nat_eq (le32 body 0) 1 ≡ false → toolstack_fault body ≡ Some 0
-    other true b short version = rw short refl
-    other false b long version = rw (long, version) refl
+field_found body _ (other_version h) = elim (cases_Bool (nat_lt (length body) 4)) [ inl short ↦ rw short refl | inr long ↦ rw (long, ne_eqb (le32 body 0) 1 h) refl ]
 field_found body _ (short_count long version h) = rw (le-ltb (length body) 4 long, eq-eqb (le32 body 0) 1 version, lt-ltb (length body) 8 h) refl
 field_found body _ (in_entry offset n field left to wrong) =
     let more : n + 1 ≡ suc n = omega arith in

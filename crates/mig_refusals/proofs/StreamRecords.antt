@@ -1,5 +1,6 @@
 -- A record of a libxl stream is refused where its form is, or where the image behind its head is.
 use Rattle.mig_refusals.proofs.Common.{pairs_in, then_faulty, bind_cases, passes_not, only_first, placed_faulty, ◌≡◌, ◌⊎◌, inl, inr, ℕ, List, [], ◌++◌, Bool, true, false, cond, nat_eq, length, refl, sym, ap, subst, ◌∙◌, eqb-true, eq-eqb, false≢true, le32, drop, part, placed, tried, Judged, ◌>>=◌, Passes, Faulty, then_passes, placed_passes, Cause, padding_len, Place, image_at, LibxlRecord, LibxlContent, libxl_record_at, libxl_head_at, libxl_content_at, inner_at, body_of_type, emulators_of, libxl_behind_head, behind_content, allows_length, AtRecord, Image, LibxlNothing, Truncated, skipped_at}
+use Rattle.std.proofs.lemmas.Bool.{cases_Bool}
 use Rattle.mig_bytes_form.specs.Form.{FormOf, ◌>>>◌, bytes_form, judged_as, BeginsAs, SpelledAs, RefusedAs}
 use Rattle.mig_bytes_form.specs.Form.FormOf.{Gives}
 use Rattle.mig_bytes_form.proofs.Joined.{bytes_spelled, first_refused, gives_begins, refused_then, then_is, then_refused}
@@ -70,11 +71,7 @@ module _ (records : List LibxlRecord) where
 
     -- LIBXC_CONTEXT has no body
     no_body : NoneHolds (head_causes records type len) → type ≡ 1 → len ≡ 0
-    no_body none one = eqb-true len 0 (subst (λ t. allows_length t len ≡ true) one (by (allows_length type len) none.1.1.1.0))
-      where
-        by : (b : Bool) → (((b ≡ true) → ⊥) → ⊥) → b ≡ true
-        by true h = refl
-        by false h = absurd (h (λ t. false≢true t))
+    no_body none one = eqb-true len 0 (subst (λ t. allows_length t len ≡ true) one (elim (cases_Bool (allows_length type len)) [ inl h ↦ h | inr fails ↦ absurd (none.1.1.1.0 (λ t. false≢true (sym fails ∙ t))) ]))
 
   -- ---- a record that is refused
 

@@ -1,5 +1,7 @@
 -- The fields of vCPU contexts that are used, the frames that they say and the types that they take are those that judging takes.
 use Rattle.mig_refusals.proofs.Common.{◌≡◌, ℕ, ◌+◌, ◌-◌, ◌*◌, ◌/◌, ◌<◌, ◌≤◌, List, Bool, true, false, cond, nat_le, nat_lt, refl, sym, ap, subst, arith, eqb-true, eqb-false, eq-eqb, ne_eqb, leb-true, leb-false, le-leb, ltb-true, lt-ltb, ◌==◌, Option, Some, both_ways, le64, PageType, Notab, L4Tab, L4Pinned, lt-leb, is_notab, is_root, fits_field, TakesType, gdt_ents, field_value, frame_of_field, is_marked, is_used, IsUsedField}
+use Rattle.std.proofs.Common.{inl, inr, ◌∙◌}
+use Rattle.std.proofs.lemmas.Bool.{cases_Bool, false_from_ne_true}
 use Rattle.mig_refusals.specs.LibxcPv.IsUsedField.{start_info, descriptors, tables, user_tables}
 use Rattle.mig_refusals.specs.LibxcPv.TakesType.{plain, root, pinned_root}
 
@@ -61,11 +63,10 @@ module _ (field : ℕ) where
   root_of _ high h = cc
 
   fits_takes : (o : Option PageType) → fits_field field o ≡ true → TakesType field o
-  fits_takes o h = by (nat_le field 16) refl h
-    where
-      by : (b : Bool) → nat_le field 16 ≡ b → cond b (is_notab o) (is_root o) ≡ true → TakesType field o
-      by true low h = plain_of o (leb-true field 16 low) h
-      by false high h = root_of o (leb-false field 16 high) h
+  fits_takes o h = elim (cases_Bool (nat_le field 16)) [
+    | inl low ↦ plain_of o (leb-true field 16 low) (sym (ap (λ b. cond b (is_notab o) (is_root o)) low) ∙ h)
+    | inr high ↦ root_of o (leb-false field 16 high) (sym (ap (λ b. cond b (is_notab o) (is_root o)) high) ∙ h)
+  ]
 
   takes_fits : (o : Option PageType) → TakesType field o → fits_field field o ≡ true
   takes_fits _ (plain low) = let is : nat_le field 16 ≡ true = le-leb field 16 low in rw is refl
@@ -77,8 +78,4 @@ module _ (field : ℕ) where
   misfit_is o h takes = both_ways (fits_field field o) h (takes_fits o takes)
 
   pub is_misfit : (o : Option PageType) → (TakesType field o → ⊥) → fits_field field o ≡ false
-  is_misfit o never = by (fits_field field o) refl
-    where
-      by : (b : Bool) → fits_field field o ≡ b → b ≡ false
-      by true is = absurd (never (fits_takes o is))
-      by false is = refl
+  is_misfit o never = false_from_ne_true (fits_field field o) (λ is. never (fits_takes o is))

@@ -3,7 +3,7 @@ use Rattle.std.specs.BTreeMap as tree
 use Rattle.std.specs.FinMap as maps
 use Rattle.mig_guest.specs.Lending.{Bytes}
 use Rattle.mig_guest.proofs.PartMaps.{got, is_some_lent, put_seen}
-use Rattle.mig_guest.proofs.Loans.{same_loan_if}
+use Rattle.mig_pagestore.proofs.Loans.{same_loan_if}
 use Rattle.mig_guest.proofs.parts.Parts.lend.Goals as goal
 
 pub returns : goal.returns
