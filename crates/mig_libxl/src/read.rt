@@ -1,6 +1,5 @@
 ghost use Rattle.std.specs.Prelude.{Option, ◌≡◌, ◌≤◌, ◌+◌, ◌==◌, ◌∷◌, [], ◌++◌, ⊤, ◌≢◌, ◌<◌, List, true, None, IfOk, IfNone, OnOk, IsErrOf};
 ghost use Rattle.mig_bytes.specs.Answers.{or_stop};
-ghost use Rattle.mig_bytes.specs.Bytes.{AreBytes};
 ghost use Rattle.mig_bytes.specs.Faults.{RisesOnReadFault};
 ghost use Rattle.mig_bytes.specs.Judged.{Gives};
 ghost use Rattle.mig_bytes.specs.declared.stop.Stop.TheVariants.{Memory as NoMemory};
@@ -28,30 +27,19 @@ use mig_bytes::{
 use mig_guest::PartKey;
 use mig_headers::{Cause, ImageHeader, Kind, LibxlHeader, Place};
 use mig_libxl_form::{
-    EMULATOR_CONTEXT, EMULATOR_XENSTORE_DATA, Emulators, LIBXC_CONTEXT, LIBXL_END, RecordsBehind,
-    libxl_head_fault,
+    EMULATOR_CONTEXT, EMULATOR_IDS, EMULATOR_INDICES, EMULATOR_XENSTORE_DATA, Emulators,
+    LIBXC_CONTEXT, LIBXL_END, RecordsBehind, libxl_head_fault,
 };
 use mig_outline::Tally;
 use mig_policy::{PairsAnswer, pairs_fault};
 use mig_records::{RecordHead, take_head, take_padding};
-use mig_restore::{Reading, StreamAnswer};
+use mig_restore::{Reading, StreamAnswer, are_bytes};
 use std::alloc::Global;
 
 /// The codes of the parts that are an emulator's pairs, and its context.
 const PAIRS: u32 = mig_guest::EMULATOR_PAIRS;
 
 const CONTEXT: u32 = mig_guest::EMULATOR_CONTEXT;
-
-/// Emulator ids are below this.
-const EMULATORS: u32 = 3;
-
-/// Indices of an emulator are below this.
-const INDICES: u32 = 256;
-
-/// Does nothing. That bytes are below 256 is what makes a guest that they are set in one of bytes.
-fn are_bytes(bytes: &[u8])
-    ensures { AreBytes bytes.now }
-{}
 
 /// Takes a body of which nothing is kept.
 fn skip_body<S: Source>(src: &mut S, len: u32) -> Result<(), Stop<Cause>>
@@ -162,7 +150,7 @@ impl<I: KeptImage> WrapperSeen<I> {
         if let Some(cause) = pairs_fault(pairs) {
             return Err(Stop::Refused(cause));
         }
-        if id >= EMULATORS {
+        if id >= EMULATOR_IDS {
             return Err(Stop::Refused(Cause::BadEmulator(u64::from(id))));
         }
         let key = PartKey {
@@ -175,7 +163,7 @@ impl<I: KeptImage> WrapperSeen<I> {
             Err(PairsAnswer::TooMany) => return Err(Stop::Refused(Cause::TooManyPairs)),
             Err(PairsAnswer::Memory) => return Err(Stop::Memory),
         }
-        if index >= INDICES {
+        if index >= EMULATOR_INDICES {
             return Err(Stop::Refused(Cause::EmulatorIndex(u64::from(index))));
         }
         self.emulated = true;
@@ -201,10 +189,10 @@ impl<I: KeptImage> WrapperSeen<I> {
         are_bytes(&body);
         let id = u32_le(&body, 0);
         let index = u32_le(&body, 4);
-        if id >= EMULATORS {
+        if id >= EMULATOR_IDS {
             return Err(Stop::Refused(Cause::BadEmulator(u64::from(id))));
         }
-        if index >= INDICES {
+        if index >= EMULATOR_INDICES {
             return Err(Stop::Refused(Cause::EmulatorIndex(u64::from(index))));
         }
         let key = PartKey {

@@ -26,4 +26,7 @@ pub use law::{
     accepted_is_stream, accepted_or_refused, accepted_stream_is_whole, never_both, one_front,
     stream_is_accepted,
 };
-pub use numbers::{EMULATOR_CONTEXT, EMULATOR_XENSTORE_DATA, LIBXC_CONTEXT, LIBXL_END};
+pub use numbers::{
+    EMULATOR_CONTEXT, EMULATOR_IDS, EMULATOR_INDICES, EMULATOR_XENSTORE_DATA, LIBXC_CONTEXT,
+    LIBXL_END,
+};

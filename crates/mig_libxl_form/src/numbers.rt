@@ -10,6 +10,12 @@ pub const EMULATOR_XENSTORE_DATA: u32 = 2;
 /// The type of a record with an emulator's context.
 pub const EMULATOR_CONTEXT: u32 = 3;
 
+/// Emulator ids are below this.
+pub const EMULATOR_IDS: u32 = 3;
+
+/// Indices of an emulator are below this.
+pub const EMULATOR_INDICES: u32 = 256;
+
 /// The types of the records of checkpoints, the last that are known.
 pub(crate) const CHECKPOINT_END: u32 = 4;
 

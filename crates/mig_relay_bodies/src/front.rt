@@ -14,16 +14,11 @@ use crate::pairs::no_pairs;
 use mig_bytes::{u32_le, u64_le};
 use mig_guest::{MOST_GDT_ENTRIES, PartCode};
 use mig_headers::{Cause, VCPU_LIMIT};
+use mig_libxl_form::{EMULATOR_IDS, EMULATOR_INDICES};
 use mig_records::{GDT_ENTS, body_fault, pv_info_fault};
 
 /// Frame numbers whose machine frames one P2M frame holds.
 const IN_P2M_FRAME: u64 = 512;
-
-/// Emulator ids are below this.
-const EMULATORS: u32 = 3;
-
-/// Indices of an emulator are below this.
-const INDICES: u32 = 256;
 
 /// What is wrong with the body of an X86_PV_INFO.
 fn info_fault(front: &[u8]) -> Option<Cause>
@@ -71,11 +66,11 @@ fn emulator_fault(front: &[u8]) -> Option<Cause>
     ensures { (body : List ℕ) → le32 body 0 ≡ le32 front.now 0 → le32 body 4 ≡ le32 front.now 4 → result ≡ fault_of_context body }
 {
     let id = u32_le(front, 0);
-    if id >= EMULATORS {
+    if id >= EMULATOR_IDS {
         return Some(Cause::BadEmulator(u64::from(id)));
     }
     let index = u32_le(front, 4);
-    if index >= INDICES {
+    if index >= EMULATOR_INDICES {
         return Some(Cause::EmulatorIndex(u64::from(index)));
     }
     None

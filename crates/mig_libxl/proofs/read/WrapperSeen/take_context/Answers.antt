@@ -5,18 +5,18 @@ use Rattle.mig_libxl_form.proofs.Bodies.{fine_context}
 use Rattle.mig_libxl.proofs.Taking.{are_read, read_in, context_bad_id, context_bad_index, context_put, takes_of, behind_front}
 use Rattle.mig_libxl.proofs.read.WrapperSeen.take_context.Goals as goal
 
-pub returns-then-id-ge-EMULATORS-clause-read : goal.returns-then-id-ge-EMULATORS-clause-read
-returns-then-id-ge-EMULATORS-clause-read g c =
+pub returns-then-id-ge-EMULATOR_IDS-clause-read : goal.returns-then-id-ge-EMULATOR_IDS-clause-read
+returns-then-id-ge-EMULATOR_IDS-clause-read g c =
     let same : c.deref-2.result.now ≡ c.in_ok-body.body.items = search rules in
     said_refused Truncated _ _ c.args.len _ refl (λ b. Context (emulator_key 259 b) (drop 8 b)) c.in_ok-body.body fault_of_context _ _ _ c.in_ok-body.ensures.read
-    (λ bytes e. context_bad_id bytes c.u32_le-id.result _ (c.u32_le-id.ensures ∙ ap (λ l. le32 l 0) (same ∙ sym e)) c.from.ensures c.if-id-ge-EMULATORS.true)
+    (λ bytes e. context_bad_id bytes c.u32_le-id.result _ (c.u32_le-id.ensures ∙ ap (λ l. le32 l 0) (same ∙ sym e)) c.from.ensures c.if-id-ge-EMULATOR_IDS.true)
 
-pub returns-then-index-ge-INDICES-clause-read : goal.returns-then-index-ge-INDICES-clause-read
-returns-then-index-ge-INDICES-clause-read g c =
+pub returns-then-index-ge-EMULATOR_INDICES-clause-read : goal.returns-then-index-ge-EMULATOR_INDICES-clause-read
+returns-then-index-ge-EMULATOR_INDICES-clause-read g c =
     let same : c.deref-2.result.now ≡ c.in_ok-body.body.items = search rules in
     let alike : c.deref-3.result.now ≡ c.in_ok-body.body.items = search rules in
     said_refused Truncated _ _ c.args.len _ refl (λ b. Context (emulator_key 259 b) (drop 8 b)) c.in_ok-body.body fault_of_context _ _ _ c.in_ok-body.ensures.read
-    (λ bytes e. context_bad_index bytes c.u32_le-id.result c.u32_le-index.result _ (c.u32_le-id.ensures ∙ ap (λ l. le32 l 0) (same ∙ sym e)) (c.u32_le-index.ensures ∙ ap (λ l. le32 l 4) (alike ∙ sym e)) c.from-then-index-ge-INDICES.ensures c.if-id-ge-EMULATORS.false c.if-index-ge-INDICES.true)
+    (λ bytes e. context_bad_index bytes c.u32_le-id.result c.u32_le-index.result _ (c.u32_le-id.ensures ∙ ap (λ l. le32 l 0) (same ∙ sym e)) (c.u32_le-index.ensures ∙ ap (λ l. le32 l 4) (alike ∙ sym e)) c.from-then-index-ge-EMULATOR_INDICES.ensures c.if-id-ge-EMULATOR_IDS.false c.if-index-ge-EMULATOR_INDICES.true)
 
 pub returns-in-Ok-clause-read : goal.returns-in-Ok-clause-read
 returns-in-Ok-clause-read g c =
@@ -24,7 +24,7 @@ returns-in-Ok-clause-read g c =
     said_read Truncated _ _ c.args.len _ refl (λ b. Context (emulator_key 259 b) (drop 8 b)) c.in_ok-body.body fault_of_context _ _ tt c.in_ok-body.ensures.read
     (λ bytes is.
     let r = read_in bytes read is in (
-      fine_context bytes (subst (λ k. k < 3) r.id_is c.if-id-ge-EMULATORS.false) (subst (λ k. k < 256) r.index_is c.if-index-ge-INDICES.false),
+      fine_context bytes (subst (λ k. k < 3) r.id_is c.if-id-ge-EMULATOR_IDS.false) (subst (λ k. k < 256) r.index_is c.if-index-ge-EMULATOR_INDICES.false),
       takes_of g.I.KeptImage.is_of c.args.self.now _ 3 (Context (emulator_key 259 bytes) (drop 8 bytes)) refl refl (c.in-Ok.ensures.ok ∙ context_put c.args.self.now.emulators bytes _ _ _ r) refl refl refl,
     ))
 
@@ -33,5 +33,5 @@ returns-in-Ok-clause-begun g c =
     let body = c.deref-4.result.now in
     let alike : c.deref.result.now ≡ body = search rules in
     let size : length body ≡ c.args.len = search rules in
-    context_begun g.I.KeptImage.kept c.args.self.now c.set_context.new.self _ c.u32_le-id.result c.u32_le-index.result c.requires.begun c.if-id-ge-EMULATORS.false c.if-index-ge-INDICES.false body c.in-Ok.ensures.ok (behind_front body body _ refl refl)
+    context_begun g.I.KeptImage.kept c.args.self.now c.set_context.new.self _ c.u32_le-id.result c.u32_le-index.result c.requires.begun c.if-id-ge-EMULATOR_IDS.false c.if-index-ge-EMULATOR_INDICES.false body c.in-Ok.ensures.ok (behind_front body body _ refl refl)
     (subst (λ n. 8 ≤ n) (sym size) c.requires.front) (subst (λ n. n ≤ most_body) (sym size) c.requires.small) (subst AreBytes alike c.are_bytes.ensures)
