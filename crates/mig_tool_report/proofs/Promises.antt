@@ -1,5 +1,5 @@
 -- Promises that are kept.
-use Rattle.mig_tool_report.proofs.Common.{◌≡◌, ℕ, ◌≤◌, List, Option, Some, refl, subst, sym, ap, ◌∙◌, arith, line_of}
+use Rattle.mig_tool_report.proofs.Common.{◌≡◌, ℕ, ◌≤◌, List, Option, refl, subst, sym, ◌∙◌, arith, line_of}
 use mathlib.Core.Logic.{inl, inr}
 use Rattle.std.specs.Prelude.{◌⊎◌, ◌≢◌}
 use Rattle.std.specs.Io.KnownBytes.{Appends}

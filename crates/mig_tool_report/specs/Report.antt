@@ -26,19 +26,30 @@ text_of_walk_end NotCanonical = codes "2 NotCanonical"
 text_of_walk_end (Absent level) = codes "3 Absent " ++ decimal level
 text_of_walk_end (NotTable level) = codes "4 NotTable " ++ decimal level
 
--- `PLACE: NUMBER NAME`, and the cause's arguments
-abbrev pub refusal_text : Refusal → List ℕ
-refusal_text (Stream place cause) = text_of_place place ++ (codes ": " ++ text_of_cause cause)
-refusal_text (Legacy place cause) = text_of_legacy_place place ++ (codes ": " ++ text_of_legacy_cause cause)
-refusal_text (Image place cause) = text_of_image_place place ++ (codes ": " ++ text_of_image_cause cause)
-refusal_text (BadLine line) = (codes "Script " ++ decimal line) ++ codes ": 1 BadLine"
-refusal_text TooLong = codes "Script: 2 TooLong"
-refusal_text (Pause unsound) = codes "Pause: " ++ text_of_unsound unsound
-refusal_text (Host unsound) = codes "Host: " ++ text_of_unsound unsound
-refusal_text (Walk end) = codes "Walk: " ++ text_of_walk_end end
+abbrev pub refusal_place : Refusal → List ℕ
+refusal_place (Stream place cause) = text_of_place place
+refusal_place (Legacy place cause) = text_of_legacy_place place
+refusal_place (Image place cause) = text_of_image_place place
+refusal_place (BadLine line) = codes "Script " ++ decimal line
+refusal_place TooLong = codes "Script"
+refusal_place (Pause unsound) = codes "Pause"
+refusal_place (Host unsound) = codes "Host"
+refusal_place (Walk end) = codes "Walk"
 
+-- `NUMBER NAME`, and the cause's arguments
+abbrev pub refusal_cause : Refusal → List ℕ
+refusal_cause (Stream place cause) = text_of_cause cause
+refusal_cause (Legacy place cause) = text_of_legacy_cause cause
+refusal_cause (Image place cause) = text_of_image_cause cause
+refusal_cause (BadLine line) = codes "1 BadLine"
+refusal_cause TooLong = codes "2 TooLong"
+refusal_cause (Pause unsound) = text_of_unsound unsound
+refusal_cause (Host unsound) = text_of_unsound unsound
+refusal_cause (Walk end) = text_of_walk_end end
+
+-- `refused: PLACE: NUMBER NAME`
 abbrev pub refusal_line : Refusal → List ℕ
-refusal_line refusal = codes "refused: " ++ (refusal_text refusal ++ codes "\n")
+refusal_line refusal = codes "refused: " ++ (refusal_place refusal ++ (codes ": " ++ (refusal_cause refusal ++ codes "\n")))
 
 abbrev pub usage_line : List ℕ
 usage_line = codes "usage: restore [BASE] | verify | normalise | convert | save | exercise SEED FRAMES | walk VCPU ADDRESS | walkimage VCPU ADDRESS | relay | show\n"

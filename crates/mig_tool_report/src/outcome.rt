@@ -2,7 +2,7 @@ ghost use Rattle.std.specs.Prelude.{◌≡◌, ◌≤◌, ◌++◌, codes, decim
 ghost use Rattle.mig_bytes.specs.Bytes.{Puts};
 ghost use Rattle.mig_bytes.specs.Faults.{HasCause};
 ghost use Rattle.mig_tool_report.specs.Outcome.{status_of, line_of};
-ghost use Rattle.mig_tool_report.specs.Report.{Reports, refusal_line, refusal_text, text_of_walk_end, kind_name, differs_text, ok_line, saved_line, exercised_line, walked_line, relayed_line};
+ghost use Rattle.mig_tool_report.specs.Report.{Reports, refusal_line, refusal_place, refusal_cause, text_of_walk_end, kind_name, differs_text, ok_line, saved_line, exercised_line, walked_line, relayed_line};
 ghost use Rattle.mig_tool_report.specs.declared.outcome.Outcome.TheVariants as outcomes;
 ghost use Rattle.mig_tool_report.specs.declared.outcome.Refusal.TheVariants as refusals;
 
@@ -135,75 +135,6 @@ fn put_field<R: Sink>(report: &mut R, text: &[u8], number: u64) -> Result<(), Wr
     put_number(report, number)
 }
 
-/// Puts the place and the cause of a stream's refusal.
-fn put_stream_refusal<R: Sink>(
-    report: &mut R,
-    place: Place,
-    cause: Cause,
-) -> Result<(), WriteFailed>
-    ensures bytes { Puts (refusal_text (refusals.Stream place cause)) (R.written report.old) (R.written report.new) result }
-    ensures cause { HasCause (R.faults report.old) (R.faults report.new) result }
-{
-    put_place(report, place)?;
-    put_all(report, b": ")?;
-    put_cause(report, cause)
-}
-
-/// Puts the place and the cause of a legacy stream's refusal.
-fn put_legacy_refusal<R: Sink>(
-    report: &mut R,
-    place: LegacyPlace,
-    cause: LegacyCause,
-) -> Result<(), WriteFailed>
-    ensures bytes { Puts (refusal_text (refusals.Legacy place cause)) (R.written report.old) (R.written report.new) result }
-    ensures cause { HasCause (R.faults report.old) (R.faults report.new) result }
-{
-    put_legacy_place(report, place)?;
-    put_all(report, b": ")?;
-    put_legacy_cause(report, cause)
-}
-
-/// Puts the place and the cause of an image's refusal.
-fn put_image_refusal<R: Sink>(
-    report: &mut R,
-    place: ImagePlace,
-    cause: ImageCause,
-) -> Result<(), WriteFailed>
-    ensures bytes { Puts (refusal_text (refusals.Image place cause)) (R.written report.old) (R.written report.new) result }
-    ensures cause { HasCause (R.faults report.old) (R.faults report.new) result }
-{
-    put_image_place(report, place)?;
-    put_all(report, b": ")?;
-    put_image_cause(report, cause)
-}
-
-/// Puts the line of a script that is none.
-fn put_bad_line<R: Sink>(report: &mut R, line: u64) -> Result<(), WriteFailed>
-    ensures bytes { Puts (refusal_text (refusals.BadLine line)) (R.written report.old) (R.written report.new) result }
-    ensures cause { HasCause (R.faults report.old) (R.faults report.new) result }
-{
-    put_field(report, b"Script ", line)?;
-    put_all(report, b": 1 BadLine")
-}
-
-/// Puts what is in the way of seeing the host at the pause.
-fn put_pause_refusal<R: Sink>(report: &mut R, unsound: Unsound) -> Result<(), WriteFailed>
-    ensures bytes { Puts (refusal_text (refusals.Pause unsound)) (R.written report.old) (R.written report.new) result }
-    ensures cause { HasCause (R.faults report.old) (R.faults report.new) result }
-{
-    put_all(report, b"Pause: ")?;
-    put_unsound(report, unsound)
-}
-
-/// Puts what is in the way of seeing a host.
-fn put_host_refusal<R: Sink>(report: &mut R, unsound: Unsound) -> Result<(), WriteFailed>
-    ensures bytes { Puts (refusal_text (refusals.Host unsound)) (R.written report.old) (R.written report.new) result }
-    ensures cause { HasCause (R.faults report.old) (R.faults report.new) result }
-{
-    put_all(report, b"Host: ")?;
-    put_unsound(report, unsound)
-}
-
 /// Puts why an address means no frame.
 fn put_walk_end<R: Sink>(report: &mut R, end: WalkEnd) -> Result<(), WriteFailed>
     ensures bytes { Puts (text_of_walk_end end) (R.written report.old) (R.written report.new) result }
@@ -217,29 +148,36 @@ fn put_walk_end<R: Sink>(report: &mut R, end: WalkEnd) -> Result<(), WriteFailed
     }
 }
 
-/// Puts that an address means no frame.
-fn put_walk_refusal<R: Sink>(report: &mut R, end: WalkEnd) -> Result<(), WriteFailed>
-    ensures bytes { Puts (refusal_text (refusals.Walk end)) (R.written report.old) (R.written report.new) result }
-    ensures cause { HasCause (R.faults report.old) (R.faults report.new) result }
-{
-    put_all(report, b"Walk: ")?;
-    put_walk_end(report, end)
-}
-
-/// Puts the place and the cause of a refusal.
-fn put_place_and_cause<R: Sink>(report: &mut R, refusal: Refusal) -> Result<(), WriteFailed>
-    ensures bytes { Puts (refusal_text refusal) (R.written report.old) (R.written report.new) result }
+/// Puts the place of a refusal.
+fn put_refusal_place<R: Sink>(report: &mut R, refusal: Refusal) -> Result<(), WriteFailed>
+    ensures bytes { Puts (refusal_place refusal) (R.written report.old) (R.written report.new) result }
     ensures cause { HasCause (R.faults report.old) (R.faults report.new) result }
 {
     match refusal {
-        Refusal::Stream(place, cause) => put_stream_refusal(report, place, cause),
-        Refusal::Legacy(place, cause) => put_legacy_refusal(report, place, cause),
-        Refusal::Image(place, cause) => put_image_refusal(report, place, cause),
-        Refusal::BadLine(line) => put_bad_line(report, line),
-        Refusal::TooLong => put_all(report, b"Script: 2 TooLong"),
-        Refusal::Pause(unsound) => put_pause_refusal(report, unsound),
-        Refusal::Host(unsound) => put_host_refusal(report, unsound),
-        Refusal::Walk(end) => put_walk_refusal(report, end),
+        Refusal::Stream(place, _) => put_place(report, place),
+        Refusal::Legacy(place, _) => put_legacy_place(report, place),
+        Refusal::Image(place, _) => put_image_place(report, place),
+        Refusal::BadLine(line) => put_field(report, b"Script ", line),
+        Refusal::TooLong => put_all(report, b"Script"),
+        Refusal::Pause(_) => put_all(report, b"Pause"),
+        Refusal::Host(_) => put_all(report, b"Host"),
+        Refusal::Walk(_) => put_all(report, b"Walk"),
+    }
+}
+
+/// Puts the cause of a refusal.
+fn put_refusal_cause<R: Sink>(report: &mut R, refusal: Refusal) -> Result<(), WriteFailed>
+    ensures bytes { Puts (refusal_cause refusal) (R.written report.old) (R.written report.new) result }
+    ensures cause { HasCause (R.faults report.old) (R.faults report.new) result }
+{
+    match refusal {
+        Refusal::Stream(_, cause) => put_cause(report, cause),
+        Refusal::Legacy(_, cause) => put_legacy_cause(report, cause),
+        Refusal::Image(_, cause) => put_image_cause(report, cause),
+        Refusal::BadLine(_) => put_all(report, b"1 BadLine"),
+        Refusal::TooLong => put_all(report, b"2 TooLong"),
+        Refusal::Pause(unsound) | Refusal::Host(unsound) => put_unsound(report, unsound),
+        Refusal::Walk(end) => put_walk_end(report, end),
     }
 }
 
@@ -249,7 +187,9 @@ fn put_refusal<R: Sink>(report: &mut R, refusal: Refusal) -> Result<(), WriteFai
     ensures cause { HasCause (R.faults report.old) (R.faults report.new) result }
 {
     put_all(report, b"refused: ")?;
-    put_place_and_cause(report, refusal)?;
+    put_refusal_place(report, refusal)?;
+    put_all(report, b": ")?;
+    put_refusal_cause(report, refusal)?;
     put_all(report, b"\n")
 }
 
