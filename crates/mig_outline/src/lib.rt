@@ -6,8 +6,9 @@
 //! (mig_restore), frames and parts (mig_guest), whole guests (mig_pvtables).
 //!
 //! What the layers above rely on: `judge_image` answers Ok exactly where an image stands in front of the input, with its
-//! tally, and else the first fault with its place, and has taken just what `read_image` takes; it asks for no memory but an
-//! index of the frames, the tables and the parts. It compares nothing behind a VERIFY, and says in the tally that one came.
+//! tally, and else the first fault with its place, and has taken just what `read_image` takes; it keeps an index of the frames,
+//! the tables and the parts, and of a record in hand its words or its body. It compares nothing behind a VERIFY, and says in
+//! the tally that one came.
 #![tactic(auto)]
 
 mod body;
