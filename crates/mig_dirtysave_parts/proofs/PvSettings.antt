@@ -9,7 +9,7 @@ use Rattle.mig_guest.specs.declared.part_code.PartCode.TheVariants.{VcpuExtended
 use Rattle.mig_canon.specs.Canon.{all_vcpus, key_of, part_record, pv_last_codes, records_of_vcpu, vcpu_record, vcpus_below}
 use Rattle.mig_canon.proofs.PvRecords.{short_part}
 use Rattle.mig_pvtables.proofs.BlankSays.{blanked_ents}
-use Rattle.mig_pvtables.proofs.SameShape.{to_guest}
+use Rattle.mig_guest.proofs.PartRows.{changed_part}
 use Rattle.mig_host_view.proofs.ViewedSays.{ents_there}
 use Rattle.mig_dirtysave_parts.proofs.Codes.{IsOther, IsOtherType, both_all, code_within, from_kept, same_records, seen_as}
 use Rattle.mig_dirtysave_parts.proofs.Walks.{kept_at}
@@ -64,10 +64,10 @@ module _ (h : HostOf) where
           let renamed = renamed_context is_used_somewhere (pfn_in h.frames) key.key1 x in
           let ents = ents_there (pfn_in h.frames) key.key1 x (few key x there number) in
           let again = blanked_ents renamed in
-          to_guest h.width VcpuBasic (blanked_context renamed) number (eq-eqb (length (blanked_context renamed)) 5168 (length_longs 646 _)) (host_part key x there)
+          changed_part h.width VcpuBasic (blanked_context renamed) number (eq-eqb (length (blanked_context renamed)) 5168 (length_longs 646 _)) (host_part key x there)
           (let less : gdt_ents (blanked_context renamed) ≤ most_gdt_entries = omega (arith, ents, again, few key x there number) in less)
       final_case key x there false true four seven part =
-          to_guest h.width SharedInfo (blanked_shared x) (eqb-true key.code 7 seven) (eq-eqb (length (blanked_shared x)) 4096 (length_longs 512 _)) (host_part key x there) tt
+          changed_part h.width SharedInfo (blanked_shared x) (eqb-true key.code 7 seven) (eq-eqb (length (blanked_shared x)) 4096 (length_longs 512 _)) (host_part key x there) tt
       final_case key x there false false four seven part = part
 
       final_part : (key : PartKey) (bytes : List ℕ) → maps.get (settings_seen h).parts key ≡ Some bytes → IsPart Pv h.width key bytes

@@ -11,6 +11,7 @@ use Rattle.mig_pagetypes.specs.declared.page_type.PageType.{PageType}
 use Rattle.mig_pagetypes.specs.declared.page_type.PageType.TheVariants.{Notab, Broken, Xalloc}
 use Rattle.mig_guest.specs.declared.table.Entry.{Entry}
 use Rattle.mig_guest.specs.Hosts.{IsHostPart}
+use Rattle.mig_guest.specs.Formed.{IsRowPart}
 use Rattle.mig_guest.specs.Tables.{EachEntry, IsWithin}
 use Rattle.mig_pagetypes.specs.Limits.{pfn_limit}
 
@@ -66,17 +67,27 @@ pub same_len : (code : PartCode) (v w n : ℕ) → (row_of code).of_kind Hvm ≡
 same_len P2mFrames v w n of_hvm = cc
 same_len _ v w n of_hvm = refl
 
-pub host_part : (v w : ℕ) (key : PartKey) (bytes : List ℕ) → IsPart Hvm v key bytes → IsHostPart Hvm w key bytes
-host_part v w key bytes is = record {
+-- a part with other bytes, of which the same or something else is asked
+pub with_bytes : {From To : PartCode → List ℕ → Type 0} {kind : Kind} {width : ℕ} (other : ℕ) {key : PartKey} {bytes : List ℕ} (changed : List ℕ) (is : IsRowPart From kind width key bytes) → (row_of is.code).allows other (length changed) ≡ true → To is.code changed → IsRowPart To kind other key changed
+with_bytes other changed is len content = record {
   code = is.code;
   number = is.number;
   of_kind = is.of_kind;
   keys = is.keys;
   small1 = is.small1;
   small2 = is.small2;
-  len = sym (same_len is.code v w (length bytes) is.of_kind) ∙ is.len;
-  content = raw is.code bytes is.content;
+  len = len;
+  content = content;
 }
+
+-- the same, where its code is known
+pub changed_part : {From To : PartCode → List ℕ → Type 0} {kind : Kind} {width : ℕ} (other : ℕ) {key : PartKey} {bytes : List ℕ} (code : PartCode) (changed : List ℕ) → key.code ≡ code_number code → (row_of code).allows other (length changed) ≡ true → IsRowPart From kind width key bytes → To code changed → IsRowPart To kind other key changed
+changed_part {To = To} other code changed number len is content =
+    let same = one_code code is.code (sym number ∙ is.number) in
+    with_bytes other changed is (subst (λ c. (row_of c).allows other (length changed) ≡ true) same len) (subst (λ c. To c changed) same content)
+
+pub host_part : (v w : ℕ) (key : PartKey) (bytes : List ℕ) → IsPart Hvm v key bytes → IsHostPart Hvm w key bytes
+host_part v w key bytes is = with_bytes w bytes is (sym (same_len is.code v w (length bytes) is.of_kind) ∙ is.len) (raw is.code bytes is.content)
 
 -- ---- frames that are no tables
 

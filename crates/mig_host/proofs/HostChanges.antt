@@ -1,5 +1,6 @@
 -- A host stays valid where a frame is changed in place, or taken away.
 use Rattle.mig_host.proofs.Common.{◌≡◌, ℕ, ◌+◌, ◌-◌, ◌<◌, ◌≤◌, Bool, true, false, cond, length, List, Option, Some, None, is_some, refl, sym, ap, subst, ◌∙◌, arith, option_map, option_and_then, nat_cmp, eq_by_cmp, nat_cmp_total, nat_cmp-IsAntisymmetric, same_map, len-entries, none-some, same_Some, Kind, FrameOf, FrameMap, HostOf, HostFrame, HostFrames, IsHostFrame, IsValid, PartMap, is_type_of, type_has_data, PageType, MachineMap, with_machine, machine_in, host_seen, AreMatched, IsMade, put_frame, Pv, Hvm, PartKey, part_cmp, part_total, part_exact, FitsPolicy, IsHostPart, IfSome, ◌++◌, ◌==◌, append-nil, row_of, code_number, PartCode, tied, each_value, get_each, is_inserted, remove_holds, raw_page_at, retyped, exchanged, without_frame, machine_limit}
+use Rattle.mig_guest.proofs.PartRows.{with_bytes}
 use Rattle.mig_pagetypes.specs.Limits.{pfn_limit}
 use Rattle.mig_pagetypes.specs.declared.page_type.PageType.TheVariants.{Notab}
 use Rattle.std.proofs.Common.{replicate}
@@ -228,16 +229,7 @@ any_content EmulatorPairs bytes free = let none : true ≡ false = free in cc
 any_content _ bytes free = tt
 
 other_part : (kind : Kind) (width : ℕ) (key : PartKey) (old bytes : List ℕ) → IsHostPart kind width key old → length old ≡ length bytes → is_fixed key.code ≡ false → IsHostPart kind width key bytes
-other_part kind width key old bytes is long free = record {
-  code = is.code;
-  number = is.number;
-  of_kind = is.of_kind;
-  keys = is.keys;
-  small1 = is.small1;
-  small2 = is.small2;
-  len = ap ((row_of is.code).allows width) (sym long) ∙ is.len;
-  content = any_content is.code bytes (ap is_fixed (sym is.number) ∙ free);
-}
+other_part kind width key old bytes is long free = with_bytes width bytes is (ap ((row_of is.code).allows width) (sym long) ∙ is.len) (any_content is.code bytes (ap is_fixed (sym is.number) ∙ free))
 
 spliced_whole : (old bytes : List ℕ) → length old ≡ length bytes → spliced old 0 bytes ≡ bytes
 spliced_whole old bytes long = ap (λ l. bytes ++ l) (drop_all (0 + length bytes) old (omega (arith, long))) ∙ append-nil bytes

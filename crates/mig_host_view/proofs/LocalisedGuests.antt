@@ -1,7 +1,8 @@
 -- What a localised PV guest has at each frame number and key.
 use Rattle.mig_host_view.proofs.Common.{◌≡◌, ℕ, Bool, true, false, cond, ◌==◌, List, length, Option, Some, None, is_some, refl, sym, ap, subst, ◌∙◌, arith, nat_cmp_total, nat_cmp-IsAntisymmetric, eqb-true, eq-eqb, Pv, Hvm, PartKey, FrameOf, GuestOf, PartMap, IsPart, p2m_key, length_longs, part_total, part_exact, each_value, type_at, listed, listed_in, VcpuBasic, IsFrame, IsHostPart, FitsPolicy, Kind, level_of, place_of, p2m_page, renamed_table, Usage, from_each, to_each, some_each, len_each, count_each, stays_each, types_kept, renamed_part, localised_page, localised_frame, localised_of, renamed_context}
 use Rattle.mig_guest.proofs.PartRows.{raw}
-use Rattle.mig_pvtables.proofs.SameShape.{repaged_is_frame, to_host}
+use Rattle.mig_pvtables.proofs.SameShape.{repaged_is_frame}
+use Rattle.mig_guest.proofs.PartRows.{changed_part}
 use Rattle.std.specs.FinMap as maps
 
 -- ---- frames
@@ -37,8 +38,8 @@ module _ (f : ℕ → Option ℕ) where
 module _ (used : Usage) (f : ℕ → Option ℕ) where
   -- a part of a guest, renamed, is one of its host
   part_case : (b : Bool) (kind : Kind) (width : ℕ) (key : PartKey) (bytes : List ℕ) → (key.code == 4) ≡ b → IsPart kind width key bytes → IsHostPart kind width key (cond b (renamed_context used f key.key1 bytes) bytes)
-  part_case false kind width key bytes code is = to_host width is.code bytes is.number is.len is (raw is.code bytes is.content)
-  part_case true kind width key bytes four is = to_host width VcpuBasic (renamed_context used f key.key1 bytes) (eqb-true key.code 4 four) (eq-eqb (length (renamed_context used f key.key1 bytes)) 5168 (length_longs 646 _)) is tt
+  part_case false kind width key bytes code is = changed_part width is.code bytes is.number is.len is (raw is.code bytes is.content)
+  part_case true kind width key bytes four is = changed_part width VcpuBasic (renamed_context used f key.key1 bytes) (eqb-true key.code 4 four) (eq-eqb (length (renamed_context used f key.key1 bytes)) 5168 (length_longs 646 _)) is tt
 
   pub renamed_is_part : (kind : Kind) (width : ℕ) (key : PartKey) (bytes : List ℕ) → IsPart kind width key bytes → IsHostPart kind width key (renamed_part used f key bytes)
   renamed_is_part kind width key bytes is = part_case (key.code == 4) kind width key bytes refl is

@@ -9,7 +9,7 @@ use Rattle.mig_headers.proofs.ContextTexts.{scan_cut}
 use Rattle.mig_guest.specs.declared.part_code.PartCode.TheVariants.{EmulatorPairs}
 use Rattle.mig_guest.specs.Formed.{IsCut, IsContent, IsRawContent}
 use Rattle.mig_guest.proofs.PartRows.{same_len}
-use Rattle.mig_pvtables.proofs.SameShape.{to_guest}
+use Rattle.mig_guest.proofs.PartRows.{changed_part}
 use Rattle.mig_host_view.proofs.ViewedSays.{ents_there}
 
 -- what a host asks of the bytes of a part that is no context, a guest asks
@@ -30,10 +30,10 @@ not_numbered key code other number isnt same = let no : true ≡ false = sym (eq
 
 module _ (f : ℕ → Option ℕ) (width : ℕ) (key : PartKey) (bytes : List ℕ) (is : IsHostPart Pv width key bytes) (few : key.code ≡ 4 → gdt_ents bytes ≤ most_gdt_entries) where
   pv_case : (b : Bool) → (key.code == 4) ≡ b → IsPart Pv width key (cond b (renamed_context is_used_somewhere f key.key1 bytes) bytes)
-  pv_case false other = to_guest width is.code bytes is.number is.len is (plain_content is.code bytes (not_numbered key.code is.code VcpuBasic is.number other) (not_of_kind Pv is.code HvmContext is.of_kind refl) is.content)
+  pv_case false other = changed_part width is.code bytes is.number is.len is (plain_content is.code bytes (not_numbered key.code is.code VcpuBasic is.number other) (not_of_kind Pv is.code HvmContext is.of_kind refl) is.content)
   pv_case true four =
       let number = eqb-true key.code 4 four in let renamed = renamed_context is_used_somewhere f key.key1 bytes in let ents = ents_there f key.key1 bytes (few number) in
-      to_guest width VcpuBasic renamed number (eq-eqb (length renamed) 5168 (length_longs 646 _)) is (let less : gdt_ents renamed ≤ most_gdt_entries = omega (arith, ents, few number) in less)
+      changed_part width VcpuBasic renamed number (eq-eqb (length renamed) 5168 (length_longs 646 _)) is (let less : gdt_ents renamed ≤ most_gdt_entries = omega (arith, ents, few number) in less)
 
   pub pv_part : IsPart Pv width key (renamed_part is_used_somewhere f key bytes)
   pv_part = pv_case (key.code == 4) refl
@@ -50,14 +50,14 @@ cut_is body end is =
 module _ (width other : ℕ) (key : PartKey) (bytes : List ℕ) (is : IsHostPart Hvm width key bytes) (ends : key.code ≡ 9 → (end : ℕ) × (scan bytes ≡ Ok end)) where
   hvm_case : (b : Bool) → (key.code == 9) ≡ b → IsPart Hvm other key (cond b (cut_by (scan bytes) bytes) bytes)
   hvm_case false apart =
-      to_guest other is.code bytes is.number (sym (same_len is.code width other (length bytes) is.of_kind) ∙ is.len) is
+      changed_part other is.code bytes is.number (sym (same_len is.code width other (length bytes) is.of_kind) ∙ is.len) is
       (plain_content is.code bytes (not_of_kind Hvm is.code VcpuBasic is.of_kind refl) (not_numbered key.code is.code HvmContext is.number apart) is.content)
   hvm_case true nine =
       let number = eqb-true key.code 9 nine in
       let (end, scanned) = ends number in
       let (short, cut) = cut_is bytes end scanned in
       let most : length bytes ≤ most_body = leb-true (length bytes) most_body (subst (λ c. (row_of c).allows width (length bytes) ≡ true) (sym (one_code HvmContext is.code (sym number ∙ is.number))) is.len) in
-      subst (λ r. IsPart Hvm other key (cut_by r bytes)) (sym scanned) (to_guest other HvmContext (cut_at bytes end) number (le-leb (length (cut_at bytes end)) most_body (omega (arith, short, most))) is cut)
+      subst (λ r. IsPart Hvm other key (cut_by r bytes)) (sym scanned) (changed_part other HvmContext (cut_at bytes end) number (le-leb (length (cut_at bytes end)) most_body (omega (arith, short, most))) is cut)
 
   pub hvm_part : IsPart Hvm other key (part_seen key bytes)
   hvm_part = hvm_case (key.code == 9) refl

@@ -7,7 +7,8 @@ use Rattle.mig_pvtables.proofs.BlankSays.{same_used, same_said, said_fits, blank
 use Rattle.mig_pvtables.proofs.BlankShape.{table_unlisted, entries_there, type_there, frame_there, part_there, listed_there, context_back}
 use Rattle.mig_pvtables.proofs.EachValue.{from_each, len_each, count_each}
 use Rattle.mig_pvtables.proofs.PvGuests.{pv_complete, pv_faultless}
-use Rattle.mig_pvtables.proofs.SameShape.{repaged_is_frame, kept_p2m, to_host, to_guest}
+use Rattle.mig_pvtables.proofs.SameShape.{repaged_is_frame, kept_p2m}
+use Rattle.mig_guest.proofs.PartRows.{changed_part}
 use Rattle.std.specs.FinMap as maps
 
 -- ---- frames
@@ -36,7 +37,7 @@ module _ (g : GuestOf) where
 module _ (kind : Kind) (width : ℕ) (key : PartKey) (part : List ℕ) (is : IsPart kind width key part) where
   -- a part whose bytes are what they have to be
   resized : (code : PartCode) (changed : List ℕ) → key.code ≡ code_number code → (row_of code).allows width (length changed) ≡ true → IsContent code changed → IsPart kind width key changed
-  resized code changed number len content = to_guest width code changed number len (to_host width is.code part is.number is.len is (raw is.code part is.content)) content
+  resized code changed number len content = changed_part width code changed number len is content
 
   -- no more descriptors than before
   few_ents : (n : ℕ) → gdt_ents part ≤ most_gdt_entries → n ≡ gdt_ents part % 2 ^ 64 → n ≤ most_gdt_entries

@@ -1,8 +1,5 @@
 -- What stays where frames and parts are changed: types, places in the list of P2M frames, and what a frame or a part has to be.
 use Rattle.mig_pvtables.proofs.Common.{◌≡◌, ℕ, ◌<◌, true, List, length, Option, Some, None, refl, sym, ap, subst, ◌∙◌, option_map, nat_cmp_total, nat_cmp-IsAntisymmetric, PartKey, Entry, FrameOf, FrameMap, PartMap, IsPart, level_of, entry, EachEntry, each_value, type_at, listed, Kind, PartCode, IsContent, IsFrame, row_of, code_number, is_some-mapped, IsEmptyRange, AreP2mFrames}
-use Rattle.mig_guest.specs.Formed.{IsRawContent}
-use Rattle.mig_guest.specs.Hosts.{IsHostPart}
-use Rattle.mig_guest.proofs.PartRows.{one_code}
 use Rattle.mig_pvtables.proofs.EachValue.{get_each}
 use Rattle.std.specs.FinMap as maps
 
@@ -47,36 +44,3 @@ kept_p2m frames other parts others types list p2m = record {
   where
     empty : (k : ℕ) → IsEmptyRange frames k → IsEmptyRange other k
     empty k none slot lt = no_frame _ (types _ ∙ ap (option_map (λ (x : FrameOf). x.type)) (none slot lt))
-
--- ---- parts
-
-module _ {kind : Kind} {width : ℕ} (other : ℕ) {key : PartKey} {bytes : List ℕ} (code : PartCode) (changed : List ℕ) (number : key.code ≡ code_number code) (len : (row_of code).allows other (length changed) ≡ true) where
-  -- a part of a guest, changed, is one of a host
-  pub to_host : IsPart kind width key bytes → IsRawContent code changed → IsHostPart kind other key changed
-  to_host is content =
-      let same = one_code code is.code (sym number ∙ is.number) in
-      record {
-        code = is.code;
-        number = is.number;
-        of_kind = is.of_kind;
-        keys = is.keys;
-        small1 = is.small1;
-        small2 = is.small2;
-        len = subst (λ c. (row_of c).allows other (length changed) ≡ true) same len;
-        content = subst (λ c. IsRawContent c changed) same content;
-      }
-
-  -- and the other way round
-  pub to_guest : IsHostPart kind width key bytes → IsContent code changed → IsPart kind other key changed
-  to_guest is content =
-      let same = one_code code is.code (sym number ∙ is.number) in
-      record {
-        code = is.code;
-        number = is.number;
-        of_kind = is.of_kind;
-        keys = is.keys;
-        small1 = is.small1;
-        small2 = is.small2;
-        len = subst (λ c. (row_of c).allows other (length changed) ≡ true) same len;
-        content = subst (λ c. IsContent c changed) same content;
-      }

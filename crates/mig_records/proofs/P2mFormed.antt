@@ -20,7 +20,7 @@ use Rattle.mig_guest.proofs.Counts.{same_parts}
 use Rattle.mig_guest.proofs.KeyedMaps.{tied}
 use Rattle.mig_guest.proofs.PartSets.{put_other}
 use Rattle.mig_guest.proofs.PartOrder.{part_total, part_exact}
-use Rattle.mig_guest.proofs.PartRows.{of_part, sole}
+use Rattle.mig_guest.proofs.PartRows.{of_part, sole, with_bytes}
 use Rattle.mig_records.specs.PvBodies.{p2m_count, IsP2m, listed_over, greater, set_p2m}
 
 -- ---- the greater of two frame numbers
@@ -74,18 +74,9 @@ allows_wider P2mFrames v w len other is = absurd (other refl)
 allows_wider _ v w len other is = is
 
 part_wider : (kind : Kind) (v w : ℕ) (key : PartKey) (bytes : List ℕ) → key ≢ p2m_key → IsPart kind v key bytes → IsPart kind w key bytes
-part_wider kind v w key bytes other is = record {
-  code = is.code;
-  number = is.number;
-  of_kind = is.of_kind;
-  keys = is.keys;
-  small1 = is.small1;
-  small2 = is.small2;
-  len = allows_wider is.code v w (length bytes) (λ e.
-      let of = of_part P2mFrames kind v (key, bytes) is (is.number ∙ ap code_number e) in
-      other (sole P2mFrames v (key, bytes) of of.keys)) is.len;
-  content = is.content;
-}
+part_wider kind v w key bytes other is = with_bytes w bytes is (allows_wider is.code v w (length bytes) (λ e.
+    let of = of_part P2mFrames kind v (key, bytes) is (is.number ∙ ap code_number e) in
+    other (sole P2mFrames v (key, bytes) of of.keys)) is.len) is.content
 
 -- ---- the list of P2M frames
 
