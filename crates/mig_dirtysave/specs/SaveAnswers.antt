@@ -19,6 +19,7 @@ use Rattle.mig_libxl_form.specs.Spelled.{AcceptedStream}
 use Rattle.mig_dirtysave_parts.specs.SaveTexts.{IsOtherRecord}
 use Rattle.mig_guest.specs.MachineStates.{MachineState}
 use Rattle.mig_guest.specs.Rounds.{all_read}
+use Rattle.mig_records_pages.specs.PageData.{most_entries}
 use Rattle.mig_dirtysave_rounds.specs.Entries.{pfns_sent}
 use Rattle.mig_dirtysave_rounds.specs.Live.{HasRounds, KeepsShape, ReadsExactly}
 use Rattle.mig_dirtysave_rounds.specs.Parts.{entries_read}
@@ -63,11 +64,11 @@ pub record WroteMost (old new : Option (List ℕ)) (parts : PartMap) (n : ℕ) :
   pub rest : List ℕ
   pub within : AreRecordsWithin (before ++ map telling_record batches)
   pub appended : Appends old new (wrapper_opening parts ++ (headers kind ++ (text_of (before ++ map telling_record batches) ++ rest)))
-  pub few : n ≤ length (all_told batches) + 1024
+  pub few : n ≤ length (all_told batches) + most_entries
 
 -- of n entries at most 1024 stand in no record that was written from old to new
 abbrev pub IsLittleBehind : Option (List ℕ) → Option (List ℕ) → PartMap → ℕ → Type 0
-IsLittleBehind old new parts n = (n ≤ 1024) ⊎ WroteMost old new parts n
+IsLittleBehind old new parts n = (n ≤ most_entries) ⊎ WroteMost old new parts n
 
 -- ---- how a save ends
 

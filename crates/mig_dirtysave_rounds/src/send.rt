@@ -4,6 +4,7 @@ ghost use Rattle.mig_bytes.specs.Faults.{HasCause};
 ghost use Rattle.mig_pagetypes.specs.Limits.{pfn_limit};
 ghost use Rattle.mig_pagetypes.specs.PageTypes.{type_has_data};
 ghost use Rattle.mig_records_pages.specs.Batches.{SendsOn, FallsBehind};
+ghost use Rattle.mig_records_pages.specs.PageData.{most_entries};
 ghost use Rattle.mig_dirtysave_rounds.specs.Causes.{FaultsHaveCauses};
 ghost use Rattle.mig_dirtysave_rounds.specs.Findings.{found_as, frame_sent, is_deferred, type_found};
 ghost use Rattle.mig_dirtysave_rounds.specs.Step.{ReadsOne, Strays};
@@ -68,7 +69,7 @@ fn send_found<K: Sink>(
     requires { pfn < pfn_limit }
     ensures sent { OnOk result (SendsOn (entry_for pfn (found_as found page.now)) (K.written sink.old) (K.written sink.new) batch.old batch.new) }
     ensures behind { OnErr result (FallsBehind 1 (K.written sink.old) (K.written sink.new) batch.old) }
-    ensures few { length batch.new < 1024 }
+    ensures few { length batch.new < most_entries }
     ensures cause { HasCause (K.faults sink.old) (K.faults sink.new) result }
     ensures which { ¬ IsErrOf result MachineFault }
 {
@@ -97,11 +98,11 @@ pub(crate) fn send_one<M: Machine, K: Sink>(
     requires small { pfn < pfn_limit }
     requires wide { length deferred.old ≡ ((M.state machine.old).host.width + 63) / 64 }
     requires long { length types.old ≡ (M.state machine.old).host.width }
-    requires few { length batch.old < 1024 }
+    requires few { length batch.old < most_entries }
     ensures reads { IfOk result (λ found. ReadsOne pfn (M.state machine.old) (M.state machine.new) (found_as found page.new)) }
     ensures sent { IfOk result (λ found. SendsOn (entry_for pfn (found_as found page.new)) (K.written sink.old) (K.written sink.new) batch.old batch.new) }
     ensures notes { IfOk result (λ found. notes_of deferred.new types.new ≡ noted pfn (found_as found page.new) (notes_of deferred.old types.old)) }
-    ensures few { length batch.new < 1024 }
+    ensures few { length batch.new < most_entries }
     ensures asked { Strays pfn (M.state machine.old).history (M.state machine.new).history }
     ensures behind { OnErr result (FallsBehind 1 (K.written sink.old) (K.written sink.new) batch.old) }
     ensures kept { KeepsShape (M.state machine.old) (M.state machine.new) }

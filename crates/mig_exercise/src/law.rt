@@ -1,4 +1,5 @@
 ghost use Rattle.std.specs.Prelude.{◌≡◌, ◌≤◌, ◌*◌, ℕ, length, None};
+ghost use Rattle.mig_guest.specs.Rounds.{most_rounds};
 ghost use Rattle.mig_host_view.specs.Sound.{unsoundness};
 ghost use Rattle.mig_host_view.specs.View.{view};
 ghost use Rattle.mig_canon.specs.CanonStream.{canon_any};
@@ -13,5 +14,5 @@ ghost use Rattle.mig_exercise.specs.ExerciseScripts.{script_of_exercise};
 pub fn exercise_is_saved()
     ensures sound { (seed n c : ℕ) → IsExerciseSize n → unsoundness (after (host_of_exercise seed n) (ran (script_of_exercise seed n) c)) ≡ None }
     ensures canon { (seed n c : ℕ) → IsExerciseSize n → length (canon_any (view (after (host_of_exercise seed n) (ran (script_of_exercise seed n) c)))) ≡ exercise_canon_len n }
-    ensures entries { (seed n r c e : ℕ) → IsExerciseSize n → Paced (host_of_exercise seed n) (script_of_exercise seed n) r c e → e ≤ 5 * data_count n }
+    ensures entries { (seed n r c e : ℕ) → IsExerciseSize n → Paced (host_of_exercise seed n) (script_of_exercise seed n) r c e → e ≤ most_rounds * data_count n }
 {}

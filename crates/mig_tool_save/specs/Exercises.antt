@@ -2,6 +2,7 @@
 use Rattle.std.specs.Prelude.{◌≡◌, ⊤, ℕ, ◌+◌, ◌*◌, ◌≤◌, List, [], length, Option, Some}
 use Rattle.std.specs.Io.KnownBytes.{Appends}
 use Rattle.mig_bytes.specs.Bytes.{AppendsPart}
+use Rattle.mig_guest.specs.Rounds.{most_rounds}
 use Rattle.mig_host_view.specs.View.{view}
 use Rattle.mig_canon.specs.CanonStream.{canon_any}
 use Rattle.mig_machine.specs.Paced.{Paced}
@@ -23,7 +24,7 @@ pub record Exercises (seed n : ℕ) (s : ExerciseSummary) : Type 0 where
   pub frames : s.frames ≡ n
   pub paced : Paced (host_of_exercise seed n) (script_of_exercise seed n) s.rounds calls again
   pub entries : s.entries ≡ again + n
-  pub few : again ≤ 5 * data_count n
+  pub few : again ≤ most_rounds * data_count n
   pub canon : s.canon ≡ exercise_canon_len n
 
 -- The stream of an exercise is what a saver has to write of its host while its script runs, and so many bytes has the
