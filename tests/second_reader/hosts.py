@@ -1,4 +1,4 @@
-"""The part of the second reader that reads image files, and brings the host in one to the guest that it is seen as.
+"""The part of the second reader that reads guest images, and brings the host in one to the guest that it is seen as.
 
 A host has a kind, a width, frames (type, machine frame and page by frame number) and parts (bytes by code and two keys).
 """

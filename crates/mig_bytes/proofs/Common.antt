@@ -7,7 +7,7 @@ pub use Rattle.std.specs.Io.KnownBytes.{Appends, Consumes}
 pub use Rattle.std.specs.Result.{IsErrAnd}
 pub use Rattle.byteorder.specs.Endian.{big_bytes, little_bytes}
 pub use Rattle.mig_bytes.specs.Bytes.{Taken, TakesBytes}
-pub use Rattle.mig_bytes.specs.Judged.{Gives, Judged, part, placed, plain_at, said_at, tried, ◌>>=◌}
+pub use Rattle.mig_bytes.specs.Judged.{AgreesWithJudging, Judged, part, placed, plain_at, said_at, tried, ◌>>=◌}
 pub use Rattle.mig_bytes.specs.Judged.Judged.{Faulty, Passes}
 pub use Rattle.mig_bytes.specs.Sequences.{Front, at_start, sequence_at}
 pub use Rattle.mig_bytes.specs.Walk.{Reaches}

@@ -1,5 +1,5 @@
 -- How judgements, and what readers give, join.
-use Rattle.mig_bytes.proofs.Common.{IsErrAnd, ◌≡◌, inl, inr, ℕ, suc, ◌+◌, ◌<◌, length, take, drop, get_or, take-append-drop, List, [], ◌∷◌, ◌++◌, Bool, true, false, cond, Option, Some, None, Result, Ok, Err, refl, sym, ap, subst, ◌∙◌, length-append, arith, length-take-le, Stop, Refused, ReadFault, Memory, Judged, ◌>>=◌, part, tried, said_at, plain_at, placed, Gives, Passes, Faulty}
+use Rattle.mig_bytes.proofs.Common.{IsErrAnd, ◌≡◌, inl, inr, ℕ, suc, ◌+◌, ◌<◌, length, take, drop, get_or, take-append-drop, List, [], ◌∷◌, ◌++◌, Bool, true, false, cond, Option, Some, None, Result, Ok, Err, refl, sym, ap, subst, ◌∙◌, length-append, arith, length-take-le, Stop, Refused, ReadFault, Memory, Judged, ◌>>=◌, part, tried, said_at, plain_at, placed, AgreesWithJudging, Passes, Faulty}
 use Rattle.std.proofs.lemmas.List.{take_more, take_at, drop_at}
 use Rattle.std.proofs.lemmas.Bool.{le-ltb}
 use Rattle.std.proofs.Math.Seq.{drop-cons}
@@ -8,33 +8,33 @@ use Rattle.mig_bytes.specs.Judged.{each, Matches}
 
 module _ {C X Y : Type 0} (R : X → Y → Type 0) where
   -- nothing is read
-  pub done : (a : Option (List ℕ)) (f : List ℕ → Judged C Y) (x : X) (y : Y) → ((i : List ℕ) → f i ≡ Passes y i) → R x y → Gives R a a f (Ok x)
+  pub done : (a : Option (List ℕ)) (f : List ℕ → Judged C Y) (x : X) (y : Y) → ((i : List ℕ) → f i ≡ Passes y i) → R x y → AgreesWithJudging R a a f (Ok x)
   done None f x y is r = tt
   done (Some i) f x y is r = (y, i, is i, refl, r)
 
   -- the same, judged another way
-  pub judged_so : (a b : Option (List ℕ)) (f g : List ℕ → Judged C Y) (r : Result X (Stop C)) → ((i : List ℕ) → g i ≡ f i) → Gives R a b f r → Gives R a b g r
+  pub judged_so : (a b : Option (List ℕ)) (f g : List ℕ → Judged C Y) (r : Result X (Stop C)) → ((i : List ℕ) → g i ≡ f i) → AgreesWithJudging R a b f r → AgreesWithJudging R a b g r
   judged_so None b f g r same h = tt
   judged_so (Some i) b f g r same h = subst (λ j. Matches R b j r) (sym (same i)) h
 
 -- a cause stands, and no bytes are taken
-pub refused : {C X Y : Type 0} (R : X → Y → Type 0) (a : Option (List ℕ)) (f : List ℕ → Judged C Y) (c : C) → ((i : List ℕ) → f i ≡ Faulty c i) → Gives R a a f (Err (Refused c))
+pub refused : {C X Y : Type 0} (R : X → Y → Type 0) (a : Option (List ℕ)) (f : List ℕ → Judged C Y) (c : C) → ((i : List ℕ) → f i ≡ Faulty c i) → AgreesWithJudging R a a f (Err (Refused c))
 refused R None f c is = tt
 refused R (Some i) f c is = (i, is i, refl)
 
 module _ {C W X Y Z : Type 0} (R : W → X → Type 0) (Q : Y → Z → Type 0) where
-  at_some : (b c : Option (List ℕ)) (rest : List ℕ) (f : List ℕ → Judged C Z) (r : Result Y (Stop C)) → b ≡ Some rest → Gives Q b c f r → Matches Q c (f rest) r
-  at_some b c rest f r e h = subst (λ o. Gives Q o c f r) e h
+  at_some : (b c : Option (List ℕ)) (rest : List ℕ) (f : List ℕ → Judged C Z) (r : Result Y (Stop C)) → b ≡ Some rest → AgreesWithJudging Q b c f r → Matches Q c (f rest) r
+  at_some b c rest f r e h = subst (λ o. AgreesWithJudging Q o c f r) e h
 
   -- one reader after another
   pub seq : (a b c : Option (List ℕ)) (f : List ℕ → Judged C X) (k : X × List ℕ → Judged C Z) (w : W) (r : Result Y (Stop C))
-      → Gives R a b f (Ok w) → ((x : X) → R w x → Gives Q b c (λ i. k (x, i)) r) → Gives Q a c (λ i. f i >>= k) r
+      → AgreesWithJudging R a b f (Ok w) → ((x : X) → R w x → AgreesWithJudging Q b c (λ i. k (x, i)) r) → AgreesWithJudging Q a c (λ i. f i >>= k) r
   seq None b c f k w r h next = tt
   seq (Some i) b c f k w r (x, rest, is, left, rx) next =
       subst (λ j. Matches Q c (j >>= k) r) (sym is) (at_some b c rest (λ j. k (x, j)) r left (next x rx))
 
   -- a reader that stops
-  pub stop : (a b : Option (List ℕ)) (f : List ℕ → Judged C X) (k : X × List ℕ → Judged C Z) (e : Stop C) → Gives R a b f (Err e) → Gives Q a b (λ i. f i >>= k) (Err e)
+  pub stop : (a b : Option (List ℕ)) (f : List ℕ → Judged C X) (k : X × List ℕ → Judged C Z) (e : Stop C) → AgreesWithJudging R a b f (Err e) → AgreesWithJudging Q a b (λ i. f i >>= k) (Err e)
   stop None b f k e h = tt
   stop (Some i) b f k (Refused cause) (rest, is, left) = (rest, ap (λ j. j >>= k) is, left)
   stop (Some i) b f k ReadFault h = tt
@@ -85,63 +85,63 @@ module _ {C W X : Type 0} (f : W → List ℕ → Judged C X) where
 
 module _ {C W X V U Y : Type 0} (f : W → List ℕ → Judged C X) (R : V → List X → Type 0) (Q : U → X → Type 0) (P : Y → List X → Type 0) where
   -- the parts of ws, and then that of w
-  pub each_more : (a b c : Option (List ℕ)) (ws : List W) (w : W) (v : V) (u : U) (y : Y) → Gives R a b (each f ws) (Ok v) → Gives Q b c (f w) (Ok u)
-      → ((xs : List X) (x : X) → R v xs → Q u x → P y (xs ++ x ∷ [])) → Gives P a c (each f (ws ++ w ∷ [])) (Ok y)
+  pub each_more : (a b c : Option (List ℕ)) (ws : List W) (w : W) (v : V) (u : U) (y : Y) → AgreesWithJudging R a b (each f ws) (Ok v) → AgreesWithJudging Q b c (f w) (Ok u)
+      → ((xs : List X) (x : X) → R v xs → Q u x → P y (xs ++ x ∷ [])) → AgreesWithJudging P a c (each f (ws ++ w ∷ [])) (Ok y)
   each_more None b c ws w v u y h n join = tt
   each_more (Some i) b c ws w v u y (xs, rest, is, left, rx) n join =
-      let (x, rest', is', left', qx) = subst (λ o. Gives Q o c (f w) (Ok u)) left n in
+      let (x, rest', is', left', qx) = subst (λ o. AgreesWithJudging Q o c (f w) (Ok u)) left n in
       (xs ++ x ∷ [], rest', each-append f ws (w ∷ []) i ∙ ap (λ j. j >>= λ a. joined f a.0 (each f (w ∷ []) a.1)) is ∙ ap (joined f xs) (one f w rest ∙ ap (λ j. j >>= λ o. Passes (o.0 ∷ []) o.1) is'), left', join xs x rx qx)
 
   -- the parts of ws, and then that of w, where the reader stops
-  pub each_stops : (a b c : Option (List ℕ)) (ws vs : List W) (w : W) (v : V) (e : Stop C) → Gives R a b (each f ws) (Ok v) → Gives Q b c (f w) (Err e)
-      → Gives P a c (each f (ws ++ w ∷ vs)) (Err e)
+  pub each_stops : (a b c : Option (List ℕ)) (ws vs : List W) (w : W) (v : V) (e : Stop C) → AgreesWithJudging R a b (each f ws) (Ok v) → AgreesWithJudging Q b c (f w) (Err e)
+      → AgreesWithJudging P a c (each f (ws ++ w ∷ vs)) (Err e)
   each_stops None b c ws vs w v e h n = tt
   each_stops (Some i) b c ws vs w v (Refused cause) (xs, rest, is, left, rx) n =
-      let (rest', is', left') = subst (λ o. Gives Q o c (f w) (Err (Refused cause))) left n in
+      let (rest', is', left') = subst (λ o. AgreesWithJudging Q o c (f w) (Err (Refused cause))) left n in
       (rest', each-append f ws (w ∷ vs) i ∙ ap (λ j. j >>= λ a. joined f a.0 (each f (w ∷ vs) a.1)) is ∙ ap (joined f xs) (cons_is f w vs rest ∙ ap (step f vs) is'), left')
   each_stops (Some i) b c ws vs w v ReadFault h n = tt
   each_stops (Some i) b c ws vs w v Memory h n = tt
 
   -- at the index k of a loop
-  pub each_step : (a b c : Option (List ℕ)) (all : List W) (k : ℕ) (d : W) (v : V) (u : U) (y : Y) → k < length all → Gives R a b (each f (take k all)) (Ok v) → Gives Q b c (f (get_or all k d)) (Ok u)
-      → ((xs : List X) (x : X) → R v xs → Q u x → P y (xs ++ x ∷ [])) → Gives P a c (each f (take (k + 1) all)) (Ok y)
+  pub each_step : (a b c : Option (List ℕ)) (all : List W) (k : ℕ) (d : W) (v : V) (u : U) (y : Y) → k < length all → AgreesWithJudging R a b (each f (take k all)) (Ok v) → AgreesWithJudging Q b c (f (get_or all k d)) (Ok u)
+      → ((xs : List X) (x : X) → R v xs → Q u x → P y (xs ++ x ∷ [])) → AgreesWithJudging P a c (each f (take (k + 1) all)) (Ok y)
   each_step a b c all k d v u y lt h n join =
-      subst (λ ws. Gives P a c (each f ws) (Ok y)) (sym (take_more all k d lt)) (each_more a b c (take k all) (get_or all k d) v u y h n join)
+      subst (λ ws. AgreesWithJudging P a c (each f ws) (Ok y)) (sym (take_more all k d lt)) (each_more a b c (take k all) (get_or all k d) v u y h n join)
 
-  pub each_ends : (a b c : Option (List ℕ)) (all : List W) (k : ℕ) (d : W) (v : V) (e : Stop C) (r : Result Y (Stop C)) → k < length all → Gives R a b (each f (take k all)) (Ok v)
-      → Gives Q b c (f (get_or all k d)) (Err e) → IsErrAnd r (λ s. s ≡ e) → Gives P a c (each f all) r
+  pub each_ends : (a b c : Option (List ℕ)) (all : List W) (k : ℕ) (d : W) (v : V) (e : Stop C) (r : Result Y (Stop C)) → k < length all → AgreesWithJudging R a b (each f (take k all)) (Ok v)
+      → AgreesWithJudging Q b c (f (get_or all k d)) (Err e) → IsErrAnd r (λ s. s ≡ e) → AgreesWithJudging P a c (each f all) r
   each_ends a b c all k d v e (Ok y) lt h n is = absurd is
   each_ends a b c all k d v e (Err s) lt h n is =
       let whole : take k all ++ get_or all k d ∷ drop (suc k) all ≡ all = ap (λ l. take k all ++ l) (sym (drop-cons all k d lt)) ∙ take-append-drop k all in
-      subst (λ t. Gives P a c (each f all) (Err t)) (sym is) (subst (λ ws. Gives P a c (each f ws) (Err e)) whole (each_stops a b c (take k all) (drop (suc k) all) (get_or all k d) v e h n))
+      subst (λ t. AgreesWithJudging P a c (each f all) (Err t)) (sym is) (subst (λ ws. AgreesWithJudging P a c (each f ws) (Err e)) whole (each_stops a b c (take k all) (drop (suc k) all) (get_or all k d) v e h n))
 
 -- ---- one reader after another
 
 module _ {C X Y Z V : Type 0} (R : X → Y → Type 0) (Q : V → Z → Type 0) where
   -- what a reader gives is put into another form
   pub mapped : (a b : Option (List ℕ)) (f : List ℕ → Judged C Y) (g : List ℕ → Judged C Z) (h : Y → Z) (x : X) (v : V) → ((i : List ℕ) → g i ≡ (f i >>= λ y. Passes (h y.0) y.1))
-      → Gives R a b f (Ok x) → ((y : Y) → R x y → Q v (h y)) → Gives Q a b g (Ok v)
+      → AgreesWithJudging R a b f (Ok x) → ((y : Y) → R x y → Q v (h y)) → AgreesWithJudging Q a b g (Ok v)
   mapped None b f g h x v same n turn = tt
   mapped (Some i) b f g h x v same (y, rest, is, left, r) turn = (h y, rest, same i ∙ ap (λ j. j >>= λ y. Passes (h y.0) y.1) is, left, turn y r)
 
   -- a reader stopped, and its error is handed on
   pub stopped : (a b : Option (List ℕ)) (f : List ℕ → Judged C Y) (g : List ℕ → Judged C Z) (k : Y × List ℕ → Judged C Z) (e : Stop C) (r : Result V (Stop C)) → ((i : List ℕ) → g i ≡ (f i >>= k))
-      → IsErrAnd r (λ d. d ≡ e) → Gives R a b f (Err e) → Gives Q a b g r
+      → IsErrAnd r (λ d. d ≡ e) → AgreesWithJudging R a b f (Err e) → AgreesWithJudging Q a b g r
   stopped a b f g k e (Ok v) same is n = absurd is
-  stopped a b f g k e (Err d) same is n = subst (λ s. Gives Q a b g (Err s)) (sym is) (judged_so Q a b (λ i. f i >>= k) g (Err e) same (stop R Q a b f k e n))
+  stopped a b f g k e (Err d) same is n = subst (λ s. AgreesWithJudging Q a b g (Err s)) (sym is) (judged_so Q a b (λ i. f i >>= k) g (Err e) same (stop R Q a b f k e n))
 
   -- a reader, and then another
   pub then_reads : (a b c : Option (List ℕ)) (f : List ℕ → Judged C Y) (g : List ℕ → Judged C Z) (k : Y × List ℕ → Judged C Z) (x : X) (r : Result V (Stop C)) → ((i : List ℕ) → g i ≡ (f i >>= k))
-      → Gives R a b f (Ok x) → ((y : Y) → R x y → Gives Q b c (λ i. k (y, i)) r) → Gives Q a c g r
+      → AgreesWithJudging R a b f (Ok x) → ((y : Y) → R x y → AgreesWithJudging Q b c (λ i. k (y, i)) r) → AgreesWithJudging Q a c g r
   then_reads a b c f g k x r same n next = judged_so Q a c (λ i. f i >>= k) g r same (seq R Q a b c f k x r n next)
 
 -- what a reader gives is told of in another way
-pub weakened : {C X V Y : Type 0} (R : X → Y → Type 0) (Q : V → Y → Type 0) (a b : Option (List ℕ)) (f : List ℕ → Judged C Y) (x : X) (v : V) → ((y : Y) → R x y → Q v y) → Gives R a b f (Ok x) → Gives Q a b f (Ok v)
+pub weakened : {C X V Y : Type 0} (R : X → Y → Type 0) (Q : V → Y → Type 0) (a b : Option (List ℕ)) (f : List ℕ → Judged C Y) (x : X) (v : V) → ((y : Y) → R x y → Q v y) → AgreesWithJudging R a b f (Ok x) → AgreesWithJudging Q a b f (Ok v)
 weakened R Q None b f x v turn h = tt
 weakened R Q (Some i) b f x v turn (y, rest, is, left, r) = (y, rest, is, left, turn y r)
 
 -- a stop says nothing of what would be given
-pub any_stop : {C X V Y : Type 0} (R : X → Y → Type 0) (Q : V → Y → Type 0) (a b : Option (List ℕ)) (f : List ℕ → Judged C Y) (e : Stop C) → Gives R a b f (Err e) → Gives Q a b f (Err e)
+pub any_stop : {C X V Y : Type 0} (R : X → Y → Type 0) (Q : V → Y → Type 0) (a b : Option (List ℕ)) (f : List ℕ → Judged C Y) (e : Stop C) → AgreesWithJudging R a b f (Err e) → AgreesWithJudging Q a b f (Err e)
 any_stop R Q None b f e h = tt
 any_stop R Q (Some i) b f (Refused cause) h = h
 any_stop R Q (Some i) b f ReadFault h = tt

@@ -1,5 +1,5 @@
 -- A part of so many bytes, the cause that stands in it, and what it says.
-use Rattle.mig_bytes.proofs.Common.{◌≡◌, ℕ, List, ◌++◌, length, Option, Some, None, Ok, Err, refl, sym, ap, subst, ◌∙◌, Refused, ◌>>=◌, part, tried, said_at, plain_at, Gives, Passes}
+use Rattle.mig_bytes.proofs.Common.{◌≡◌, ℕ, List, ◌++◌, length, Option, Some, None, Ok, Err, refl, sym, ap, subst, ◌∙◌, Refused, ◌>>=◌, part, tried, said_at, plain_at, AgreesWithJudging, Passes}
 use Rattle.mig_bytes.proofs.Joins.{both_pass, part_passes, part_whole, same_passes, then_passes, tried_none, tried_passes}
 
 -- so many bytes without a cause, which say this
@@ -32,17 +32,17 @@ bytes_pass truncated fault n i bytes rest h =
 -- ---- a reader of such a part, of n bytes, which are m
 
 module _ {C X V Y : Type 0} (truncated : C) (R : X → List ℕ → Type 0) (Q : V → Y → Type 0) (n m : ℕ) (same : n ≡ m) (says : List ℕ → Y) (x : X) where
-  pub plain_read : (a b : Option (List ℕ)) (v : V) → Gives R a b (part truncated n) (Ok x) → ((bytes : List ℕ) → R x bytes → Q v (says bytes)) → Gives Q a b (plain_at truncated says m) (Ok v)
+  pub plain_read : (a b : Option (List ℕ)) (v : V) → AgreesWithJudging R a b (part truncated n) (Ok x) → ((bytes : List ℕ) → R x bytes → Q v (says bytes)) → AgreesWithJudging Q a b (plain_at truncated says m) (Ok v)
   plain_read None b v h turn = tt
   plain_read (Some i) b v (bytes, rest, is, left, r) turn = let is' = subst (λ k. part truncated k i ≡ Passes bytes rest) same is in (says bytes, rest, rw is' refl, left, turn bytes r)
 
-  pub said_read : (fault : List ℕ → Option C) (a b : Option (List ℕ)) (v : V) → Gives R a b (part truncated n) (Ok x)
-      → ((bytes : List ℕ) → R x bytes → (fault bytes ≡ None) × Q v (says bytes)) → Gives Q a b (said_at truncated fault says m) (Ok v)
+  pub said_read : (fault : List ℕ → Option C) (a b : Option (List ℕ)) (v : V) → AgreesWithJudging R a b (part truncated n) (Ok x)
+      → ((bytes : List ℕ) → R x bytes → (fault bytes ≡ None) × Q v (says bytes)) → AgreesWithJudging Q a b (said_at truncated fault says m) (Ok v)
   said_read fault None b v h turn = tt
   said_read fault (Some i) b v (bytes, rest, is, left, r) turn =
       let is' = subst (λ k. part truncated k i ≡ Passes bytes rest) same is in
       let (none, q) = turn bytes r in (says bytes, rest, rw (is', none) refl, left, q)
 
-  pub said_refused : (fault : List ℕ → Option C) (a b : Option (List ℕ)) (c : C) → Gives R a b (part truncated n) (Ok x) → ((bytes : List ℕ) → R x bytes → fault bytes ≡ Some c) → Gives Q a b (said_at truncated fault says m) (Err (Refused c))
+  pub said_refused : (fault : List ℕ → Option C) (a b : Option (List ℕ)) (c : C) → AgreesWithJudging R a b (part truncated n) (Ok x) → ((bytes : List ℕ) → R x bytes → fault bytes ≡ Some c) → AgreesWithJudging Q a b (said_at truncated fault says m) (Err (Refused c))
   said_refused fault None b c h turn = tt
   said_refused fault (Some i) b c (bytes, rest, is, left, r) turn = let is' = subst (λ k. part truncated k i ≡ Passes bytes rest) same is in (rest, rw (is', turn bytes r) refl, left)

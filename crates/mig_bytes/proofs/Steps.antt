@@ -1,5 +1,5 @@
 -- Steps one after another, and how readers of them join.
-use Rattle.mig_bytes.proofs.Common.{◌≡◌, ℕ, zero, suc, ◌+◌, ◌-◌, ◌≤◌, ◌<◌, List, Option, Some, None, Ok, Err, refl, sym, ap, subst, ◌∙◌, arith, Stop, Refused, ReadFault, Memory, Judged, ◌>>=◌, Gives, Passes, Faulty}
+use Rattle.mig_bytes.proofs.Common.{◌≡◌, ℕ, zero, suc, ◌+◌, ◌-◌, ◌≤◌, ◌<◌, List, Option, Some, None, Ok, Err, refl, sym, ap, subst, ◌∙◌, arith, Stop, Refused, ReadFault, Memory, Judged, ◌>>=◌, AgreesWithJudging, Passes, Faulty}
 use Rattle.mig_bytes.specs.Judged.{steps}
 
 module _ {C X : Type 0} (step : ℕ → X → List ℕ → Judged C X) where
@@ -47,27 +47,27 @@ module _ {C X : Type 0} (step : ℕ → X → List ℕ → Judged C X) where
       ap (λ m. steps step m 0 x i) (let e : n ≡ k + (n - k) = omega (arith, le) in e) ∙ steps_add k (n - k) 0 x i ∙ ap (λ j. j >>= onward (n - k) (0 + k)) h
 
 module _ {C X V : Type 0} (R : V → X → Type 0) (step : ℕ → X → List ℕ → Judged C X) (x : X) where
-  none : (v : V) (a : Option (List ℕ)) → R v x → Gives R a a (steps step 0 0 x) (Ok v)
+  none : (v : V) (a : Option (List ℕ)) → R v x → AgreesWithJudging R a a (steps step 0 0 x) (Ok v)
   unfolding steps
   none v None r = tt
   none v (Some i) r = (x, i, refl, refl, r)
 
   -- no steps so far
-  pub begins : (v : V) (a : Option (List ℕ)) → R v x → Gives R a a (steps step 0 0 x) (Ok v)
+  pub begins : (v : V) (a : Option (List ℕ)) → R v x → AgreesWithJudging R a a (steps step 0 0 x) (Ok v)
   begins v a r = none v a r
 
   -- one step more
-  pub goes_on : (a b c : Option (List ℕ)) (k : ℕ) (v w : V) → Gives R a b (steps step k 0 x) (Ok v) → ((y : X) → R v y → Gives R b c (step k y) (Ok w)) → Gives R a c (steps step (k + 1) 0 x) (Ok w)
+  pub goes_on : (a b c : Option (List ℕ)) (k : ℕ) (v w : V) → AgreesWithJudging R a b (steps step k 0 x) (Ok v) → ((y : X) → R v y → AgreesWithJudging R b c (step k y) (Ok w)) → AgreesWithJudging R a c (steps step (k + 1) 0 x) (Ok w)
   goes_on None b c k v w h next = tt
   goes_on (Some i) b c k v w (y, rest, is, left, r) next =
-      let (z, rest', is', left', q) = subst (λ o. Gives R o c (step k y) (Ok w)) left (next y r) in
+      let (z, rest', is', left', q) = subst (λ o. AgreesWithJudging R o c (step k y) (Ok w)) left (next y r) in
       (z, rest', steps_more step k x i ∙ ap (λ j. j >>= λ a. step k a.0 a.1) is ∙ is', left', q)
 
   -- a step that stops
-  pub ends : {U : Type 0} (Q : U → X → Type 0) (a b c : Option (List ℕ)) (k n : ℕ) (v : V) (e : Stop C) → k < n → Gives R a b (steps step k 0 x) (Ok v) → ((y : X) → R v y → Gives Q b c (step k y) (Err e)) → Gives Q a c (steps step n 0 x) (Err e)
+  pub ends : {U : Type 0} (Q : U → X → Type 0) (a b c : Option (List ℕ)) (k n : ℕ) (v : V) (e : Stop C) → k < n → AgreesWithJudging R a b (steps step k 0 x) (Ok v) → ((y : X) → R v y → AgreesWithJudging Q b c (step k y) (Err e)) → AgreesWithJudging Q a c (steps step n 0 x) (Err e)
   ends Q None b c k n v e less h next = tt
   ends Q (Some i) b c k n v (Refused cause) less (y, rest, is, left, r) next =
-      let (rest', is', left') = subst (λ o. Gives Q o c (step k y) (Err (Refused cause))) left (next y r) in
+      let (rest', is', left') = subst (λ o. AgreesWithJudging Q o c (step k y) (Err (Refused cause))) left (next y r) in
       (rest', steps_stop step (k + 1) n x i rest' cause (omega (arith, less)) (steps_more step k x i ∙ ap (λ j. j >>= λ a. step k a.0 a.1) is ∙ is'), left')
   ends Q (Some i) b c k n v ReadFault less h next = tt
   ends Q (Some i) b c k n v Memory less h next = tt

@@ -71,6 +71,6 @@ Matches Stands left judged (Err ReadFault) = ⊤
 Matches Stands left judged (Err Memory) = ⊤
 
 -- where the source tells its bytes
-abbrev pub Gives : {C X Y : Type 0} → (X → Y → Type 0) → Option (List ℕ) → Option (List ℕ) → (List ℕ → Judged C Y) → Result X (Stop C) → Type 0
-Gives Stands None new judge result = ⊤
-Gives Stands (Some input) new judge result = Matches Stands new (judge input) result
+abbrev pub AgreesWithJudging : {C X Y : Type 0} → (X → Y → Type 0) → Option (List ℕ) → Option (List ℕ) → (List ℕ → Judged C Y) → Result X (Stop C) → Type 0
+AgreesWithJudging Stands None new judge result = ⊤
+AgreesWithJudging Stands (Some input) new judge result = Matches Stands new (judge input) result

@@ -1,7 +1,7 @@
 ghost use Rattle.std.specs.Prelude.{◌≡◌, length, IfOk, IsErrOf, vec_len};
 ghost use Rattle.mig_bytes.specs.Bytes.{TakesBytes, TakesFew};
 ghost use Rattle.mig_bytes.specs.Faults.{RisesOnReadFault};
-ghost use Rattle.mig_bytes.specs.Judged.{Gives, part};
+ghost use Rattle.mig_bytes.specs.Judged.{AgreesWithJudging, part};
 ghost use Rattle.mig_bytes.specs.declared.stop.Stop.TheVariants.{Memory};
 
 use crate::failure::ReadFailed;
@@ -16,7 +16,7 @@ pub fn take_part<S: Source, C: Copy>(
     buf: &mut [u8],
     truncated: C,
 ) -> Result<(), Stop<C>>
-    ensures read { Gives (λ _ part. part ≡ buf.new) (S.left src.old) (S.left src.new) (part truncated (length buf.new)) result }
+    ensures read { AgreesWithJudging (λ _ part. part ≡ buf.new) (S.left src.old) (S.left src.new) (part truncated (length buf.new)) result }
     ensures taken { TakesBytes (S.left src.old) (S.left src.new) }
     ensures few { TakesFew (length buf.new) (S.left src.old) (S.left src.new) }
     ensures faults { RisesOnReadFault (S.faults src.old) (S.faults src.new) result }
@@ -36,7 +36,7 @@ pub fn take_long<S: Source, C: Copy>(
     len: u32,
     truncated: C,
 ) -> Result<Vec<u8>, Stop<C>>
-    ensures read { Gives (λ v part. part ≡ v.items) (S.left src.old) (S.left src.new) (part truncated len) result }
+    ensures read { AgreesWithJudging (λ v part. part ≡ v.items) (S.left src.old) (S.left src.new) (part truncated len) result }
     ensures taken { TakesBytes (S.left src.old) (S.left src.new) }
     ensures few { TakesFew len (S.left src.old) (S.left src.new) }
     ensures len { IfOk result (λ v. vec_len v ≡ len) }

@@ -1,5 +1,5 @@
 ghost use Rattle.mig_bytes.specs.Bytes.{Puts};
-ghost use Rattle.mig_bytes.specs.Faults.{HasCause};
+ghost use Rattle.mig_bytes.specs.Faults.{FaultHasCause};
 
 use crate::failure::{Failed, WriteFailed};
 use crate::sink::Sink;
@@ -8,7 +8,7 @@ use crate::sink::Sink;
 #[tactic(auto, using(std::proofs::lemmas::List::take_rest, crate::proofs::Streams::put_more))]
 pub fn put_all<K: Sink>(sink: &mut K, piece: &[u8]) -> Result<(), WriteFailed>
     ensures bytes { Puts piece.now (K.written sink.old) (K.written sink.new) result }
-    ensures cause { HasCause (K.faults sink.old) (K.faults sink.new) result }
+    ensures cause { FaultHasCause (K.faults sink.old) (K.faults sink.new) result }
 {
     let mut put = 0;
     while put < piece.len() {

@@ -2,7 +2,7 @@
 use Rattle.std.proofs.Common.{◌≡◌, ℕ, List, ◌++◌, length, Option, None, Result, Ok, Err, refl, sym, ap, subst, ◌∙◌}
 use Rattle.std.specs.Result.{IsErrAnd}
 use Rattle.mig_bytes.specs.declared.stop.Stop.{Stop}
-use Rattle.mig_bytes.specs.Judged.{Judged, placed, steps, stop_at, Gives}
+use Rattle.mig_bytes.specs.Judged.{Judged, placed, steps, stop_at, AgreesWithJudging}
 use Rattle.mig_bytes.specs.Judged.Judged.{Passes}
 use Rattle.mig_bytes.proofs.Joins.{Both, both_pass, done, judged_so, placed_passes, same_passes, stopped, then_passes, then_reads}
 use Rattle.mig_bytes.proofs.Placed.{placed_fine, placed_stops}
@@ -59,32 +59,32 @@ module _ {P C X : Type 0} (place : ℕ → P) (one : X → FormOf C X) where
 
 -- ---- what readers give
 
-pub nothing_read : {X Z : Type 0} (C : Type 0) (Q : Z → X → Type 0) (a : Option (List ℕ)) (z : Z) (x : X) → Q z x → Gives Q a a (judged_as {C = C} (Giving x)) (Ok z)
+pub nothing_read : {X Z : Type 0} (C : Type 0) (Q : Z → X → Type 0) (a : Option (List ℕ)) (z : Z) (x : X) → Q z x → AgreesWithJudging Q a a (judged_as {C = C} (Giving x)) (Ok z)
 nothing_read C Q a z x q = done Q a (judged_as {C = C} (Giving x)) z x (gives_goes x) q
 
 module _ {C V X Y Z : Type 0} (R : V → X → Type 0) (Q : Z → Y → Type 0) (f : FormOf C X) (g : X → FormOf C Y) (a : Option (List ℕ)) where
   -- a form, and then another
-  pub then_read : (b c : Option (List ℕ)) (v : V) (r : Result Z (Stop C)) → Gives R a b (judged_as f) (Ok v) → ((x : X) → R v x → Gives Q b c (judged_as (g x)) r) → Gives Q a c (judged_as (f >>> g)) r
+  pub then_read : (b c : Option (List ℕ)) (v : V) (r : Result Z (Stop C)) → AgreesWithJudging R a b (judged_as f) (Ok v) → ((x : X) → R v x → AgreesWithJudging Q b c (judged_as (g x)) r) → AgreesWithJudging Q a c (judged_as (f >>> g)) r
   then_read b c v r first then = then_reads R Q a b c (judged_as f) (judged_as (f >>> g)) (λ x. judged_as (g x.0) x.1) v r (then_judged g f) first then
 
   -- the first isn't read
-  pub first_stops : (b : Option (List ℕ)) (e : Stop C) (r : Result Z (Stop C)) → IsErrAnd r (λ d. d ≡ e) → Gives R a b (judged_as f) (Err e) → Gives Q a b (judged_as (f >>> g)) r
+  pub first_stops : (b : Option (List ℕ)) (e : Stop C) (r : Result Z (Stop C)) → IsErrAnd r (λ d. d ≡ e) → AgreesWithJudging R a b (judged_as f) (Err e) → AgreesWithJudging Q a b (judged_as (f >>> g)) r
   first_stops b e r is first = stopped R Q a b (judged_as f) (judged_as (f >>> g)) (λ x. judged_as (g x.0) x.1) e r (then_judged g f) is first
 
 -- where the first tells what it reads
 pub told_then : {C V X Y Z : Type 0} (value : V → X) (Q : Z → Y → Type 0) (f : FormOf C X) (g : X → FormOf C Y) (a b c : Option (List ℕ)) (v : V) (r : Result Z (Stop C))
-    → Gives (λ v x. x ≡ value v) a b (judged_as f) (Ok v) → Gives Q b c (judged_as (g (value v))) r → Gives Q a c (judged_as (f >>> g)) r
-told_then value Q f g a b c v r first then = then_read (λ v x. x ≡ value v) Q f g a b c v r first (λ x is. subst (λ y. Gives Q b c (judged_as (g y)) r) (sym is) then)
+    → AgreesWithJudging (λ v x. x ≡ value v) a b (judged_as f) (Ok v) → AgreesWithJudging Q b c (judged_as (g (value v))) r → AgreesWithJudging Q a c (judged_as (f >>> g)) r
+told_then value Q f g a b c v r first then = then_read (λ v x. x ≡ value v) Q f g a b c v r first (λ x is. subst (λ y. AgreesWithJudging Q b c (judged_as (g y)) r) (sym is) then)
 
 -- at a place
 module _ {P C V X : Type 0} (R : V → X → Type 0) (place : P) (f : FormOf C X) (a b : Option (List ℕ)) where
-  pub placed_read : (v : V) → Gives R a b (judged_as f) (Ok v) → Gives R a b (judged_as (placed_form place f)) (Ok v)
+  pub placed_read : (v : V) → AgreesWithJudging R a b (judged_as f) (Ok v) → AgreesWithJudging R a b (judged_as (placed_form place f)) (Ok v)
   placed_read v first = judged_so R a b (λ i. placed place (judged_as f i)) (judged_as (placed_form place f)) (Ok v) (placed_judged place f) (placed_fine R place a b (judged_as f) v first)
 
-  pub placed_stop : (e : Stop C) (d : Stop (P × C)) → d ≡ stop_at place e → Gives R a b (judged_as f) (Err e) → Gives R a b (judged_as (placed_form place f)) (Err d)
+  pub placed_stop : (e : Stop C) (d : Stop (P × C)) → d ≡ stop_at place e → AgreesWithJudging R a b (judged_as f) (Err e) → AgreesWithJudging R a b (judged_as (placed_form place f)) (Err d)
   placed_stop e d is first = judged_so R a b (λ i. placed place (judged_as f i)) (judged_as (placed_form place f)) (Err d) (placed_judged place f) (placed_stops R place a b (judged_as f) e d is first)
 
 -- n of them
 pub steps_read : {P C V X : Type 0} (R : V → X → Type 0) (place : ℕ → P) (one : X → FormOf C X) (a b : Option (List ℕ)) (n : ℕ) (x : X) (r : Result V (Stop (P × C)))
-    → Gives R a b (steps_at place one n x) r → Gives R a b (judged_as (steps_form (λ k y. placed_form (place k) (one y)) n 0 x)) r
+    → AgreesWithJudging R a b (steps_at place one n x) r → AgreesWithJudging R a b (judged_as (steps_form (λ k y. placed_form (place k) (one y)) n 0 x)) r
 steps_read R place one a b n x r all = judged_so R a b (steps_at place one n x) (judged_as (steps_form (λ k y. placed_form (place k) (one y)) n 0 x)) r (steps_go place one n x) all

@@ -1,5 +1,5 @@
 -- The body of each batch of frames says these frames.
-use Rattle.mig_canon.proofs.Common.{◌≡◌, ℕ, zero, suc, ◌+◌, ◌-◌, ◌*◌, ◌≤◌, ◌<◌, ◌^◌, min, List, [], ◌∷◌, ◌++◌, length, take, drop, map, replicate, Bool, true, false, Option, Some, None, refl, sym, ap, subst, ◌∙◌, arith, length-append, drop-drop, is_some, All, nat_lt, meant_type, range_with_len, nat_cmp-IsAntisymmetric, little_bytes, Kind, Hvm, Pv, GuestOf, IsFormed, Frame, batch, batches, page_in, words_of, pages_of, frames_in, common_steps, All-nil, All-cons, All-head, All-tail, length-drop, take_all, nat_cmp_total, little_number-reads_back, PageType, words_len, IsSendable, told}
+use Rattle.mig_canon.proofs.Common.{◌≡◌, ℕ, zero, suc, ◌+◌, ◌-◌, ◌*◌, ◌≤◌, ◌<◌, ◌^◌, min, List, [], ◌∷◌, ◌++◌, length, take, drop, map, replicate, Bool, true, false, Option, Some, None, refl, sym, ap, subst, ◌∙◌, arith, length-append, drop-drop, is_some, All, nat_lt, type_in_guest, range_with_len, nat_cmp-IsAntisymmetric, little_bytes, Kind, Hvm, Pv, GuestOf, IsFormed, Frame, batch, batches, page_in, words_of, pages_of, frames_in, common_steps, All-nil, All-cons, All-head, All-tail, length-drop, take_all, nat_cmp_total, little_number-reads_back, PageType, words_len, IsSendable, told}
 use Rattle.std.proofs.Common.{◌/◌, ◌%◌}
 use Rattle.std.specs.Prelude.{unwrap_or}
 use Rattle.mig_guest.specs.Formed.{IsInside}
@@ -23,7 +23,7 @@ use Rattle.mig_canon.proofs.CanonParts.{le32_first}
 use Rattle.std.specs.FinMap as maps
 
 -- a type of a guest of this kind stays
-stays : (kind : Kind) (t : PageType) → is_type_of kind t ≡ true → meant_type kind t ≡ t
+stays : (kind : Kind) (t : PageType) → is_type_of kind t ≡ true → type_in_guest kind t ≡ t
 stays Pv t is = refl
 stays Hvm Notab is = refl
 stays Hvm Broken is = refl

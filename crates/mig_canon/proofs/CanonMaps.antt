@@ -1,5 +1,5 @@
 -- Finite maps and their entries: what every entry meets, and what entries that are set again give.
-use Rattle.mig_canon.proofs.Common.{◌≡◌, ℕ, Bool, true, false, cond, not, nat_eq, List, [], ◌∷◌, map, Option, Some, None, refl, sym, ap, subst, ◌∙◌, T, ◌||◌, eq_by_cmp, PartKey, part_cmp, if◌then◌else◌, All, find, is_sorted, nat_cmp-IsAntisymmetric, Kind, Hvm, FrameMap, Part, PartMap, put_parts, replace_code, parts_of, PartCode, row_of, code_number, GuestOf, IsFormed, HasNoEmulators, is_policy, width_of, set_parts, parts_at, Frame, static_codes, last_codes, meant_type, put_entry, put_entries, option_or, All-head, All-tail, nat_cmp, below_all, part_total, part_exact, both_of, Tsc, common_steps, arith, tied, nat_cmp_total, find-where_key, PageType, told}
+use Rattle.mig_canon.proofs.Common.{◌≡◌, ℕ, Bool, true, false, cond, not, nat_eq, List, [], ◌∷◌, map, Option, Some, None, refl, sym, ap, subst, ◌∙◌, T, ◌||◌, eq_by_cmp, PartKey, part_cmp, if◌then◌else◌, All, find, is_sorted, nat_cmp-IsAntisymmetric, Kind, Hvm, FrameMap, Part, PartMap, put_parts, replace_code, parts_of, PartCode, row_of, code_number, GuestOf, IsFormed, HasNoEmulators, is_policy, width_of, set_parts, parts_at, Frame, static_codes, last_codes, type_in_guest, put_entry, put_entries, option_or, All-head, All-tail, nat_cmp, below_all, part_total, part_exact, both_of, Tsc, common_steps, arith, tied, nat_cmp_total, find-where_key, PageType, told}
 use Rattle.std.proofs.Common.{◌≢◌}
 use Rattle.mig_guest.specs.Formed.{IsPart, is_emulator_code}
 use Rattle.std.specs.declared.cmp.Ordering.TheVariants.{Equal}
@@ -14,7 +14,7 @@ use Rattle.std.specs.FinMap as maps
 
 -- a frame that there is, of a type that stays in a guest of this kind
 abbrev pub IsKept : Kind → Frame → Type 0
-IsKept kind f = (meant_type kind f.1.type ≡ f.1.type) × (f.1.type ≢ Xtab)
+IsKept kind f = (type_in_guest kind f.1.type ≡ f.1.type) × (f.1.type ≢ Xtab)
 
 framed_there : (m : FrameMap) (pfn : ℕ) (t : PageType) (page : Option (List ℕ)) → t ≢ Xtab → framed m pfn t page ≡ maps.insert m pfn (record { type = t; page = page })
 framed_there m pfn Xtab page there = absurd (there refl)

@@ -54,7 +54,7 @@ pub use Rattle.mig_records.specs.declared.shape.Shape.TheVariants.{Chain, Named,
 pub use Rattle.mig_records_pages.proofs.ListSteps.{done_stop, not_ended}
 pub use Rattle.mig_records_pages.proofs.PageTexts.{words_len}
 pub use Rattle.mig_records_pages.specs.PageData.{Frame, body_of, page_in, pages_of, words_of}
-pub use Rattle.mig_restore_form.specs.Mean.{empty_guest, meant_type, put_entries, put_entry, sent}
+pub use Rattle.mig_restore_form.specs.Mean.{empty_guest, type_in_guest, put_entries, put_entry, sent}
 pub use Rattle.mig_restore_form.specs.Record.{Content, StreamRecord, is_ended}
 pub use Rattle.mig_restore_form.specs.Record.Content.{Frames, Lists, Nothing, Sets}
 pub use Rattle.mig_restore_form.specs.Spelled.{Follows, HasContent, IsComplete}

@@ -1,5 +1,5 @@
 ghost use Rattle.mig_bytes.specs.Bytes.{Puts};
-ghost use Rattle.mig_bytes.specs.Faults.{HasCause};
+ghost use Rattle.mig_bytes.specs.Faults.{FaultHasCause};
 ghost use Rattle.mig_records.specs.Records.{text_of};
 ghost use Rattle.mig_canon.specs.Canon.{frame_bodies, batches, frames_in};
 
@@ -13,7 +13,7 @@ const BATCH: u64 = MOST_ENTRIES as u64;
 /// Appends the records of all frames.
 pub(crate) fn write_frames<K: Sink>(sink: &mut K, guest: &Guest) -> Result<(), WriteFailed>
     ensures bytes { Puts (text_of (frame_bodies (frames_in guest.now) (batches (frames_in guest.now)))) (K.written sink.old) (K.written sink.new) result }
-    ensures cause { HasCause (K.faults sink.old) (K.faults sink.new) result }
+    ensures cause { FaultHasCause (K.faults sink.old) (K.faults sink.new) result }
 {
     let total = guest.frames();
     let mut from = 0;

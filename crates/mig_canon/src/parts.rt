@@ -2,7 +2,7 @@ ghost use Rattle.std.specs.Prelude.{◌≡◌, ◌+◌, ◌≤◌, ◌<◌, ◌^
 ghost use Rattle.std.specs.List.{flat_map};
 ghost use Rattle.byteorder.specs.Endian.{little_bytes};
 ghost use Rattle.mig_bytes.specs.Bytes.{Puts};
-ghost use Rattle.mig_bytes.specs.Faults.{HasCause};
+ghost use Rattle.mig_bytes.specs.Faults.{FaultHasCause};
 ghost use Rattle.mig_headers.specs.RecordTypes.{most_body};
 ghost use Rattle.mig_guest.specs.Formed.{IsFormed};
 ghost use Rattle.mig_records.specs.Records.{spelled, text_of};
@@ -22,7 +22,7 @@ use mig_records::{
 /// Appends so many zero bytes.
 fn write_zeros<K: Sink>(sink: &mut K, count: usize) -> Result<(), WriteFailed>
     ensures bytes { Puts (replicate count 0) (K.written sink.old) (K.written sink.new) result }
-    ensures cause { HasCause (K.faults sink.old) (K.faults sink.new) result }
+    ensures cause { FaultHasCause (K.faults sink.old) (K.faults sink.new) result }
 {
     for i in 0..count {
         put_all(sink, &[0])?;
@@ -33,7 +33,7 @@ fn write_zeros<K: Sink>(sink: &mut K, count: usize) -> Result<(), WriteFailed>
 /// Appends what stands before the entries of a table: their number, where it has it.
 fn write_front<K: Sink>(sink: &mut K, layout: Layout, count: u32) -> Result<(), WriteFailed>
     ensures bytes { Puts (front_text layout.counted count) (K.written sink.old) (K.written sink.new) result }
-    ensures cause { HasCause (K.faults sink.old) (K.faults sink.new) result }
+    ensures cause { FaultHasCause (K.faults sink.old) (K.faults sink.new) result }
 {
     if layout.counted {
         write_count(sink, count)
@@ -55,7 +55,7 @@ fn write_keyed<K: Sink>(
     requires first { first ≤ 8 }
     requires second { second ≤ 8 }
     ensures bytes { Puts (little_bytes first key.key1 ++ (little_bytes second key.key2 ++ (replicate ignored 0 ++ value.now))) (K.written sink.old) (K.written sink.new) result }
-    ensures cause { HasCause (K.faults sink.old) (K.faults sink.new) result }
+    ensures cause { FaultHasCause (K.faults sink.old) (K.faults sink.new) result }
 {
     write_numbers(sink, first, key.key1, second, key.key2)?;
     write_zeros(sink, ignored)?;
@@ -71,7 +71,7 @@ fn write_single<K: Sink>(
 ) -> Result<(), WriteFailed>
     requires { length value.now + ignored ≤ most_body }
     ensures bytes { Puts (spelled number (value.now ++ replicate ignored 0)) (K.written sink.old) (K.written sink.new) result }
-    ensures cause { HasCause (K.faults sink.old) (K.faults sink.new) result }
+    ensures cause { FaultHasCause (K.faults sink.old) (K.faults sink.new) result }
 {
     let len = (value.len() + ignored) as u32;
     write_head(sink, number, len)?;
@@ -92,7 +92,7 @@ fn write_named<K: Sink>(
     requires narrow { second ≤ 4 }
     requires short { 4 + second + ignored + length value.now ≤ most_body }
     ensures bytes { Puts (spelled number (little_bytes 4 key.key1 ++ (little_bytes second key.key2 ++ (replicate ignored 0 ++ value.now)))) (K.written sink.old) (K.written sink.new) result }
-    ensures cause { HasCause (K.faults sink.old) (K.faults sink.new) result }
+    ensures cause { FaultHasCause (K.faults sink.old) (K.faults sink.new) result }
 {
     let len = (4 + second + ignored + value.len()) as u32;
     write_head(sink, number, len)?;
@@ -111,7 +111,7 @@ pub(crate) fn write_piece<K: Sink>(
     requires row { IsRow code shape }
     requires short { IsShortPart shape (key, value.now) }
     ensures bytes { Puts (piece shape (code_number code) (key, value.now)) (K.written sink.old) (K.written sink.new) result }
-    ensures cause { HasCause (K.faults sink.old) (K.faults sink.new) result }
+    ensures cause { FaultHasCause (K.faults sink.old) (K.faults sink.new) result }
 {
     let number = code.number();
     match shape {
@@ -134,7 +134,7 @@ pub(crate) fn write_piece<K: Sink>(
 fn write_pieces<K: Sink>(sink: &mut K, guest: &Guest, code: PartCode) -> Result<(), WriteFailed>
     requires { IsFormed guest.now }
     ensures bytes { Puts (flat_map (piece (shape_of code) (code_number code)) (parts_at code guest.now)) (K.written sink.old) (K.written sink.new) result }
-    ensures cause { HasCause (K.faults sink.old) (K.faults sink.new) result }
+    ensures cause { FaultHasCause (K.faults sink.old) (K.faults sink.new) result }
 {
     let mut after = None;
     while let Some((key, value)) = guest.next_of_code(code.number(), after) {
@@ -170,7 +170,7 @@ fn write_table<K: Sink>(
     requires formed { IsFormed guest.now }
     requires shape { shape_of code ≡ shapes.Table layout }
     ensures bytes { Puts (text_of (records_of code guest.now)) (K.written sink.old) (K.written sink.new) result }
-    ensures cause { HasCause (K.faults sink.old) (K.faults sink.new) result }
+    ensures cause { FaultHasCause (K.faults sink.old) (K.faults sink.new) result }
 {
     let count = count_parts(guest, code);
     if count == 0 {
@@ -192,7 +192,7 @@ pub(crate) fn write_parts<K: Sink>(
 ) -> Result<(), WriteFailed>
     requires { IsFormed guest.now }
     ensures bytes { Puts (text_of (records_of code guest.now)) (K.written sink.old) (K.written sink.new) result }
-    ensures cause { HasCause (K.faults sink.old) (K.faults sink.new) result }
+    ensures cause { FaultHasCause (K.faults sink.old) (K.faults sink.new) result }
 {
     if let Shape::Table(layout) = shape_of(code) {
         return write_table(sink, guest, code, layout);

@@ -1,6 +1,6 @@
 ghost use Rattle.std.specs.Prelude.{◌≡◌, ◌+◌, ◌≤◌, ◌^◌, length};
 ghost use Rattle.mig_bytes.specs.Bytes.{Puts};
-ghost use Rattle.mig_bytes.specs.Faults.{HasCause};
+ghost use Rattle.mig_bytes.specs.Faults.{FaultHasCause};
 ghost use Rattle.mig_records.specs.Shapes.{shape_of, of_vcpu};
 ghost use Rattle.mig_guest.specs.Formed.{IsFormed};
 ghost use Rattle.mig_records.specs.Records.{spelled, text_of};
@@ -23,7 +23,7 @@ const P2M_KEY: PartKey = PartKey {
 #[tactic(auto, using(mig_bytes::proofs::Texts::puts_same, mig_records::proofs::RecordTexts::text_one))]
 pub fn write_info<K: Sink>(sink: &mut K, guest: &Guest) -> Result<(), WriteFailed>
     ensures bytes { Puts (text_of (info_records guest.now.kind)) (K.written sink.old) (K.written sink.new) result }
-    ensures cause { HasCause (K.faults sink.old) (K.faults sink.new) result }
+    ensures cause { FaultHasCause (K.faults sink.old) (K.faults sink.new) result }
 {
     match guest.kind() {
         Kind::Pv => write_record(sink, X86_PV_INFO, &[8, 4, 0, 0, 0, 0, 0, 0]),
@@ -36,7 +36,7 @@ pub fn write_info<K: Sink>(sink: &mut K, guest: &Guest) -> Result<(), WriteFaile
 fn write_p2m_list<K: Sink>(sink: &mut K, top: u32, frames: &[u8]) -> Result<(), WriteFailed>
     requires { length frames.now ≤ 2 ^ 26 }
     ensures bytes { Puts (spelled 3 (p2m_body top frames.now)) (K.written sink.old) (K.written sink.new) result }
-    ensures cause { HasCause (K.faults sink.old) (K.faults sink.new) result }
+    ensures cause { FaultHasCause (K.faults sink.old) (K.faults sink.new) result }
 {
     let len = (8 + frames.len()) as u32;
     write_head(sink, PartCode::P2mFrames.number(), len)?;
@@ -50,7 +50,7 @@ fn write_p2m_list<K: Sink>(sink: &mut K, top: u32, frames: &[u8]) -> Result<(), 
 pub fn write_p2m_frames<K: Sink>(sink: &mut K, guest: &Guest) -> Result<(), WriteFailed>
     requires { IsFormed guest.now }
     ensures bytes { Puts (text_of (p2m_records guest.now.kind guest.now)) (K.written sink.old) (K.written sink.new) result }
-    ensures cause { HasCause (K.faults sink.old) (K.faults sink.new) result }
+    ensures cause { FaultHasCause (K.faults sink.old) (K.faults sink.new) result }
 {
     match guest.kind() {
         Kind::Pv => match guest.part(P2M_KEY) {
@@ -72,7 +72,7 @@ fn write_vcpu_part<K: Sink>(
     requires formed { IsFormed guest.now }
     requires shape { shape_of code ≡ of_vcpu }
     ensures bytes { Puts (text_of (vcpu_record guest.now id code)) (K.written sink.old) (K.written sink.new) result }
-    ensures cause { HasCause (K.faults sink.old) (K.faults sink.new) result }
+    ensures cause { FaultHasCause (K.faults sink.old) (K.faults sink.new) result }
 {
     let key = PartKey {
         code: code.number(),
@@ -90,7 +90,7 @@ fn write_vcpu_part<K: Sink>(
 fn write_vcpu<K: Sink>(sink: &mut K, guest: &Guest, id: u32) -> Result<(), WriteFailed>
     requires { IsFormed guest.now }
     ensures bytes { Puts (text_of (records_of_vcpu guest.now id)) (K.written sink.old) (K.written sink.new) result }
-    ensures cause { HasCause (K.faults sink.old) (K.faults sink.new) result }
+    ensures cause { FaultHasCause (K.faults sink.old) (K.faults sink.new) result }
 {
     write_vcpu_part(sink, guest, id, PartCode::VcpuBasic)?;
     write_vcpu_part(sink, guest, id, PartCode::VcpuExtended)?;
@@ -103,7 +103,7 @@ fn write_vcpu<K: Sink>(sink: &mut K, guest: &Guest, id: u32) -> Result<(), Write
 pub fn write_vcpus<K: Sink>(sink: &mut K, guest: &Guest) -> Result<(), WriteFailed>
     requires { IsFormed guest.now }
     ensures bytes { Puts (text_of (all_vcpus guest.now)) (K.written sink.old) (K.written sink.new) result }
-    ensures cause { HasCause (K.faults sink.old) (K.faults sink.new) result }
+    ensures cause { FaultHasCause (K.faults sink.old) (K.faults sink.new) result }
 {
     for id in 0..VCPU_LIMIT {
         write_vcpu(sink, guest, id)?;

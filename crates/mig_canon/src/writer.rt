@@ -1,5 +1,5 @@
 ghost use Rattle.mig_bytes.specs.Bytes.{Puts};
-ghost use Rattle.mig_bytes.specs.Faults.{HasCause};
+ghost use Rattle.mig_bytes.specs.Faults.{FaultHasCause};
 ghost use Rattle.mig_guest.specs.Formed.{IsFormed};
 ghost use Rattle.mig_pvtables.specs.Whole.{IsWhole};
 ghost use Rattle.std.specs.List.{flat_map};
@@ -19,7 +19,7 @@ use mig_records_pages::write_end;
 #[tactic(auto, using(mig_bytes::proofs::Texts::puts_then))]
 pub fn write_headers<K: Sink>(sink: &mut K, kind: Kind) -> Result<(), WriteFailed>
     ensures bytes { Puts (headers kind) (K.written sink.old) (K.written sink.new) result }
-    ensures cause { HasCause (K.faults sink.old) (K.faults sink.new) result }
+    ensures cause { FaultHasCause (K.faults sink.old) (K.faults sink.new) result }
 {
     let domain = DomainHeader {
         kind,
@@ -33,7 +33,7 @@ pub fn write_headers<K: Sink>(sink: &mut K, kind: Kind) -> Result<(), WriteFaile
 /// Appends the headers of the guest's canonical image.
 fn write_opening<K: Sink>(sink: &mut K, guest: &Guest) -> Result<(), WriteFailed>
     ensures bytes { Puts (headers guest.now.kind) (K.written sink.old) (K.written sink.new) result }
-    ensures cause { HasCause (K.faults sink.old) (K.faults sink.new) result }
+    ensures cause { FaultHasCause (K.faults sink.old) (K.faults sink.new) result }
 {
     write_headers(sink, guest.kind())
 }
@@ -46,7 +46,7 @@ pub fn write_codes<K: Sink>(
 ) -> Result<(), WriteFailed>
     requires { IsFormed guest.now }
     ensures bytes { Puts (flat_map (λ code. text_of (records_of code guest.now)) codes.now) (K.written sink.old) (K.written sink.new) result }
-    ensures cause { HasCause (K.faults sink.old) (K.faults sink.new) result }
+    ensures cause { FaultHasCause (K.faults sink.old) (K.faults sink.new) result }
 {
     for code in codes {
         write_parts(sink, guest, *code)?;
@@ -59,7 +59,7 @@ pub fn write_codes<K: Sink>(
 pub fn write_static<K: Sink>(sink: &mut K, guest: &Guest) -> Result<(), WriteFailed>
     requires { IsFormed guest.now }
     ensures bytes { Puts (text_of (static_bodies guest.now)) (K.written sink.old) (K.written sink.new) result }
-    ensures cause { HasCause (K.faults sink.old) (K.faults sink.new) result }
+    ensures cause { FaultHasCause (K.faults sink.old) (K.faults sink.new) result }
 {
     write_codes(sink, guest, &[PartCode::CpuidLeaf, PartCode::Msr])?;
     write_record(sink, STATIC_DATA_END, &[])
@@ -70,7 +70,7 @@ pub fn write_static<K: Sink>(sink: &mut K, guest: &Guest) -> Result<(), WriteFai
 fn write_last<K: Sink>(sink: &mut K, guest: &Guest) -> Result<(), WriteFailed>
     requires { IsFormed guest.now }
     ensures bytes { Puts (text_of (last_records guest.now.kind guest.now)) (K.written sink.old) (K.written sink.new) result }
-    ensures cause { HasCause (K.faults sink.old) (K.faults sink.new) result }
+    ensures cause { FaultHasCause (K.faults sink.old) (K.faults sink.new) result }
 {
     match guest.kind() {
         Kind::Pv => {
@@ -91,7 +91,7 @@ fn write_last<K: Sink>(sink: &mut K, guest: &Guest) -> Result<(), WriteFailed>
 pub fn write_canon<K: Sink>(sink: &mut K, guest: &Guest) -> Result<(), WriteFailed>
     requires { IsWhole guest.now }
     ensures bytes { Puts (canon guest.now) (K.written sink.old) (K.written sink.new) result }
-    ensures cause { HasCause (K.faults sink.old) (K.faults sink.new) result }
+    ensures cause { FaultHasCause (K.faults sink.old) (K.faults sink.new) result }
 {
     write_opening(sink, guest)?;
     write_info(sink, guest)?;

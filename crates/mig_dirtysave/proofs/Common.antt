@@ -25,7 +25,7 @@ pub use Rattle.mig_dirtysave_parts.proofs.Codes.{emulators_kept, emulators_seen,
 pub use Rattle.mig_dirtysave_parts.proofs.Texts.{nothing_stops, on_err, part_behind, some_records}
 pub use Rattle.mig_dirtysave_parts.specs.KeptParts.{HoldsParts, is_early, is_setting}
 pub use Rattle.mig_dirtysave_parts.specs.SaveTexts.{ClosesStream, text_before}
-pub use Rattle.mig_dirtysave_rounds.specs.Entries.{AreTold, meant}
+pub use Rattle.mig_dirtysave_rounds.specs.Entries.{AreTold, frames_meant}
 pub use Rattle.mig_dirtysave_rounds.specs.Forms.{form_of_print, form_page, is_lost, lost_in, lost_slot, superpage_in, superpage_slot}
 pub use Rattle.mig_dirtysave_rounds.specs.Live.{FramesSaved, IsUnsound, KeepsShape, forms}
 pub use Rattle.mig_dirtysave_rounds.specs.Parts.{entries_read}

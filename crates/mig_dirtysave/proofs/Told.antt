@@ -1,5 +1,5 @@
 -- What a saver tells of a host, as frames that an image says, and the frames that this leaves.
-use Rattle.mig_dirtysave.proofs.Common.{◌≡◌, ℕ, ◌-◌, ◌<◌, ◌≤◌, List, [], ◌∷◌, ◌++◌, map, Bool, true, false, cond, Option, Some, None, refl, sym, ap, subst, ◌∙◌, arith, All, length-map, map-append, Kind, Pv, Hvm, PageType, level_of, IsGuestFrame, FrameOf, FrameMap, is_type_of, top_of, IsSendableBatch, frames_told, FrameTold, telling_frames, all_told, AreSized, AreTold, meant}
+use Rattle.mig_dirtysave.proofs.Common.{◌≡◌, ℕ, ◌-◌, ◌<◌, ◌≤◌, List, [], ◌∷◌, ◌++◌, map, Bool, true, false, cond, Option, Some, None, refl, sym, ap, subst, ◌∙◌, arith, All, length-map, map-append, Kind, Pv, Hvm, PageType, level_of, IsGuestFrame, FrameOf, FrameMap, is_type_of, top_of, IsSendableBatch, frames_told, FrameTold, telling_frames, all_told, AreSized, AreTold, frames_meant}
 use Rattle.std.proofs.Common.{◌==◌, eqb-true}
 use Rattle.mig_pagetypes.specs.Limits.{pfn_limit}
 use Rattle.mig_guest.specs.Hosts.{most_width}
@@ -11,7 +11,7 @@ use Rattle.mig_guest.specs.Frames.{framed}
 use Rattle.mig_guest.specs.Tables.{EachEntry, IsWithin}
 use Rattle.mig_host_view.proofs.ViewedFrames.{not_absent, inside_is}
 use Rattle.mig_records_pages.specs.PageData.{Frame}
-use Rattle.mig_restore_form.specs.Mean.{meant_type, put_entry, put_entries}
+use Rattle.mig_restore_form.specs.Mean.{type_in_guest, put_entry, put_entries}
 use Rattle.mig_canon.specs.Batched.{IsSendable, told}
 use Rattle.mig_records_pages.specs.Told.{frame_or_xtab, telling_frame}
 use Rattle.mig_dirtysave_rounds.specs.Findings.{IsToldFrame}
@@ -22,14 +22,14 @@ use Rattle.std.specs.FinMap as maps
 
 -- ---- a type of a host's frame
 
-type_stays : (kind : Kind) (t : PageType) → is_type_of kind t ≡ true → meant_type kind t ≡ t
+type_stays : (kind : Kind) (t : PageType) → is_type_of kind t ≡ true → type_in_guest kind t ≡ t
 type_stays Pv t is = refl
 type_stays Hvm Notab is = refl
 type_stays Hvm Broken is = refl
 type_stays Hvm Xalloc is = refl
 type_stays Hvm _ is = absurd (cc)
 
-xtab_stays : (kind : Kind) → meant_type kind Xtab ≡ Xtab
+xtab_stays : (kind : Kind) → type_in_guest kind Xtab ≡ Xtab
 xtab_stays Pv = refl
 xtab_stays Hvm = refl
 
@@ -41,7 +41,7 @@ entries_within : (kind : Kind) (width : ℕ) (x : FrameOf) → is_type_of kind x
 entries_within Pv width x of within = within
 entries_within Hvm width x of within = no_entries 0 x (no_level x.type of)
 
-put_type : (kind : Kind) (m : FrameMap) (p : ℕ) (t : PageType) (page : Option (List ℕ)) → is_type_of kind t ≡ true → framed m p (meant_type kind t) page ≡ maps.insert m p (record { type = t; page = page })
+put_type : (kind : Kind) (m : FrameMap) (p : ℕ) (t : PageType) (page : Option (List ℕ)) → is_type_of kind t ≡ true → framed m p (type_in_guest kind t) page ≡ maps.insert m p (record { type = t; page = page })
 put_type kind m p t page is = ap (λ u. framed m p u page) (type_stays kind t is) ∙ there t (not_absent kind t is)
   where
     there : (u : PageType) → (u ≡ Xtab → ⊥) → framed m p u page ≡ maps.insert m p (record { type = u; page = page })
@@ -104,7 +104,7 @@ module _ (kind : Kind) (width : ℕ) where
   flat_outs [] = refl
   flat_outs (b ∷ batches) = ap (λ l. telling_frames b ++ l) (flat_outs batches) ∙ sym (map-append telling_frame b (all_told batches))
 
-  pub told_is_meant : (batches : List (List FrameTold)) → AreTold kind width (all_told batches) → frames_told kind (map telling_frames batches) ≡ meant (all_told batches)
+  pub told_is_meant : (batches : List (List FrameTold)) → AreTold kind width (all_told batches) → frames_told kind (map telling_frames batches) ≡ frames_meant (all_told batches)
   told_is_meant batches h = ap (λ fs. put_entries kind maps.empty (map told fs)) (flat_outs batches) ∙ put_outs maps.empty (all_told batches) h
 
   -- ---- the frames that they leave
@@ -120,7 +120,7 @@ module _ (kind : Kind) (width : ℕ) where
       next p f true here is = let told = h.0 in (subst (λ q. q < width) (sym (eqb-true p e.pfn here)) told.inside, told.frame f (sym (ap (λ b. cond b e.frame (maps.get m p)) here) ∙ is))
       next p f false other is = base p f (sym (ap (λ b. cond b e.frame (maps.get m p)) other) ∙ is)
 
-  pub left_is_formed : (es : List FrameTold) → width ≤ most_width → AreTold kind width es → (p : ℕ) (f : FrameOf) → maps.get (meant es) p ≡ Some f → IsGuestFrame kind (top_of kind width) p f
+  pub left_is_formed : (es : List FrameTold) → width ≤ most_width → AreTold kind width es → (p : ℕ) (f : FrameOf) → maps.get (frames_meant es) p ≡ Some f → IsGuestFrame kind (top_of kind width) p f
   left_is_formed es narrow h p f is =
       let (low, t) = left es maps.empty h (λ q x at. absurd (let no : ◌≡◌ {A = Option FrameOf} None (Some x) = sym (maps.get-empty nat_cmp q) ∙ at in cc)) p f is in
       record {

@@ -1,5 +1,5 @@
 -- The image of a host whose frames were sent in any records.
-use Rattle.mig_dirtysave.proofs.Common.{◌≡◌, ℕ, ◌≤◌, ◌^◌, List, ◌++◌, length, map, refl, sym, ap, subst, ◌∙◌, arith, All, length-map, Kind, Pv, Hvm, FrameMap, GuestOf, HostOf, IsValid, blank, IsWhole, IsSound, view, hvm_view, top_of, viewed_whole, Accepted, IsSendableBatch, frames_told, batched, bare_guest, FrameTold, telling_frames, all_told, AreSized, AreTold, meant, forms}
+use Rattle.mig_dirtysave.proofs.Common.{◌≡◌, ℕ, ◌≤◌, ◌^◌, List, ◌++◌, length, map, refl, sym, ap, subst, ◌∙◌, arith, All, length-map, Kind, Pv, Hvm, FrameMap, GuestOf, HostOf, IsValid, blank, IsWhole, IsSound, view, hvm_view, top_of, viewed_whole, Accepted, IsSendableBatch, frames_told, batched, bare_guest, FrameTold, telling_frames, all_told, AreSized, AreTold, frames_meant, forms}
 use Rattle.mig_pvtables.proofs.HvmGuests.{hvm_blank, hvm_complete}
 use Rattle.mig_host_view.proofs.HostViews.{hvm_viewed}
 use Rattle.mig_records_pages.specs.PageData.{Frame}
@@ -14,7 +14,7 @@ use Rattle.mig_dirtysave.proofs.PvHosts.{pv_view, pv_sent, plain, pv_seen, sent_
 use Rattle.std.specs.FinMap as maps
 
 module _ (h : HostOf) (valid : IsValid h) (sound : IsSound h) (batches : List (List FrameTold)) (sized : AreSized batches) (are_told : AreTold h.kind h.width (all_told batches))
-    (few : length batches ≤ 2 ^ 27) (means : meant (all_told batches) ≡ forms h.frames) (rest : List ℕ) where
+    (few : length batches ≤ 2 ^ 27) (means : frames_meant (all_told batches) ≡ forms h.frames) (rest : List ℕ) where
   abbrev records : List (List Frame)
   records = map telling_frames batches
 
@@ -66,6 +66,6 @@ module _ (h : HostOf) (valid : IsValid h) (sound : IsSound h) (batches : List (L
   accepted = by_kind h.kind refl
 
 pub saved_is_viewed : (h : HostOf) (batches : List (List FrameTold)) (rest : List ℕ) → IsValid h → IsSound h
-    → AreSized batches → AreTold h.kind h.width (all_told batches) → length batches ≤ 2 ^ 27 → meant (all_told batches) ≡ forms h.frames
+    → AreSized batches → AreTold h.kind h.width (all_told batches) → length batches ≤ 2 ^ 27 → frames_meant (all_told batches) ≡ forms h.frames
     → Accepted (batched (view h) (map telling_frames batches) ++ rest) (bare_guest (view h)) rest
 saved_is_viewed h batches rest valid sound sized are_told few means = accepted h valid sound batches sized are_told few means rest

@@ -1,6 +1,6 @@
 ghost use Rattle.std.specs.Prelude.{◌≡◌, ℕ, List, length, true, Some, None, IfOk, IfSome, find};
 ghost use Rattle.std.specs.FinMap as maps;
-ghost use Rattle.mig_bytes.specs.Faults.{HasCause};
+ghost use Rattle.mig_bytes.specs.Faults.{FaultHasCause};
 ghost use Rattle.mig_guest.specs.declared.part_key.PartKey.{PartKey};
 ghost use Rattle.mig_guest.specs.Hosts.{pfn_in};
 ghost use Rattle.mig_guest.specs.Order.{part_cmp};
@@ -33,7 +33,7 @@ fn rename_context<M: Machine>(
     ensures renamed { IfOk result (λ found. found ≡ None → context.new ≡ renamed_context is_used_somewhere (pfn_in (M.state machine.old).host.frames) id context.old) }
     ensures looks { OnlyLooksUp (M.state machine.old) (M.state machine.new) }
     ensures later { M.Later machine.old machine.new }
-    ensures cause { HasCause (M.faults machine.old) (M.faults machine.new) result }
+    ensures cause { FaultHasCause (M.faults machine.old) (M.faults machine.new) result }
 {
     for field in 0..FIELDS {
         if let Some(mfn) = host_frame(context, id, field) {
@@ -60,7 +60,7 @@ fn rename_vcpu<M: Machine>(
     ensures renamed { IfOk result (λ found. found ≡ None → guest.new ≡ record guest.old { parts = each_value (only part_cmp key (renamed_context is_used_somewhere (pfn_in (M.state machine.old).host.frames) key.key1)) guest.old.parts }) }
     ensures looks { OnlyLooksUp (M.state machine.old) (M.state machine.new) }
     ensures later { M.Later machine.old machine.new }
-    ensures cause { HasCause (M.faults machine.old) (M.faults machine.new) result }
+    ensures cause { FaultHasCause (M.faults machine.old) (M.faults machine.new) result }
 {
     let Some(bytes) = guest.part(key) else {
         return Ok(None);
@@ -87,7 +87,7 @@ pub fn rename_contexts<M: Machine>(
     ensures renamed { IfOk result (λ found. found ≡ None → guest.new ≡ with_names (M.state machine.old).host guest.old) }
     ensures looks { OnlyLooksUp (M.state machine.old) (M.state machine.new) }
     ensures later { M.Later machine.old machine.new }
-    ensures cause { HasCause (M.faults machine.old) (M.faults machine.new) result }
+    ensures cause { FaultHasCause (M.faults machine.old) (M.faults machine.new) result }
 {
     let mut after = None;
     while let Some((key, _)) = guest.next_of_code(VCPU_BASIC, after) {

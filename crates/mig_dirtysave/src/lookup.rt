@@ -1,5 +1,5 @@
 ghost use Rattle.std.specs.Prelude.{◌≡◌, ◌<◌, ◌^◌, true, Some, IfOk, IfSome, IsSome, is_some, option_and_then, length};
-ghost use Rattle.mig_bytes.specs.Faults.{HasCause};
+ghost use Rattle.mig_bytes.specs.Faults.{FaultHasCause};
 ghost use Rattle.mig_guest.specs.Hosts.{pfn_in};
 ghost use Rattle.mig_pvtables.specs.Faults.{fits_field};
 ghost use Rattle.mig_dirtysave.specs.Paused.{types_seen, OnlyLooksUp};
@@ -28,7 +28,7 @@ fn look_up<M: Machine>(machine: &mut M, mfn: u64) -> Result<Option<u64>, Failed>
     ensures small { IfOk result (λ pfn. IfSome pfn (λ p. p < 2 ^ 40)) }
     ensures looks { OnlyLooksUp (M.state machine.old) (M.state machine.new) }
     ensures later { M.Later machine.old machine.new }
-    ensures cause { HasCause (M.faults machine.old) (M.faults machine.new) result }
+    ensures cause { FaultHasCause (M.faults machine.old) (M.faults machine.new) result }
 {
     match machine.pfn_of(mfn) {
         Ok(pfn) => Ok(pfn),
@@ -49,7 +49,7 @@ pub(crate) fn pfn_for_field<M: Machine>(
     ensures small { IfOk result (λ pfn. IfSome pfn (λ p. p < 2 ^ 40)) }
     ensures looks { OnlyLooksUp (M.state machine.old) (M.state machine.new) }
     ensures later { M.Later machine.old machine.new }
-    ensures cause { HasCause (M.faults machine.old) (M.faults machine.new) result }
+    ensures cause { FaultHasCause (M.faults machine.old) (M.faults machine.new) result }
 {
     match look_up(machine, mfn)? {
         Some(pfn) => {

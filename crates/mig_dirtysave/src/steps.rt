@@ -1,7 +1,7 @@
 ghost use Rattle.std.specs.Prelude.{◌≡◌, true, false, None, Some, OnOk, OnErr, IfOk, IsErrOf};
 ghost use Rattle.std.specs.Io.KnownBytes.{Appends};
 ghost use Rattle.mig_bytes.specs.Bytes.{AppendsPart};
-ghost use Rattle.mig_bytes.specs.Faults.{HasCause};
+ghost use Rattle.mig_bytes.specs.Faults.{FaultHasCause};
 ghost use Rattle.mig_headers.specs.declared.unsound.Unsound.{Unsound as UnsoundCause};
 ghost use Rattle.mig_guest.specs.Formed.{IsFormed};
 ghost use Rattle.mig_guest.specs.Hosts.{IsValid};
@@ -30,7 +30,7 @@ pub(crate) fn open<K: Sink>(sink: &mut K, early: &Guest) -> Result<(), SaveAnswe
     requires { IsFormed early.now }
     ensures opened { OnOk result (Appends (K.written sink.old) (K.written sink.new) (text_before early.now)) }
     ensures part { OnErr result (AppendsPart (K.written sink.old) (K.written sink.new) (text_before early.now)) }
-    ensures cause { HasCause (K.faults sink.old) (K.faults sink.new) result }
+    ensures cause { FaultHasCause (K.faults sink.old) (K.faults sink.new) result }
     ensures which { OnErr result (IsErrOf result WriteFault) }
 {
     match write_before(sink, early) {
@@ -43,7 +43,7 @@ pub(crate) fn open<K: Sink>(sink: &mut K, early: &Guest) -> Result<(), SaveAnswe
 pub(crate) fn begin<K: Sink>(sink: &mut K, settings: &Guest) -> Result<(), SaveAnswer>
     ensures begun { OnOk result (Appends (K.written sink.old) (K.written sink.new) (wrapper_opening settings.now.parts)) }
     ensures part { OnErr result (AppendsPart (K.written sink.old) (K.written sink.new) (wrapper_opening settings.now.parts)) }
-    ensures cause { HasCause (K.faults sink.old) (K.faults sink.new) result }
+    ensures cause { FaultHasCause (K.faults sink.old) (K.faults sink.new) result }
     ensures which { OnErr result (IsErrOf result WriteFault) }
 {
     match write_opening(sink, settings) {
@@ -57,7 +57,7 @@ pub(crate) fn end<K: Sink>(sink: &mut K, settings: &Guest) -> Result<(), SaveAns
     requires { IsFormed settings.now }
     ensures ended { OnOk result (Appends (K.written sink.old) (K.written sink.new) (wrapper_closing settings.now.parts)) }
     ensures part { OnErr result (AppendsPart (K.written sink.old) (K.written sink.new) (wrapper_closing settings.now.parts)) }
-    ensures cause { HasCause (K.faults sink.old) (K.faults sink.new) result }
+    ensures cause { FaultHasCause (K.faults sink.old) (K.faults sink.new) result }
     ensures which { OnErr result (IsErrOf result WriteFault) }
 {
     match write_closing(sink, settings) {

@@ -7,7 +7,7 @@ ghost use Rattle.mig_canon.specs.CanonStream.{bare_guest};
 ghost use Rattle.mig_canon.specs.Batched.{batched};
 ghost use Rattle.mig_records_pages.specs.Told.{FrameTold, telling_frames, all_told};
 ghost use Rattle.mig_records_pages.specs.Batches.{AreSized};
-ghost use Rattle.mig_dirtysave_rounds.specs.Entries.{meant, AreTold};
+ghost use Rattle.mig_dirtysave_rounds.specs.Entries.{frames_meant, AreTold};
 ghost use Rattle.mig_dirtysave_rounds.specs.Live.{forms};
 
 /// Where the entries that a saver sent mean the frames of a valid and sound host, the canonical image of the host's view with
@@ -16,6 +16,6 @@ ghost use Rattle.mig_dirtysave_rounds.specs.Live.{forms};
 #[tactic(auto, using(crate::proofs::Viewed::saved_is_viewed))]
 pub fn saved_host_is_viewed()
     ensures { (h : HostOf) (batches : List (List FrameTold)) (rest : List ℕ) → IsValid h → IsSound h
-        → AreSized batches → AreTold h.kind h.width (all_told batches) → length batches ≤ 2 ^ 27 → meant (all_told batches) ≡ forms h.frames
+        → AreSized batches → AreTold h.kind h.width (all_told batches) → length batches ≤ 2 ^ 27 → frames_meant (all_told batches) ≡ forms h.frames
         → Accepted (batched (view h) (map telling_frames batches) ++ rest) (bare_guest (view h)) rest }
 {}

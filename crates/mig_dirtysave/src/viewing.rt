@@ -1,5 +1,5 @@
 ghost use Rattle.std.specs.Prelude.{◌≡◌, ◌≤◌, length, true, None, IfOk};
-ghost use Rattle.mig_bytes.specs.Faults.{HasCause};
+ghost use Rattle.mig_bytes.specs.Faults.{FaultHasCause};
 ghost use Rattle.mig_headers.specs.declared.kind.Kind.TheVariants.{Pv};
 ghost use Rattle.mig_host_view.specs.Sound.{unsoundness};
 ghost use Rattle.mig_dirtysave.specs.Paused.{standing_seen, HasTypes, first_in_tables, HoldsOf, first_around, with_view, OnlyLooksUp};
@@ -30,7 +30,7 @@ pub fn view_parts<M: Machine>(
     ensures seen { IfOk result (λ found. found ≡ None → guest.new ≡ with_view (M.state machine.old).host guest.old) }
     ensures looks { OnlyLooksUp (M.state machine.old) (M.state machine.new) }
     ensures later { M.Later machine.old machine.new }
-    ensures cause { HasCause (M.faults machine.old) (M.faults machine.new) result }
+    ensures cause { FaultHasCause (M.faults machine.old) (M.faults machine.new) result }
 {
     host_is_valid(machine);
     let found = judge(machine, guest, types, marks, tables)?;

@@ -1,7 +1,7 @@
 ghost use Rattle.std.specs.Prelude.{◌+◌, ◌≤◌, length, [], ◌∷◌, ◌++◌, OnOk, OnErr};
 ghost use Rattle.std.specs.Io.KnownBytes.{Appends};
 ghost use Rattle.mig_bytes.specs.Bytes.{Puts};
-ghost use Rattle.mig_bytes.specs.Faults.{HasCause};
+ghost use Rattle.mig_bytes.specs.Faults.{FaultHasCause};
 ghost use Rattle.mig_headers.specs.RecordTypes.{most_body};
 ghost use Rattle.mig_guest.specs.Formed.{IsFormed};
 ghost use Rattle.mig_records.specs.Records.{spelled, text_of};
@@ -24,7 +24,7 @@ pub(crate) const HVM_CONTEXT: u32 = 9;
 pub fn write_before<K: Sink>(sink: &mut K, early: &Guest) -> Result<(), WriteFailed>
     requires { IsFormed early.now }
     ensures bytes { Puts (text_before early.now) (K.written sink.old) (K.written sink.new) result }
-    ensures cause { HasCause (K.faults sink.old) (K.faults sink.new) result }
+    ensures cause { FaultHasCause (K.faults sink.old) (K.faults sink.new) result }
 {
     write_headers(sink, early.kind())?;
     write_info(sink, early)?;
@@ -36,7 +36,7 @@ pub fn write_before<K: Sink>(sink: &mut K, early: &Guest) -> Result<(), WriteFai
 fn write_context<K: Sink>(sink: &mut K, front: &[u8]) -> Result<(), WriteFailed>
     requires { length front.now + 8 ≤ most_body }
     ensures bytes { Puts (spelled 9 (context_record front.now).1) (K.written sink.old) (K.written sink.new) result }
-    ensures cause { HasCause (K.faults sink.old) (K.faults sink.new) result }
+    ensures cause { FaultHasCause (K.faults sink.old) (K.faults sink.new) result }
 {
     let len = front.len() as u32 + 8;
     write_head(sink, HVM_CONTEXT, len)?;
@@ -50,7 +50,7 @@ fn write_behind<K: Sink>(sink: &mut K, settings: &Guest, front: &[u8]) -> Result
     requires formed { IsFormed settings.now }
     requires short { length front.now + 8 ≤ most_body }
     ensures bytes { Puts (text_of (closing_records settings.now front.now)) (K.written sink.old) (K.written sink.new) result }
-    ensures cause { HasCause (K.faults sink.old) (K.faults sink.new) result }
+    ensures cause { FaultHasCause (K.faults sink.old) (K.faults sink.new) result }
 {
     write_codes(sink, settings, &[PartCode::Tsc, PartCode::HvmParam])?;
     write_context(sink, front)
@@ -62,7 +62,7 @@ pub fn write_last<K: Sink>(sink: &mut K, settings: &Guest, front: &[u8]) -> Resu
     requires short { length front.now + 8 ≤ most_body }
     ensures closed { OnOk result (Appends (K.written sink.old) (K.written sink.new) (text_of (closing_records settings.now front.now ++ (0, []) ∷ []))) }
     ensures stops { OnErr result (StopsBehind (K.written sink.old) (K.written sink.new)) }
-    ensures cause { HasCause (K.faults sink.old) (K.faults sink.new) result }
+    ensures cause { FaultHasCause (K.faults sink.old) (K.faults sink.new) result }
 {
     write_behind(sink, settings, front)?;
     write_end(sink)
@@ -72,7 +72,7 @@ pub fn write_last<K: Sink>(sink: &mut K, settings: &Guest, front: &[u8]) -> Resu
 fn write_settings<K: Sink>(sink: &mut K, settings: &Guest) -> Result<(), WriteFailed>
     requires { IsFormed settings.now }
     ensures bytes { Puts (text_of (last_records Pv settings.now)) (K.written sink.old) (K.written sink.new) result }
-    ensures cause { HasCause (K.faults sink.old) (K.faults sink.new) result }
+    ensures cause { FaultHasCause (K.faults sink.old) (K.faults sink.new) result }
 {
     write_codes(sink, settings, &[PartCode::Tsc, PartCode::SharedInfo])?;
     write_vcpus(sink, settings)
@@ -83,7 +83,7 @@ pub fn write_pv_last<K: Sink>(sink: &mut K, settings: &Guest) -> Result<(), Writ
     requires { IsFormed settings.now }
     ensures closed { OnOk result (Appends (K.written sink.old) (K.written sink.new) (text_of (last_records Pv settings.now ++ (0, []) ∷ []))) }
     ensures stops { OnErr result (StopsBehind (K.written sink.old) (K.written sink.new)) }
-    ensures cause { HasCause (K.faults sink.old) (K.faults sink.new) result }
+    ensures cause { FaultHasCause (K.faults sink.old) (K.faults sink.new) result }
 {
     write_settings(sink, settings)?;
     write_end(sink)

@@ -1,5 +1,5 @@
 -- From the pause to the end, and the start.
-use Rattle.mig_dirtysave_rounds.proofs.Common.{arith, ◌≡◌, ℕ, ◌+◌, ◌<◌, ◌≤◌, List, [], ◌∷◌, ◌++◌, length, Bool, true, false, cond, Option, Some, None, refl, sym, ap, subst, ◌∙◌, inl, inr, append-nil, ◌||◌, ◌⊎◌, option_map, nat_cmp_total, cases_lt, nat_tests, fun_ext, HostOf, HostFrame, HostFrames, FrameTold, Pfns, no_pfns, joined, members, size, all_below, footprint, footprint_of, Since, History, nothing_asked, no_history, one_more, and_call, MachineState, IsValidState, LogTaken, Rounds, to_read, rounds_read, all_read, Worst, form_of_print, type_of_print, superpage_slot, lost_slot, judged, frame_sent, is_deferred, IsBelow, rest, entries_read, entries_read_before, meant, Notes, no_notes, Current, ReadsFront, SendsFront, IsWorst, within_set, super_of, lost_of, LiveSent, SavedSent, table_fault, worst_fault}
+use Rattle.mig_dirtysave_rounds.proofs.Common.{arith, ◌≡◌, ℕ, ◌+◌, ◌<◌, ◌≤◌, List, [], ◌∷◌, ◌++◌, length, Bool, true, false, cond, Option, Some, None, refl, sym, ap, subst, ◌∙◌, inl, inr, append-nil, ◌||◌, ◌⊎◌, option_map, nat_cmp_total, cases_lt, nat_tests, fun_ext, HostOf, HostFrame, HostFrames, FrameTold, Pfns, no_pfns, joined, members, size, all_below, footprint, footprint_of, Since, History, nothing_asked, no_history, one_more, and_call, MachineState, IsValidState, LogTaken, Rounds, to_read, rounds_read, all_read, Worst, form_of_print, type_of_print, superpage_slot, lost_slot, judged, frame_sent, is_deferred, IsBelow, rest, entries_read, entries_read_before, frames_meant, Notes, no_notes, Current, ReadsFront, SendsFront, IsWorst, within_set, super_of, lost_of, LiveSent, SavedSent, table_fault, worst_fault}
 use Rattle.std.specs.Ordering.{nat_cmp}
 use Rattle.std.specs.FinMap.{nat_cmp-IsAntisymmetric}
 use Rattle.mig_pvtables.proofs.EachValue.{get_each}
@@ -191,9 +191,9 @@ module _ (rounds : ℕ) (s t u v : MachineState) (set log : Pfns) (notes : Notes
         go true e = inside_good none q e
         go false e = outside_good h q e
 
-    means : v.honest ≡ true → worst_fault worst ≡ None → meant after ≡ forms v.host.frames
+    means : v.honest ≡ true → worst_fault worst ≡ None → frames_meant after ≡ forms v.host.frames
     means h none =
-        fin.same_map nat_cmp_total nat_cmp-IsAntisymmetric (meant after) (forms v.host.frames) (λ q.
+        fin.same_map nat_cmp_total nat_cmp-IsAntisymmetric (frames_meant after) (forms v.host.frames) (λ q.
         (in_the_end h).same q refl refl ∙ form_sent v.host.frames (fin.get v.host.frames q) (all_good h none q) ∙ sym (formed v.host.frames q))
 
     types : v.honest ≡ true → (q : ℕ) → now.types q ≡ type_in v.host.frames q

@@ -1,5 +1,5 @@
 -- What one more number does to the saver's invariant, and to a round.
-use Rattle.mig_dirtysave_rounds.proofs.Common.{arith, ◌≡◌, ℕ, suc, ◌+◌, ◌*◌, ◌^◌, ◌≤◌, ◌<◌, List, [], ◌∷◌, ◌++◌, length, Bool, true, false, cond, Option, Some, None, Result, Ok, Err, refl, sym, ap, subst, ◌∙◌, inl, inr, ⊎_elim, length-append, append-nil, ◌||◌, ◌==◌, ◌⊎◌, OnErr, nat_cmp_total, eqb-true, nat_tests, length-map, Kind, Pv, Hvm, FrameOf, HostOf, HostFrames, Pfns, no_pfns, members, size, with_pfn, Footprint, footprint, History, Since, nothing_asked, MachineState, Ran, table_of, superpage_in, lost_in, form_of_print, type_of_print, Worst, Finding, judge, judged, found_as, frame_sent, is_deferred, type_found, CanBeTold, ReadsOne, Strays, most_calls, rest, entries_read, entries_read_before, meant, AreTold, IsBehind, FrameTold, Notes, Current, noted, behind_anyway, ReadsFront, SendsFront, IsWorst, or_first, within_set, place, super_of, lost_of, size-le, size_more, size_stays}
+use Rattle.mig_dirtysave_rounds.proofs.Common.{arith, ◌≡◌, ℕ, suc, ◌+◌, ◌*◌, ◌^◌, ◌≤◌, ◌<◌, List, [], ◌∷◌, ◌++◌, length, Bool, true, false, cond, Option, Some, None, Result, Ok, Err, refl, sym, ap, subst, ◌∙◌, inl, inr, ⊎_elim, length-append, append-nil, ◌||◌, ◌==◌, ◌⊎◌, OnErr, nat_cmp_total, eqb-true, nat_tests, length-map, Kind, Pv, Hvm, FrameOf, HostOf, HostFrames, Pfns, no_pfns, members, size, with_pfn, Footprint, footprint, History, Since, nothing_asked, MachineState, Ran, table_of, superpage_in, lost_in, form_of_print, type_of_print, Worst, Finding, judge, judged, found_as, frame_sent, is_deferred, type_found, CanBeTold, ReadsOne, Strays, most_calls, rest, entries_read, entries_read_before, frames_meant, AreTold, IsBehind, FrameTold, Notes, Current, noted, behind_anyway, ReadsFront, SendsFront, IsWorst, or_first, within_set, place, super_of, lost_of, size-le, size_more, size_stays}
 use Rattle.std.proofs.Common.{map, append_assoc}
 use Rattle.std.specs.Cmp.{unsigned_tied}
 use Rattle.std.proofs.lemmas.List.{map-append}
@@ -22,8 +22,8 @@ pub got : (m : FrameMap) (p : ℕ) (f : Option FrameOf) (q : ℕ) → fin.get (p
 got m p None q = fin.get-remove nat_cmp_total m p q ∙ ap (λ b. cond b None (fin.get m q)) (unsigned_tied q p)
 got m p (Some f) q = fin.get-insert nat_cmp_total m p f q ∙ ap (λ b. cond b (Some f) (fin.get m q)) (unsigned_tied q p)
 
-meant_more : (es : List FrameTold) (p : ℕ) (f : Option FrameOf) (q : ℕ) → fin.get (meant (es ++ record { pfn = p; frame = f } ∷ [])) q ≡ cond (q == p) f (fin.get (meant es) q)
-meant_more es p f q = ap (λ m. fin.get m q) (fold-append put_told fin.empty es (record { pfn = p; frame = f } ∷ [])) ∙ got (meant es) p f q
+meant_more : (es : List FrameTold) (p : ℕ) (f : Option FrameOf) (q : ℕ) → fin.get (frames_meant (es ++ record { pfn = p; frame = f } ∷ [])) q ≡ cond (q == p) f (fin.get (frames_meant es) q)
+meant_more es p f q = ap (λ m. fin.get m q) (fold-append put_told fin.empty es (record { pfn = p; frame = f } ∷ [])) ∙ got (frames_meant es) p f q
 
 -- ---- the invariant
 
@@ -66,7 +66,7 @@ module _ (unread fewer log newer : Pfns) (notes : Notes) (frames after : HostFra
 
   pub current_more : Current fewer newer after (es ++ entry_for p j ∷ []) (noted p j notes)
   current_more = record {
-    same = λ q done calm. meant_more es p (frame_sent j) q ∙ one_at frame_sent (λ q. fin.get (meant es) q) c.same q done calm (q == p) refl;
+    same = λ q done calm. meant_more es p (frame_sent j) q ∙ one_at frame_sent (λ q. fin.get (frames_meant es) q) c.same q done calm (q == p) refl;
     kept = λ q done calm. one_at is_deferred notes.deferred c.kept q done calm (q == p) refl;
     types = λ q done calm. one_at type_found notes.types (λ q r l. c.types q r l ∙ sym (type_right (footprint frames q))) q done calm (q == p) refl ∙ type_right (footprint after q);
   }

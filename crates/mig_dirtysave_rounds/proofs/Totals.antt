@@ -1,5 +1,5 @@
 -- How much is read in all, and how many records that makes.
-use Rattle.mig_dirtysave_rounds.proofs.Common.{arith, ◌≡◌, ℕ, zero, suc, ◌+◌, ◌*◌, ◌≤◌, ◌^◌, List, [], ◌∷◌, length, Option, false, sym, ap, subst, ◌∙◌, append-nil, length-append, nat_tests, length-map, Kind, PageType, FrameTold, IsSent, nothing_sent, Pfns, size, members, all_below, pfns_of_words, History, LogTook, no_history, MachineState, IsValidState, Rounds, rounds_read, all_read, Worst, IsBelow, entries_read, entries_read_before, AreTold, meant, Notes, notes_of, LiveSent, SendsRounds, SavedSent, worst_fault, FramesSaved, IsUnused, size-le}
+use Rattle.mig_dirtysave_rounds.proofs.Common.{arith, ◌≡◌, ℕ, zero, suc, ◌+◌, ◌*◌, ◌≤◌, ◌^◌, List, [], ◌∷◌, length, Option, false, sym, ap, subst, ◌∙◌, append-nil, length-append, nat_tests, length-map, Kind, PageType, FrameTold, IsSent, nothing_sent, Pfns, size, members, all_below, pfns_of_words, History, LogTook, no_history, MachineState, IsValidState, Rounds, rounds_read, all_read, Worst, IsBelow, entries_read, entries_read_before, AreTold, frames_meant, Notes, notes_of, LiveSent, SendsRounds, SavedSent, worst_fault, FramesSaved, IsUnused, size-le}
 use Rattle.std.proofs.Math.Nat.{suc-mul}
 use Rattle.mig_records_pages.specs.Told.{all_told}
 use Rattle.mig_records_pages.specs.Batches.{AreSized, AreFull}
@@ -79,7 +79,7 @@ frames_saved start now flushes v worst notes sent r wide few s saved = record {
   count = all_read_is v.host.width v.history (all_told s.batches) order;
   order = order;
   told = subst (AreTold v.host.kind v.host.width) is saved.told;
-  means = λ h none. ap meant (sym is) ∙ saved.means h none;
+  means = λ h none. ap frames_meant (sym is) ∙ saved.means h none;
 }
   where
     is : sent ≡ all_told s.batches

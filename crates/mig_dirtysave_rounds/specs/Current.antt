@@ -8,7 +8,7 @@ use Rattle.mig_guest.specs.Pfns.{Pfns, pfns_of_words}
 use Rattle.mig_guest.specs.Footprints.{footprint}
 use Rattle.mig_dirtysave_rounds.specs.Forms.{type_of_print}
 use Rattle.mig_dirtysave_rounds.specs.Findings.{Finding, judged, frame_sent, is_deferred, type_found}
-use Rattle.mig_dirtysave_rounds.specs.Entries.{meant}
+use Rattle.mig_dirtysave_rounds.specs.Entries.{frames_meant}
 
 -- what is kept in mind of each PFN: whether its table is deferred, and the type that was seen last
 pub record Notes : Type 0 where
@@ -33,6 +33,6 @@ noted p found notes = record {
 -- Of each PFN that is neither unread in this round nor in the log: the last entry is what its footprint says now; it is
 -- deferred exactly where no stream can have its frame as it is now; and the type that was seen last is its frame's type now.
 pub record Current (unread log : Pfns) (frames : HostFrames) (sent : List FrameTold) (notes : Notes) : Type 0 where
-  pub same : (q : ℕ) → unread q ≡ false → log q ≡ false → maps.get (meant sent) q ≡ frame_sent (judged (footprint frames q))
+  pub same : (q : ℕ) → unread q ≡ false → log q ≡ false → maps.get (frames_meant sent) q ≡ frame_sent (judged (footprint frames q))
   pub kept : (q : ℕ) → unread q ≡ false → log q ≡ false → notes.deferred q ≡ is_deferred (judged (footprint frames q))
   pub types : (q : ℕ) → unread q ≡ false → log q ≡ false → notes.types q ≡ type_of_print (footprint frames q)

@@ -28,8 +28,8 @@ abbrev pub put_told : FrameMap → FrameTold → FrameMap
 put_told frames t = put_at frames t.pfn t.frame
 
 -- the frames that entries leave, taken in order: of each PFN the last entry decides
-abbrev pub meant : List FrameTold → FrameMap
-meant ts = fold put_told maps.empty ts
+abbrev pub frames_meant : List FrameTold → FrameMap
+frames_meant ts = fold put_told maps.empty ts
 
 -- the PFNs that entries name, in order
 abbrev pub pfns_sent : List FrameTold → List ℕ

@@ -19,7 +19,7 @@ use Rattle.mig_guest.specs.Rounds.{OfEachLog, GoesOn, AreCalls, Rounds, Tight, t
 use Rattle.mig_dirtysave_rounds.specs.declared.found.Worst.{Worst}
 use Rattle.mig_dirtysave_rounds.specs.Forms.{form_of_print, superpage_slot, lost_slot}
 use Rattle.mig_dirtysave_rounds.specs.Parts.{entries_read}
-use Rattle.mig_dirtysave_rounds.specs.Entries.{meant, pfns_sent, AreTold}
+use Rattle.mig_dirtysave_rounds.specs.Entries.{frames_meant, pfns_sent, AreTold}
 use Rattle.mig_dirtysave_rounds.specs.Current.{Notes, Current}
 use Rattle.mig_dirtysave_rounds.specs.Sends.{first_pfn}
 
@@ -124,7 +124,7 @@ pub record SavedSent (t : MachineState) (sent : List FrameTold) (worst : Worst) 
   pub first : t.honest ≡ true → worst_fault worst ≡ tables_unsound t.host.frames t.host.width
   pub types : t.honest ≡ true → (p : ℕ) → notes.types p ≡ type_in t.host.frames p
   pub tight : t.honest ≡ true → worst_fault worst ≡ None → Tight t.host.kind t.host.width t.history
-  pub means : t.honest ≡ true → worst_fault worst ≡ None → meant sent ≡ forms t.host.frames
+  pub means : t.honest ≡ true → worst_fault worst ≡ None → frames_meant sent ≡ forms t.host.frames
 
 -- from s, behind so many rounds, to t the last entries were sent
 abbrev pub SendsLast : ℕ → MachineState → MachineState → Pfns → Option (List ℕ) → Option (List ℕ) → Notes → Notes → Worst → Type 0
@@ -141,7 +141,7 @@ pub record FramesSaved (old new : Option (List ℕ)) (t : MachineState) (unsound
   pub count : length (all_told batches) ≡ entries_read t.host.width t.history
   pub order : pfns_sent (all_told batches) ≡ all_read t.host.width t.history
   pub told : AreTold t.host.kind t.host.width (all_told batches)
-  pub means : t.honest ≡ true → unsound ≡ None → meant (all_told batches) ≡ forms t.host.frames
+  pub means : t.honest ≡ true → unsound ≡ None → frames_meant (all_told batches) ≡ forms t.host.frames
 
 -- over an honest machine each type that was kept in mind is the type of the frame
 abbrev pub SawTypes : List (Option PageType) → MachineState → Type 0

@@ -1,5 +1,5 @@
 ghost use Rattle.std.specs.Prelude.{◌≡◌, ◌+◌, ◌*◌, ◌/◌, ◌^◌, ◌≤◌, [], length, true, false, OnOk, OnErr, IfOk, IsErrOf, Some, None};
-ghost use Rattle.mig_bytes.specs.Faults.{HasCause};
+ghost use Rattle.mig_bytes.specs.Faults.{FaultHasCause};
 ghost use Rattle.mig_guest.specs.Hosts.{most_saved_width};
 ghost use Rattle.mig_headers.specs.declared.unsound.Unsound.{Unsound};
 ghost use Rattle.mig_records_pages.specs.Batches.{IsBehind};
@@ -104,7 +104,7 @@ fn run_rounds<M: Machine, K: Sink>(
 fn stop<M: Machine>(machine: &mut M) -> Result<(), SendFault>
     ensures ok { OnOk result (Paused (M.state machine.old) (M.state machine.new)) }
     ensures later { M.Later machine.old machine.new }
-    ensures cause { HasCause (M.faults machine.old) (M.faults machine.new) result }
+    ensures cause { FaultHasCause (M.faults machine.old) (M.faults machine.new) result }
     ensures stays { OnErr result (Stays (M.state machine.old) (M.state machine.new)) }
     ensures which { ¬ IsErrOf result WriteFault }
 {

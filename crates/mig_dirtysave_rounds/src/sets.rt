@@ -1,5 +1,5 @@
 ghost use Rattle.std.specs.Prelude.{◌≡◌, ◌+◌, ◌/◌, ◌<◌, length, OnOk, OnErr, IsErrOf};
-ghost use Rattle.mig_bytes.specs.Faults.{HasCause};
+ghost use Rattle.mig_bytes.specs.Faults.{FaultHasCause};
 ghost use Rattle.mig_guest.specs.Pfns.{pfns_of_words, joined};
 ghost use Rattle.mig_guest.specs.MachineCalls.{LogTaken};
 ghost use Rattle.mig_guest.specs.MachineStates.{Stays};
@@ -15,7 +15,7 @@ pub(crate) fn take_set<M: Machine>(machine: &mut M, set: &mut [u64]) -> Result<(
     requires few { length (M.state machine.old).history.taken < 8 }
     ensures ok { OnOk result (LogTaken (pfns_of_words set.new) (M.state machine.old) (M.state machine.new)) }
     ensures later { M.Later machine.old machine.new }
-    ensures cause { HasCause (M.faults machine.old) (M.faults machine.new) result }
+    ensures cause { FaultHasCause (M.faults machine.old) (M.faults machine.new) result }
     ensures stays { OnErr result (Stays (M.state machine.old) (M.state machine.new)) }
     ensures which { ¬ IsErrOf result WriteFault }
 {
@@ -37,7 +37,7 @@ pub(crate) fn take_more<M: Machine>(
     ensures ok { OnOk result (LogTaken (pfns_of_words log.new) (M.state machine.old) (M.state machine.new)) }
     ensures set { OnOk result (pfns_of_words set.new ≡ joined (pfns_of_words set.old) (pfns_of_words log.new)) }
     ensures later { M.Later machine.old machine.new }
-    ensures cause { HasCause (M.faults machine.old) (M.faults machine.new) result }
+    ensures cause { FaultHasCause (M.faults machine.old) (M.faults machine.new) result }
     ensures stays { OnErr result (Stays (M.state machine.old) (M.state machine.new)) }
     ensures which { ¬ IsErrOf result WriteFault }
 {

@@ -1,5 +1,5 @@
 ghost use Rattle.std.specs.Prelude.{◌<◌, IfOk, IsErrOf};
-ghost use Rattle.mig_bytes.specs.Faults.{HasCause};
+ghost use Rattle.mig_bytes.specs.Faults.{FaultHasCause};
 ghost use Rattle.mig_dirtysave_rounds.specs.Findings.{found_as};
 ghost use Rattle.mig_dirtysave_rounds.specs.Step.{ReadsOne, Strays};
 ghost use Rattle.mig_dirtysave_rounds.specs.Live.{KeepsShape};
@@ -20,7 +20,7 @@ pub(crate) fn read_one<M: Machine>(
     ensures asked { Strays pfn (M.state machine.old).history (M.state machine.new).history }
     ensures kept { KeepsShape (M.state machine.old) (M.state machine.new) }
     ensures later { M.Later machine.old machine.new }
-    ensures cause { HasCause (M.faults machine.old) (M.faults machine.new) result }
+    ensures cause { FaultHasCause (M.faults machine.old) (M.faults machine.new) result }
     ensures which { ¬ IsErrOf result WriteFault }
 {
     match machine.peek(pfn, page) {

@@ -1,5 +1,5 @@
 ghost use Rattle.std.specs.Prelude.{◌≡◌, ◌<◌, ◌≤◌, OnOk, IfOk, IsErrOf, Some};
-ghost use Rattle.mig_bytes.specs.Faults.{HasCause};
+ghost use Rattle.mig_bytes.specs.Faults.{FaultHasCause};
 ghost use Rattle.mig_pagetypes.specs.PageTypes.{level_of};
 ghost use Rattle.mig_guest.specs.Tables.{entry as what_is_said};
 ghost use Rattle.mig_guest.specs.Footprints.{names_in};
@@ -31,7 +31,7 @@ fn rename_slot<M: Machine>(
     ensures lost { IfOk result (λ lost. lost ≡ lost_at level page.old (names_in (M.state machine.new).host.frames (Some (level, page.old))) slot) }
     ensures inside { OnOk result (NameIsInside (M.state machine.new) level page.old slot) }
     ensures later { M.Later machine.old machine.new }
-    ensures cause { HasCause (M.faults machine.old) (M.faults machine.new) result }
+    ensures cause { FaultHasCause (M.faults machine.old) (M.faults machine.new) result }
     ensures which { ¬ IsErrOf result WriteFault }
 {
     match entry(page, level, slot) {
@@ -67,7 +67,7 @@ fn rename<M: Machine>(
     ensures raw { IsRaw (M.state machine.new) pfn kind level page.old }
     ensures page { IfOk result (λ lost. IsRenamed (M.state machine.new) pfn level page.old page.new lost) }
     ensures later { M.Later machine.old machine.new }
-    ensures cause { HasCause (M.faults machine.old) (M.faults machine.new) result }
+    ensures cause { FaultHasCause (M.faults machine.old) (M.faults machine.new) result }
     ensures which { ¬ IsErrOf result WriteFault }
 {
     for slot in 0..512 {
@@ -95,7 +95,7 @@ pub(crate) fn read_table<M: Machine>(
     ensures shows { IfOk result (ShowsOnly kind) }
     ensures within { IfOk result (λ found. NamesWithin (M.state machine.new).host.width (frame_sent (found_as found page.new))) }
     ensures later { M.Later machine.old machine.new }
-    ensures cause { HasCause (M.faults machine.old) (M.faults machine.new) result }
+    ensures cause { FaultHasCause (M.faults machine.old) (M.faults machine.new) result }
     ensures which { ¬ IsErrOf result WriteFault }
 {
     match superpage_slot(page, level) {

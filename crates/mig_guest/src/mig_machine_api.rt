@@ -1,7 +1,7 @@
 ghost use Rattle.std.specs.Prelude.{◌≡◌, ℕ, ◌+◌, ◌/◌, ◌<◌, ◌≤◌, length, OnOk, OnErr, IfOk, IfSome, None, if◌then◌else◌};
 ghost use Rattle.std.specs.Option.{option_copied};
 ghost use Rattle.std.specs.FinMap as maps;
-ghost use Rattle.mig_bytes.specs.Faults.{HasCause};
+ghost use Rattle.mig_bytes.specs.Faults.{FaultHasCause};
 ghost use Rattle.mig_guest.specs.declared.part_key.PartKey.{PartKey};
 ghost use Rattle.mig_guest.specs.Hosts.{most_saved_width, pfn_in};
 ghost use Rattle.mig_guest.specs.Parts.{NextKey};
@@ -68,7 +68,7 @@ pub trait Machine {
         ensures err { OnErr result (Stays (state self.old) (state self.new)) }
         ensures valid { IsValidState (state self.new) }
         ensures later { Later self.old self.new }
-        ensures cause { HasCause (faults self.old) (faults self.new) result };
+        ensures cause { FaultHasCause (faults self.old) (faults self.new) result };
 
     /// The frame number that has this machine frame when the call ends.
     fn pfn_of(&mut self, mfn: u64) -> Result<Option<u64>, Failed>
@@ -78,7 +78,7 @@ pub trait Machine {
         ensures err { OnErr result (Stays (state self.old) (state self.new)) }
         ensures valid { IsValidState (state self.new) }
         ensures later { Later self.old self.new }
-        ensures cause { HasCause (faults self.old) (faults self.new) result };
+        ensures cause { FaultHasCause (faults self.old) (faults self.new) result };
 
     /// Takes the log: bit p mod 64 of word p / 64 tells whether p was in it. It is then empty.
     fn take_log(&mut self, bits: &mut [u64]) -> Result<(), Failed>
@@ -88,7 +88,7 @@ pub trait Machine {
         ensures err { OnErr result (Stays (state self.old) (state self.new)) }
         ensures valid { IsValidState (state self.new) }
         ensures later { Later self.old self.new }
-        ensures cause { HasCause (faults self.old) (faults self.new) result };
+        ensures cause { FaultHasCause (faults self.old) (faults self.new) result };
 
     /// Stops the guest: from then on the host stays as it is.
     fn pause(&mut self) -> Result<(), Failed>
@@ -96,7 +96,7 @@ pub trait Machine {
         ensures err { OnErr result (Stays (state self.old) (state self.new)) }
         ensures valid { IsValidState (state self.new) }
         ensures later { Later self.old self.new }
-        ensures cause { HasCause (faults self.old) (faults self.new) result };
+        ensures cause { FaultHasCause (faults self.old) (faults self.new) result };
 
     /// Each machine is later than itself.
     ghost later_self: { (machine : Self) → Later machine machine };

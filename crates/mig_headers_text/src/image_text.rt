@@ -1,5 +1,5 @@
 ghost use Rattle.mig_bytes.specs.Bytes.{Puts};
-ghost use Rattle.mig_bytes.specs.Faults.{HasCause};
+ghost use Rattle.mig_bytes.specs.Faults.{FaultHasCause};
 ghost use Rattle.mig_headers.specs.CauseNumbers.{number_of_image_cause};
 ghost use Rattle.mig_headers_text.specs.ImageTexts.{name_of_image_cause, arguments_of_image_cause, text_of_image_cause, text_of_image_place};
 
@@ -41,7 +41,7 @@ impl Printed for ImageCause {
 /// Writes a place of a guest image's refusal as it is printed.
 pub fn put_image_place<K: Sink>(sink: &mut K, place: ImagePlace) -> Result<(), WriteFailed>
     ensures bytes { Puts (text_of_image_place place) (K.written sink.old) (K.written sink.new) result }
-    ensures cause { HasCause (K.faults sink.old) (K.faults sink.new) result }
+    ensures cause { FaultHasCause (K.faults sink.old) (K.faults sink.new) result }
 {
     match place {
         ImagePlace::Head => put_all(sink, b"Head"),
@@ -55,7 +55,7 @@ pub fn put_image_place<K: Sink>(sink: &mut K, place: ImagePlace) -> Result<(), W
 /// space.
 pub fn put_image_cause<K: Sink>(sink: &mut K, cause: ImageCause) -> Result<(), WriteFailed>
     ensures bytes { Puts (text_of_image_cause cause) (K.written sink.old) (K.written sink.new) result }
-    ensures cause { HasCause (K.faults sink.old) (K.faults sink.new) result }
+    ensures cause { FaultHasCause (K.faults sink.old) (K.faults sink.new) result }
 {
     put_words(sink, cause)
 }

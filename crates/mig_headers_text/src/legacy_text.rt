@@ -1,5 +1,5 @@
 ghost use Rattle.mig_bytes.specs.Bytes.{Puts};
-ghost use Rattle.mig_bytes.specs.Faults.{HasCause};
+ghost use Rattle.mig_bytes.specs.Faults.{FaultHasCause};
 ghost use Rattle.mig_headers.specs.CauseNumbers.{number_of_legacy_cause};
 ghost use Rattle.mig_headers_text.specs.LegacyTexts.{name_of_legacy_cause, arguments_of_legacy_cause, text_of_legacy_cause, text_of_legacy_place};
 
@@ -46,7 +46,7 @@ impl Printed for LegacyCause {
 /// Writes a place of a legacy stream's refusal as it is printed.
 pub fn put_legacy_place<K: Sink>(sink: &mut K, place: LegacyPlace) -> Result<(), WriteFailed>
     ensures bytes { Puts (text_of_legacy_place place) (K.written sink.old) (K.written sink.new) result }
-    ensures cause { HasCause (K.faults sink.old) (K.faults sink.new) result }
+    ensures cause { FaultHasCause (K.faults sink.old) (K.faults sink.new) result }
 {
     match place {
         LegacyPlace::Start => put_all(sink, b"Start"),
@@ -60,7 +60,7 @@ pub fn put_legacy_place<K: Sink>(sink: &mut K, place: LegacyPlace) -> Result<(),
 /// space.
 pub fn put_legacy_cause<K: Sink>(sink: &mut K, cause: LegacyCause) -> Result<(), WriteFailed>
     ensures bytes { Puts (text_of_legacy_cause cause) (K.written sink.old) (K.written sink.new) result }
-    ensures cause { HasCause (K.faults sink.old) (K.faults sink.new) result }
+    ensures cause { FaultHasCause (K.faults sink.old) (K.faults sink.new) result }
 {
     put_words(sink, cause)
 }

@@ -2,7 +2,7 @@
 
 ghost use Rattle.std.specs.Prelude.{◌≡◌, ℕ, List, [], ◌∷◌, ◌++◌, codes, decimal};
 ghost use Rattle.mig_bytes.specs.Bytes.{Puts};
-ghost use Rattle.mig_bytes.specs.Faults.{HasCause};
+ghost use Rattle.mig_bytes.specs.Faults.{FaultHasCause};
 ghost use Rattle.mig_headers_text.specs.Arguments.{argument_texts};
 ghost use Rattle.mig_headers.specs.CauseNumbers.{number_of_cause};
 ghost use Rattle.mig_headers_text.specs.Texts.{name_of, arguments_of, words_of_context, spaced, text_of_cause, text_of_place};
@@ -25,7 +25,7 @@ impl Arguments {
     /// Writes each after a space.
     fn put<K: Sink>(self, sink: &mut K) -> Result<(), WriteFailed>
         ensures bytes { Puts (spaced (argument_texts self)) (K.written sink.old) (K.written sink.new) result }
-        ensures cause { HasCause (K.faults sink.old) (K.faults sink.new) result }
+        ensures cause { FaultHasCause (K.faults sink.old) (K.faults sink.new) result }
     {
         match self {
             Arguments::Nothing => Ok(()),
@@ -113,7 +113,7 @@ impl Printed for Cause {
 /// Writes a place of a refusal as it is printed.
 pub fn put_place<K: Sink>(sink: &mut K, place: Place) -> Result<(), WriteFailed>
     ensures bytes { Puts (text_of_place place) (K.written sink.old) (K.written sink.new) result }
-    ensures cause { HasCause (K.faults sink.old) (K.faults sink.new) result }
+    ensures cause { FaultHasCause (K.faults sink.old) (K.faults sink.new) result }
 {
     match place {
         Place::ImageHeader => put_all(sink, b"ImageHeader"),
@@ -131,7 +131,7 @@ pub(crate) fn put_numbered<K: Sink>(
     number: u64,
 ) -> Result<(), WriteFailed>
     ensures bytes { Puts (name.now ++ decimal number) (K.written sink.old) (K.written sink.new) result }
-    ensures cause { HasCause (K.faults sink.old) (K.faults sink.new) result }
+    ensures cause { FaultHasCause (K.faults sink.old) (K.faults sink.new) result }
 {
     put_all(sink, name)?;
     put_number(sink, number)
@@ -140,7 +140,7 @@ pub(crate) fn put_numbered<K: Sink>(
 /// Writes a cause as it is printed: its number, its name and its arguments, parted by one space.
 pub fn put_cause<K: Sink>(sink: &mut K, cause: Cause) -> Result<(), WriteFailed>
     ensures bytes { Puts (text_of_cause cause) (K.written sink.old) (K.written sink.new) result }
-    ensures cause { HasCause (K.faults sink.old) (K.faults sink.new) result }
+    ensures cause { FaultHasCause (K.faults sink.old) (K.faults sink.new) result }
 {
     put_words(sink, cause)
 }
@@ -148,7 +148,7 @@ pub fn put_cause<K: Sink>(sink: &mut K, cause: Cause) -> Result<(), WriteFailed>
 /// Writes a number, a name and arguments, parted by one space.
 pub(crate) fn put_words<K: Sink, C: Printed>(sink: &mut K, cause: C) -> Result<(), WriteFailed>
     ensures bytes { Puts (decimal (C.number_told cause) ++ spaced (C.name_told cause ∷ C.arguments_told cause)) (K.written sink.old) (K.written sink.new) result }
-    ensures cause { HasCause (K.faults sink.old) (K.faults sink.new) result }
+    ensures cause { FaultHasCause (K.faults sink.old) (K.faults sink.new) result }
 {
     let (number, name, arguments) = cause.words();
     put_number(sink, number)?;
@@ -162,7 +162,7 @@ fn put_name_and_arguments<K: Sink>(
     arguments: Arguments,
 ) -> Result<(), WriteFailed>
     ensures bytes { Puts (spaced (name.now ∷ argument_texts arguments)) (K.written sink.old) (K.written sink.new) result }
-    ensures cause { HasCause (K.faults sink.old) (K.faults sink.new) result }
+    ensures cause { FaultHasCause (K.faults sink.old) (K.faults sink.new) result }
 {
     put_word(sink, name)?;
     arguments.put(sink)
@@ -171,7 +171,7 @@ fn put_name_and_arguments<K: Sink>(
 /// Writes what is wrong with a context, each word after a space.
 fn put_context_fault<K: Sink>(sink: &mut K, fault: ContextFault) -> Result<(), WriteFailed>
     ensures bytes { Puts (spaced (words_of_context fault)) (K.written sink.old) (K.written sink.new) result }
-    ensures cause { HasCause (K.faults sink.old) (K.faults sink.new) result }
+    ensures cause { FaultHasCause (K.faults sink.old) (K.faults sink.new) result }
 {
     match fault {
         ContextFault::NoHeader => put_word(sink, "NoHeader"),
@@ -184,7 +184,7 @@ fn put_context_fault<K: Sink>(sink: &mut K, fault: ContextFault) -> Result<(), W
 /// Writes a name and a number, each after a space.
 fn put_fault<K: Sink>(sink: &mut K, name: &str, number: u64) -> Result<(), WriteFailed>
     ensures bytes { Puts (spaced (name.now ∷ decimal number ∷ [])) (K.written sink.old) (K.written sink.new) result }
-    ensures cause { HasCause (K.faults sink.old) (K.faults sink.new) result }
+    ensures cause { FaultHasCause (K.faults sink.old) (K.faults sink.new) result }
 {
     put_word(sink, name)?;
     put_spaced_number(sink, number)
@@ -193,7 +193,7 @@ fn put_fault<K: Sink>(sink: &mut K, name: &str, number: u64) -> Result<(), Write
 /// Writes two numbers, each after a space.
 fn put_two<K: Sink>(sink: &mut K, a: u64, b: u64) -> Result<(), WriteFailed>
     ensures bytes { Puts (spaced (decimal a ∷ decimal b ∷ [])) (K.written sink.old) (K.written sink.new) result }
-    ensures cause { HasCause (K.faults sink.old) (K.faults sink.new) result }
+    ensures cause { FaultHasCause (K.faults sink.old) (K.faults sink.new) result }
 {
     put_spaced_number(sink, a)?;
     put_spaced_number(sink, b)
@@ -202,7 +202,7 @@ fn put_two<K: Sink>(sink: &mut K, a: u64, b: u64) -> Result<(), WriteFailed>
 /// Writes three numbers, each after a space.
 fn put_three<K: Sink>(sink: &mut K, a: u64, b: u64, c: u64) -> Result<(), WriteFailed>
     ensures bytes { Puts (spaced (decimal a ∷ decimal b ∷ decimal c ∷ [])) (K.written sink.old) (K.written sink.new) result }
-    ensures cause { HasCause (K.faults sink.old) (K.faults sink.new) result }
+    ensures cause { FaultHasCause (K.faults sink.old) (K.faults sink.new) result }
 {
     put_spaced_number(sink, a)?;
     put_two(sink, b, c)
@@ -211,7 +211,7 @@ fn put_three<K: Sink>(sink: &mut K, a: u64, b: u64, c: u64) -> Result<(), WriteF
 /// Writes a number after a space.
 fn put_spaced_number<K: Sink>(sink: &mut K, number: u64) -> Result<(), WriteFailed>
     ensures bytes { Puts (codes " " ++ decimal number) (K.written sink.old) (K.written sink.new) result }
-    ensures cause { HasCause (K.faults sink.old) (K.faults sink.new) result }
+    ensures cause { FaultHasCause (K.faults sink.old) (K.faults sink.new) result }
 {
     put_all(sink, b" ")?;
     put_number(sink, number)
@@ -220,7 +220,7 @@ fn put_spaced_number<K: Sink>(sink: &mut K, number: u64) -> Result<(), WriteFail
 /// Writes a word after a space.
 fn put_word<K: Sink>(sink: &mut K, word: &str) -> Result<(), WriteFailed>
     ensures bytes { Puts (codes " " ++ word.now) (K.written sink.old) (K.written sink.new) result }
-    ensures cause { HasCause (K.faults sink.old) (K.faults sink.new) result }
+    ensures cause { FaultHasCause (K.faults sink.old) (K.faults sink.new) result }
 {
     put_all(sink, b" ")?;
     put_all(sink, word.as_bytes())
@@ -229,7 +229,7 @@ fn put_word<K: Sink>(sink: &mut K, word: &str) -> Result<(), WriteFailed>
 /// Writes a number in decimal digits.
 pub fn put_number<K: Sink>(sink: &mut K, number: u64) -> Result<(), WriteFailed>
     ensures bytes { Puts (decimal number) (K.written sink.old) (K.written sink.new) result }
-    ensures cause { HasCause (K.faults sink.old) (K.faults sink.new) result }
+    ensures cause { FaultHasCause (K.faults sink.old) (K.faults sink.new) result }
 {
     let mut digits = Buffer::new();
     put_all(sink, digits.format(number).as_bytes())

@@ -1,5 +1,5 @@
 ghost use Rattle.mig_bytes.specs.Bytes.{Puts};
-ghost use Rattle.mig_bytes.specs.Faults.{HasCause};
+ghost use Rattle.mig_bytes.specs.Faults.{FaultHasCause};
 ghost use Rattle.mig_headers_text.specs.UnsoundTexts.{number_of_unsound, name_of_unsound, arguments_of_unsound, text_of_unsound};
 
 use crate::text::{Arguments, Printed, put_words};
@@ -29,7 +29,7 @@ impl Printed for Unsound {
 /// Writes why a host isn't sound as it is printed: its number, its name and its arguments, parted by one space.
 pub fn put_unsound<K: Sink>(sink: &mut K, unsound: Unsound) -> Result<(), WriteFailed>
     ensures bytes { Puts (text_of_unsound unsound) (K.written sink.old) (K.written sink.new) result }
-    ensures cause { HasCause (K.faults sink.old) (K.faults sink.new) result }
+    ensures cause { FaultHasCause (K.faults sink.old) (K.faults sink.new) result }
 {
     put_words(sink, unsound)
 }

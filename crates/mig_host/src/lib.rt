@@ -2,7 +2,7 @@
 //!
 //! Responsible for: hosts (a frame number's type, page and machine frame, raw parts, and room for spare frames), which host
 //! a restored guest becomes, the changes of a host, whether a host can be seen as a guest and as which. Left to others: the
-//! map from machine frames (mig_host_m2p), and image files (mig_image). It knows nothing of streams.
+//! map from machine frames (mig_host_m2p), and guest images (mig_image). It knows nothing of streams.
 //!
 //! What the layers above rely on: a host is always valid, through each change too, and a change takes no memory; a restored
 //! guest is the host whose machine frames are counted up from the base, which is sound and is seen as this guest; and a

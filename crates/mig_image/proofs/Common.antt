@@ -26,7 +26,7 @@ pub use Rattle.mig_bytes.proofs.Said.{said_goes, said_passes}
 pub use Rattle.mig_bytes.proofs.Taking.{takes_more, takes_none}
 pub use Rattle.mig_bytes.proofs.Texts.{all_parted, flat_more, puts_same, puts_stop, puts_then}
 pub use Rattle.mig_bytes.specs.Bytes.{AppendsPart, AreBytes, Puts, TakesBytes, padding_len}
-pub use Rattle.mig_bytes.specs.Judged.{Gives, Judged, placed}
+pub use Rattle.mig_bytes.specs.Judged.{AgreesWithJudging, Judged, placed}
 pub use Rattle.mig_bytes.specs.Judged.Judged.{Passes}
 pub use Rattle.mig_bytes_form.proofs.ByParts.{both_go, bytes_go, bytes_gone, first_stops, gives_goes, gives_gone, nothing_read, placed_goes, placed_gone, placed_read, placed_stop, steps_at, steps_go, steps_read, then_goes, then_read, told_then}
 pub use Rattle.mig_bytes_form.proofs.Tests.{no_fault, rows_fine}
@@ -50,14 +50,14 @@ pub use Rattle.mig_headers.specs.declared.image_fault.ImagePlace.TheVariants.{Fr
 pub use Rattle.mig_headers.specs.declared.kind.Kind.{Kind}
 pub use Rattle.mig_headers.specs.declared.kind.Kind.TheVariants.{Hvm, Pv}
 pub use Rattle.mig_headers.specs.RecordTypes.{most_policy_entries, vcpu_limit}
-pub use Rattle.mig_image.specs.Answer.{BeginsWithImage, IsHost}
-pub use Rattle.mig_image.specs.declared.version.ImageVersion.{ImageVersion}
-pub use Rattle.mig_image.specs.declared.version.ImageVersion.TheVariants.{One, Two}
+pub use Rattle.mig_image.specs.Answer.{BeginsWithGuestImage, IsHost}
+pub use Rattle.mig_image.specs.declared.version.GuestImageVersion.{GuestImageVersion}
+pub use Rattle.mig_image.specs.declared.version.GuestImageVersion.TheVariants.{One, Two}
 pub use Rattle.mig_host.specs.HostView.{HostAndSpare, has_machine, put_frame, put_part_in}
-pub use Rattle.mig_image.specs.Image.{IsHostImage, IsHostImageUpTo, frame_text, host_word, image_name, is_all_zero, is_left_out, leaves_out, most_width_of, page_left_out, page_text, part_text, pfn_bits, type_bit, zero_flag}
-pub use Rattle.mig_image.specs.ImageParts.{code_allows, code_fits, frame_said, has_frame_from, has_part_from, has_zero_flag, head_key, head_pfn, head_type, head_type_number, head_version, is_sent, name_number, opened, page_unsent, version_named}
-unfoldable pub use Rattle.mig_image.specs.ImageForm.{image_file_form}
-pub use Rattle.mig_image.specs.ImageForm.{behind_frames, behind_head, content_causes, part_bytes_form, count_form, frame_causes, frame_head_form, frames_form, full_policy, host_at, host_frame_form, host_head_causes, host_head_form, host_part_form, host_parts_form, padding_causes, padding_form, page_causes, page_form, part_causes, part_head_form, reserved_bits, sent_page_form}
+pub use Rattle.mig_image.specs.GuestImage.{IsGuestImage, IsGuestImageUpTo, frame_text, host_word, image_name, is_all_zero, is_left_out, leaves_out, most_width_of, page_left_out, page_text, part_text, pfn_bits, type_bit, zero_flag}
+pub use Rattle.mig_image.specs.GuestImageParts.{code_allows, code_fits, frame_said, has_frame_from, has_part_from, has_zero_flag, head_key, head_pfn, head_type, head_type_number, head_version, is_sent, name_number, opened, page_unsent, version_named}
+unfoldable pub use Rattle.mig_image.specs.GuestImageForm.{guest_image_form}
+pub use Rattle.mig_image.specs.GuestImageForm.{behind_frames, behind_head, content_causes, part_bytes_form, count_form, frame_causes, frame_head_form, frames_form, full_policy, host_at, host_frame_form, host_head_causes, host_head_form, host_part_form, host_parts_form, padding_causes, padding_form, page_causes, page_form, part_causes, part_head_form, reserved_bits, sent_page_form}
 pub use Rattle.mig_image.specs.PartCounts.{Counts}
 pub use Rattle.mig_pagetypes.specs.PageTypes.{all_types, number_of, type_has_data, type_of, type_or_none}
 pub use Rattle.mig_pagetypes.specs.declared.page_type.PageType.{PageType}

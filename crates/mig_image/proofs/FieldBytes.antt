@@ -1,5 +1,5 @@
 -- The bytes of a field are those of its number.
-use Rattle.mig_image.proofs.Common.{◌≡◌, ℕ, ◌+◌, ◌≤◌, List, ◌++◌, length, take, drop, sym, ap, ◌∙◌, arith, take-append-drop, drop-drop, length-drop, append_assoc, take_all, little_bytes, big_number, big_from-take, Bytes, field_size, field_below, word_back, long_back, ImageVersion, One, Two, image_name, name_number}
+use Rattle.mig_image.proofs.Common.{◌≡◌, ℕ, ◌+◌, ◌≤◌, List, ◌++◌, length, take, drop, sym, ap, ◌∙◌, arith, take-append-drop, drop-drop, length-drop, append_assoc, take_all, little_bytes, big_number, big_from-take, Bytes, field_size, field_below, word_back, long_back, GuestImageVersion, One, Two, image_name, name_number}
 use Rattle.std.specs.Int.{w64, from_be_bytes, to_be_bytes}
 use Rattle.std.proofs.lemmas.Nat.{be_bytes_8}
 use Rattle.mig_bytes.specs.Fields.{le32, le64, be64}
@@ -12,7 +12,7 @@ first_field n xs all long is =
     sum : (bs : List ℕ) → big_number 8 bs ≡ from_be_bytes w64 bs
     sum bs = omega arith
 
-name_back : (version : ImageVersion) (xs : List ℕ) → Bytes xs → 8 ≤ length xs → be64 xs 0 ≡ name_number version → image_name version ≡ take 8 xs
+name_back : (version : GuestImageVersion) (xs : List ℕ) → Bytes xs → 8 ≤ length xs → be64 xs 0 ≡ name_number version → image_name version ≡ take 8 xs
 name_back One xs all long is = first_field (name_number One) xs all long is
 name_back Two xs all long is = first_field (name_number Two) xs all long is
 
@@ -25,7 +25,7 @@ pub last : (n at : ℕ) (xs : List ℕ) → length xs ≡ at + n → take n (dro
 last n at xs size = take_all n (drop at xs) (omega (arith, size, length-drop at xs))
 
 module _ (xs : List ℕ) (all : Bytes xs) where
-  pub name_then : {tail : List ℕ} (version : ImageVersion) → 8 ≤ length xs → be64 xs 0 ≡ name_number version → tail ≡ drop 8 xs → image_name version ++ tail ≡ xs
+  pub name_then : {tail : List ℕ} (version : GuestImageVersion) → 8 ≤ length xs → be64 xs 0 ≡ name_number version → tail ≡ drop 8 xs → image_name version ++ tail ≡ xs
   name_then {tail} version long is more = field_then 8 0 xs (image_name version) tail (name_back version xs all long is) more
 
   pub word_then : {n : ℕ} {tail : List ℕ} (at : ℕ) → at + 4 ≤ length xs → n ≡ le32 xs at → tail ≡ drop (at + 4) xs → little_bytes 4 n ++ tail ≡ drop at xs

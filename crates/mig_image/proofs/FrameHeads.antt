@@ -1,10 +1,10 @@
 -- The head of a frame and its page: what they spell is read, and what is read they spell.
-use Rattle.mig_image.proofs.Common.{◌≡◌, ℕ, ◌+◌, ◌*◌, ◌/◌, ◌%◌, ◌^◌, ◌<◌, ◌≤◌, Bool, true, false, cond, not, nat_eq, nat_le, List, [], ◌++◌, length, Option, Some, None, is_some, refl, sym, ap, subst, ◌∙◌, arith, ◌&&◌, and_from, eq-eqb, eqb-true, leb-false, lt-leb, not-false, or_from, or_parts, none-some, same_Some, true≢false, little_bytes, little_number-reads_back, Passes, ImageCause, Truncated, no_fault, rows_fine, ImageVersion, One, Two, PageType, number_of, type_of, type_or_none, type_has_data, HostFrame, host_word, is_left_out, is_all_zero, leaves_out, most_width_of, page_left_out, page_text, zero_flag, frame_said, has_zero_flag, head_pfn, head_type, head_type_number, Bytes, FormOf, Giving, judged_as, ◌>>>◌, first_named, is_passed, gives_gone, said_goes, said_passes, page_causes, reserved_bits, sent_page_form, machine_limit}
+use Rattle.mig_image.proofs.Common.{◌≡◌, ℕ, ◌+◌, ◌*◌, ◌/◌, ◌%◌, ◌^◌, ◌<◌, ◌≤◌, Bool, true, false, cond, not, nat_eq, nat_le, List, [], ◌++◌, length, Option, Some, None, is_some, refl, sym, ap, subst, ◌∙◌, arith, ◌&&◌, and_from, eq-eqb, eqb-true, leb-false, lt-leb, not-false, or_from, or_parts, none-some, same_Some, true≢false, little_bytes, little_number-reads_back, Passes, ImageCause, Truncated, no_fault, rows_fine, GuestImageVersion, One, Two, PageType, number_of, type_of, type_or_none, type_has_data, HostFrame, host_word, is_left_out, is_all_zero, leaves_out, most_width_of, page_left_out, page_text, zero_flag, frame_said, has_zero_flag, head_pfn, head_type, head_type_number, Bytes, FormOf, Giving, judged_as, ◌>>>◌, first_named, is_passed, gives_gone, said_goes, said_passes, page_causes, reserved_bits, sent_page_form, machine_limit}
 use Rattle.mig_bytes.proofs.ByteLists.{long_below}
 use Rattle.mig_bytes.specs.Fields.{le64}
 use Rattle.mig_pagetypes.specs.declared.page_type.PageType.TheVariants.{Broken, Xalloc, Xtab}
 use Rattle.mig_pagetypes.proofs.Numbers.{number_small, type_back}
-use Rattle.mig_image.specs.Image.{frame_head_of}
+use Rattle.mig_image.specs.GuestImage.{frame_head_of}
 use Rattle.mig_image.proofs.FieldBytes.{long_last, long_then}
 use Rattle.mig_image.proofs.ZeroPages.{left_out_is_zeros, zeros_are_zero, zeros_whole}
 
@@ -56,11 +56,11 @@ none_left_out (Some p) = refl
 
 -- ---- what a head says
 
-pub head_len : (version : ImageVersion) (pfn : ℕ) (f : HostFrame) → length (frame_head_of version pfn f) ≡ 16
+pub head_len : (version : GuestImageVersion) (pfn : ℕ) (f : HostFrame) → length (frame_head_of version pfn f) ≡ 16
 unfolding frame_head_of
 head_len version pfn f = refl
 
-pub record Says (version : ImageVersion) (head : List ℕ) (e : ℕ × HostFrame) : Type 0 where
+pub record Says (version : GuestImageVersion) (head : List ℕ) (e : ℕ × HostFrame) : Type 0 where
   pub reserved : is_passed (reserved_bits version head) ≡ false
   pub pfn : head_pfn version head ≡ e.0
   pub kind : head_type version head ≡ e.1.type
@@ -68,7 +68,7 @@ pub record Says (version : ImageVersion) (head : List ℕ) (e : ℕ × HostFrame
   pub machine : le64 head 8 ≡ e.1.machine
 
 -- a page that is left out is there, so that the type has data
-left_out_small : (version : ImageVersion) (f : HostFrame) → is_some f.page ≡ type_has_data f.type → is_left_out version f.page ≡ true → number_of f.type < 13
+left_out_small : (version : GuestImageVersion) (f : HostFrame) → is_some f.page ≡ type_has_data f.type → is_left_out version f.page ≡ true → number_of f.type < 13
 left_out_small version f step left_out = data_small f.type (sym step ∙ some f.page left_out)
   where
     some : (page : Option (List ℕ)) → is_left_out version page ≡ true → is_some page ≡ true
@@ -79,7 +79,7 @@ not_large : (b : Bool) (n : ℕ) → (b ≡ true → n < 13) → (b && nat_le 13
 not_large true n small = lt-leb 13 n (small refl)
 not_large false n small = refl
 
-words_read : (version : ImageVersion) (e : ℕ × HostFrame) (head : List ℕ) → e.0 < most_width_of version → is_some e.1.page ≡ type_has_data e.1.type → le64 head 0 ≡ host_word version e.0 e.1
+words_read : (version : GuestImageVersion) (e : ℕ × HostFrame) (head : List ℕ) → e.0 < most_width_of version → is_some e.1.page ≡ type_has_data e.1.type → le64 head 0 ≡ host_word version e.0 e.1
     → (is_passed (reserved_bits version head) ≡ false) × (head_pfn version head ≡ e.0) × (head_type_number version head ≡ number_of e.1.type) × (has_zero_flag version head ≡ is_left_out version e.1.page)
 words_read One e head below step word =
     let n = number_of e.1.type in
@@ -107,7 +107,7 @@ words_read Two e head below step word =
       flag_is,
     )
 
-word_small : (version : ImageVersion) (e : ℕ × HostFrame) → e.0 < most_width_of version → host_word version e.0 e.1 < 2 ^ 64
+word_small : (version : GuestImageVersion) (e : ℕ × HostFrame) → e.0 < most_width_of version → host_word version e.0 e.1 < 2 ^ 64
 word_small One e below =
     let n = number_of e.1.type in
     subst (λ b. n * 2 ^ 28 + (zero_flag b + e.0) < 2 ^ 64) (sym (none_left_out e.1.page)) (one_word n e.0 (number_small e.1.type) below).0
@@ -116,7 +116,7 @@ word_small Two e below =
     let (f, most, flag, one) = flag_number (is_left_out Two e.1.page) in
     subst (λ k. n * 2 ^ 60 + (k + e.0) < 2 ^ 64) (sym flag) (two_word n e.0 f (number_small e.1.type) below most).0
 
-pub says : (version : ImageVersion) (e : ℕ × HostFrame) → e.0 < most_width_of version → is_some e.1.page ≡ type_has_data e.1.type → e.1.machine < machine_limit → Says version (frame_head_of version e.0 e.1) e
+pub says : (version : GuestImageVersion) (e : ℕ × HostFrame) → e.0 < most_width_of version → is_some e.1.page ≡ type_has_data e.1.type → e.1.machine < machine_limit → Says version (frame_head_of version e.0 e.1) e
 unfolding le64 frame_head_of
 says version e below step small =
     let head = frame_head_of version e.0 e.1 in
@@ -133,7 +133,7 @@ says version e below step small =
 -- ---- a head without a fault spells what it says
 
 -- the zero flag comes with data alone
-pub flag_has_data : (version : ImageVersion) (head : List ℕ) → is_passed (reserved_bits version head) ≡ false → number_of (head_type version head) ≡ head_type_number version head → (type_has_data (head_type version head) && has_zero_flag version head) ≡ has_zero_flag version head
+pub flag_has_data : (version : GuestImageVersion) (head : List ℕ) → is_passed (reserved_bits version head) ≡ false → number_of (head_type version head) ≡ head_type_number version head → (type_has_data (head_type version head) && has_zero_flag version head) ≡ has_zero_flag version head
 flag_has_data One head reserved number = by (type_has_data (head_type One head))
   where
     by : (d : Bool) → (d && false) ≡ false
@@ -150,7 +150,7 @@ flag_has_data Two head reserved number = by (type_has_data (head_type Two head))
         let large = no_data (head_type Two head) has in
         absurd (omega (arith, number, small, large))
 
-pub word_said : (version : ImageVersion) (head : List ℕ) (page : Option (List ℕ)) → Bytes head → is_passed (reserved_bits version head) ≡ false → number_of (head_type version head) ≡ head_type_number version head → is_left_out version page ≡ has_zero_flag version head
+pub word_said : (version : GuestImageVersion) (head : List ℕ) (page : Option (List ℕ)) → Bytes head → is_passed (reserved_bits version head) ≡ false → number_of (head_type version head) ≡ head_type_number version head → is_left_out version page ≡ has_zero_flag version head
     → host_word version (head_pfn version head) (frame_said version head page) ≡ le64 head 0
 word_said One head page all reserved number flag =
     let w = le64 head 0 in
@@ -168,7 +168,7 @@ word_said Two head page all reserved number flag =
     ∙ ap (λ k. (w / 2 ^ 60 % 2 ^ 4) * 2 ^ 60 + (k + w % 2 ^ 52)) (flag_of (w / 2 ^ 52 % 2) (has_zero_flag Two head) bit refl)
     ∙ two_back w (long_below 0 head all) none
 
-pub said_head : (version : ImageVersion) (head : List ℕ) (page : Option (List ℕ)) → Bytes head → length head ≡ 16 → is_passed (reserved_bits version head) ≡ false → number_of (head_type version head) ≡ head_type_number version head → is_left_out version page ≡ has_zero_flag version head
+pub said_head : (version : GuestImageVersion) (head : List ℕ) (page : Option (List ℕ)) → Bytes head → length head ≡ 16 → is_passed (reserved_bits version head) ≡ false → number_of (head_type version head) ≡ head_type_number version head → is_left_out version page ≡ has_zero_flag version head
     → frame_head_of version (head_pfn version head) (frame_said version head page) ≡ head
 unfolding frame_head_of
 said_head version head page all size reserved number flag =
@@ -177,13 +177,13 @@ said_head version head page all size reserved number flag =
 -- ---- the page
 
 -- the page behind a head that says so; what isn't sent is known
-abbrev pub page_if : ImageVersion → ℕ → Bool → Option (List ℕ) → FormOf ImageCause (Option (List ℕ))
+abbrev pub page_if : GuestImageVersion → ℕ → Bool → Option (List ℕ) → FormOf ImageCause (Option (List ℕ))
 page_if version pfn sent unsent = cond sent (sent_page_form version pfn >>> λ page. Giving (Some page)) (Giving unsent)
 
 abbrev pub unsent_if : Bool → Option (List ℕ)
 unsent_if has = cond has (Some page_left_out) None
 
-module _ (version : ImageVersion) (pfn : ℕ) where
+module _ (version : GuestImageVersion) (pfn : ℕ) where
   some_goes : (p rest : List ℕ) → length p ≡ 4096 → (b : Bool) → is_left_out version (Some p) ≡ b → judged_as (page_if version pfn (not b) (Some page_left_out)) (cond b [] p ++ rest) ≡ Passes (Some p) rest
   unfolding judged_as ◌>>>◌
   some_goes p rest size true is = ap (λ l. Passes (Some l) rest) (sym (left_out_is_zeros version p is size))

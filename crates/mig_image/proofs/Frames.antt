@@ -1,10 +1,10 @@
 -- The frames of an image: what they spell is read, what is read they spell, and both are the frames of a valid host.
-use Rattle.mig_image.proofs.Common.{◌≡◌, ℕ, ◌+◌, ◌<◌, ◌≤◌, false, not, nat_eq, nat_le, nat_lt, List, [], ◌++◌, length, Option, Some, None, is_some, refl, sym, ap, ◌∙◌, arith, append_assoc, ◌∷◌, true, subst, length-append, ◌||◌, ◌==◌, list_any, not-false, or_parts, or_from, leb-false, lt-leb, ne_eqb, eqb-true, eqb-false, and_parts, common_steps, nat_cmp_total, nat_cmp, is_lt, nat_cmp-IsAntisymmetric, Judged, Passes, ImageCause, Truncated, Kind, no_fault, rows_fine, Frame, Pv, Hvm, PageType, number_of, type_of, type_or_none, type_has_data, all_types, is_type_of, HostOf, HostFrame, HostFrames, IsHostFrame, IsValid, ImageVersion, One, Two, frame_text, leaves_out, most_width_of, page_text, has_zero_flag, head_pfn, head_type, has_machine, has_frame_from, frame_said, put_frame, head_type_number, Bytes, bytes_front, FormOf, Giving, judged_as, ◌>>>◌, first_named, frame_causes, frame_head_form, page_form, host_frame_form, frames_form, then_goes, both_go, bytes_go, bytes_gone, gives_goes, gives_gone, steps_go, most_frames, machine_limit}
+use Rattle.mig_image.proofs.Common.{◌≡◌, ℕ, ◌+◌, ◌<◌, ◌≤◌, false, not, nat_eq, nat_le, nat_lt, List, [], ◌++◌, length, Option, Some, None, is_some, refl, sym, ap, ◌∙◌, arith, append_assoc, ◌∷◌, true, subst, length-append, ◌||◌, ◌==◌, list_any, not-false, or_parts, or_from, leb-false, lt-leb, ne_eqb, eqb-true, eqb-false, and_parts, common_steps, nat_cmp_total, nat_cmp, is_lt, nat_cmp-IsAntisymmetric, Judged, Passes, ImageCause, Truncated, Kind, no_fault, rows_fine, Frame, Pv, Hvm, PageType, number_of, type_of, type_or_none, type_has_data, all_types, is_type_of, HostOf, HostFrame, HostFrames, IsHostFrame, IsValid, GuestImageVersion, One, Two, frame_text, leaves_out, most_width_of, page_text, has_zero_flag, head_pfn, head_type, has_machine, has_frame_from, frame_said, put_frame, head_type_number, Bytes, bytes_front, FormOf, Giving, judged_as, ◌>>>◌, first_named, frame_causes, frame_head_form, page_form, host_frame_form, frames_form, then_goes, both_go, bytes_go, bytes_gone, gives_goes, gives_gone, steps_go, most_frames, machine_limit}
 use Rattle.std.specs.FinMap as maps
 use Rattle.mig_bytes.specs.Fields.{le64}
 use Rattle.mig_pagetypes.specs.declared.page_type.PageType.TheVariants.{Xtab}
 use Rattle.mig_image.specs.FrameEnds.{EndsAt}
-use Rattle.mig_image.specs.Image.{frame_head_of}
+use Rattle.mig_image.specs.GuestImage.{frame_head_of}
 use Rattle.mig_host.proofs.InOrder.{has_from, get_at, get_front, each_entry, no_entry, none_passes, few_ranks, entries_behind, found_passes, nat_rises}
 use Rattle.mig_host.proofs.HostsMade.{valid_frame}
 use Rattle.mig_image.proofs.FieldBytes.{regroup}
@@ -18,7 +18,7 @@ pub record FrameFits (kind : Kind) (width : ℕ) (m : HostFrames) (e : ℕ × Ho
   pub alone : list_any (λ x. x.1.machine == e.1.machine) (maps.entries m) ≡ false
 
 -- so does what a head without a fault and its page say
-pub frame_fits : (version : ImageVersion) (h : HostOf) (head : List ℕ) (page : Option (List ℕ)) → first_named (frame_causes version h head) ≡ None → is_some page ≡ type_has_data (head_type version head) → ((p : List ℕ) → page ≡ Some p → length p ≡ 4096)
+pub frame_fits : (version : GuestImageVersion) (h : HostOf) (head : List ℕ) (page : Option (List ℕ)) → first_named (frame_causes version h head) ≡ None → is_some page ≡ type_has_data (head_type version head) → ((p : List ℕ) → page ≡ Some p → length p ≡ 4096)
     → FrameFits h.kind h.width h.frames (head_pfn version head, frame_said version head page)
 frame_fits version h head page fine in_step whole =
     let (reserved, (type, (order, (outside, (machine, (twice, done)))))) = rows_fine (frame_causes version h head) fine in
@@ -44,7 +44,7 @@ frame_fits version h head page fine in_step whole =
 some_machine : (m : ℕ) → 0 < m → m < machine_limit → (nat_eq m 0 || nat_le machine_limit m) ≡ false
 some_machine m a b = or_from (nat_eq m 0) (nat_le machine_limit m) (ne_eqb m 0 (λ e. absurd (omega arith))) (lt-leb machine_limit m b)
 
-fine : (version : ImageVersion) (h : HostOf) (e : ℕ × HostFrame) (head : List ℕ) → Says version head e → FrameFits h.kind h.width h.frames e → first_named (frame_causes version h head) ≡ None
+fine : (version : GuestImageVersion) (h : HostOf) (e : ℕ × HostFrame) (head : List ℕ) → Says version head e → FrameFits h.kind h.width h.frames e → first_named (frame_causes version h head) ≡ None
 fine version h e head s f =
     let type = ap (λ k. not (is_type_of h.kind k)) s.kind ∙ ap not f.is.type in
     let order = ap (has_frame_from h) s.pfn ∙ f.behind in
@@ -55,13 +55,13 @@ fine version h e head s f =
 
 -- ---- the frame
 
-abbrev pub behind_page : ImageVersion → HostOf → List ℕ → Option (List ℕ) → FormOf ImageCause HostOf
+abbrev pub behind_page : GuestImageVersion → HostOf → List ℕ → Option (List ℕ) → FormOf ImageCause HostOf
 behind_page version h head page = Giving (put_frame h (head_pfn version head) (frame_said version head page))
 
-abbrev pub behind_frame_head : ImageVersion → HostOf → List ℕ → FormOf ImageCause HostOf
+abbrev pub behind_frame_head : GuestImageVersion → HostOf → List ℕ → FormOf ImageCause HostOf
 behind_frame_head version h head = page_form version head >>> behind_page version h head
 
-frame_is : (version : ImageVersion) (h : HostOf) (e : ℕ × HostFrame) (head : List ℕ) (rest : List ℕ) → Says version head e
+frame_is : (version : GuestImageVersion) (h : HostOf) (e : ℕ × HostFrame) (head : List ℕ) (rest : List ℕ) → Says version head e
     → ◌≡◌ {A = Judged ImageCause HostOf} (Passes (put_frame h (head_pfn version head) (frame_said version head e.1.page)) rest) (Passes (put_frame h e.0 e.1) rest)
 frame_is version h e head rest s =
     ap (λ p. Passes (put_frame h p (frame_said version head e.1.page)) rest) s.pfn
@@ -69,12 +69,12 @@ frame_is version h e head rest s =
     ∙ ap (λ m. Passes (put_frame h e.0 (record { type = e.1.type; machine = m; page = e.1.page })) rest) s.machine
 
 -- the page behind a head that says this frame
-page_read : (version : ImageVersion) (e : ℕ × HostFrame) (head rest : List ℕ) → Says version head e → is_some e.1.page ≡ type_has_data e.1.type → ((p : List ℕ) → e.1.page ≡ Some p → length p ≡ 4096)
+page_read : (version : GuestImageVersion) (e : ℕ × HostFrame) (head rest : List ℕ) → Says version head e → is_some e.1.page ≡ type_has_data e.1.type → ((p : List ℕ) → e.1.page ≡ Some p → length p ≡ 4096)
     → judged_as (page_form version head) (page_text version e.1.page ++ rest) ≡ Passes e.1.page rest
 page_read version e head rest s step whole =
     page_goes version (head_pfn version head) (type_has_data (head_type version head)) (has_zero_flag version head) e.1.page rest (step ∙ ap type_has_data (sym s.kind)) s.flag whole
 
-pub frame_goes : (version : ImageVersion) (h : HostOf) (e : ℕ × HostFrame) (rest : List ℕ) → h.width ≤ most_width_of version → FrameFits h.kind h.width h.frames e → judged_as (host_frame_form version h) (frame_text version e ++ rest) ≡ Passes (put_frame h e.0 e.1) rest
+pub frame_goes : (version : GuestImageVersion) (h : HostOf) (e : ℕ × HostFrame) (rest : List ℕ) → h.width ≤ most_width_of version → FrameFits h.kind h.width h.frames e → judged_as (host_frame_form version h) (frame_text version e ++ rest) ≡ Passes (put_frame h e.0 e.1) rest
 frame_goes version h e rest holds f =
     let head = frame_head_of version e.0 e.1 in
     let mid = page_text version e.1.page ++ rest in
@@ -85,7 +85,7 @@ frame_goes version h e rest holds f =
     (then_goes (page_form version head) (behind_page version h head) mid e.1.page rest _
     (page_read version e head rest s f.is.in_step f.is.whole) (gives_goes {C = ImageCause} (put_frame h (head_pfn version head) (frame_said version head e.1.page)) rest ∙ frame_is version h e head rest s))
   where
-    below : (version : ImageVersion) (pfn width : ℕ) → pfn < width → width ≤ most_width_of version → pfn < most_width_of version
+    below : (version : GuestImageVersion) (pfn width : ℕ) → pfn < width → width ≤ most_width_of version → pfn < most_width_of version
     below One pfn width less le = omega arith
     below Two pfn width less le = omega arith
 
@@ -157,7 +157,7 @@ type_number kind type None is has = let no : true ≡ false = sym has ∙ no_xta
 type_number kind type (Some t) is has = eqb-true (number_of t) type (found_passes (λ t. nat_eq (number_of t) type) all_types t is)
 
 -- the type of a head without a fault has its number
-number_is : (version : ImageVersion) (h : HostOf) (head : List ℕ) → first_named (frame_causes version h head) ≡ None → number_of (head_type version head) ≡ head_type_number version head
+number_is : (version : GuestImageVersion) (h : HostOf) (head : List ℕ) → first_named (frame_causes version h head) ≡ None → number_of (head_type version head) ≡ head_type_number version head
 number_is version h head fine =
     let (reserved, (type, others)) = rows_fine (frame_causes version h head) fine in
     type_number h.kind (head_type_number version head) (type_of (head_type_number version head)) refl (not-false (is_type_of h.kind (head_type version head)) type)
@@ -167,10 +167,10 @@ number_is version h head fine =
 abbrev pub with_frames : HostOf → HostFrames → HostOf
 with_frames h m = record h { frames = m }
 
-flag_leaves : (version : ImageVersion) (head : List ℕ) → has_zero_flag version head ≡ true → leaves_out version ≡ true
+flag_leaves : (version : GuestImageVersion) (head : List ℕ) → has_zero_flag version head ≡ true → leaves_out version ≡ true
 flag_leaves version head is = (and_parts (leaves_out version) _ is).0
 
-module _ (version : ImageVersion) (h : HostOf) where
+module _ (version : GuestImageVersion) (h : HostOf) where
   frame_back : (m : HostFrames) (i : List ℕ) (g : HostOf) (rest : List ℕ) → Bytes i → judged_as (host_frame_form version (with_frames h m)) i ≡ Passes g rest → Found (FrameFits h.kind h.width) (frame_text version) Frame (λ k. judged_as (host_frame_form version k)) (with_frames h) m i g rest
   frame_back m i g rest all is =
       let a = both_go (frame_head_form version (with_frames h m)) (behind_frame_head version (with_frames h m)) i g rest is in

@@ -1,8 +1,8 @@
 -- Bytes that are read as a host begin with its image, and the host is valid.
-use Rattle.mig_image.proofs.Common.{◌≡◌, ℕ, ◌<◌, ◌≤◌, Bool, true, false, not, nat_eq, nat_lt, List, ◌++◌, length, None, refl, sym, ap, subst, ◌∙◌, arith, ◌&&◌, flat_map, not-false, or_parts, ltb-false, eqb-true, eqb-false, recursion_from_All, little_bytes, AreBytes, Passes, kind_number, kind_of_number, Truncated, Head, Parts, Pv, Hvm, PartKey, HostOf, HostFrame, IsValid, frame_text, part_text, IsHostImageUpTo, ImageVersion, One, Two, cond, ◌||◌, head_version, top_limit, most_width, most_width_of, name_number, version_named, opened, behind_head, Bytes, bytes_front, bytes_back, rows_fine, placed_form, judged_as, first_named, host_head_causes, host_head_form, frames_form, host_parts_form, count_form, behind_frames, image_file_form, host_at, both_go, bytes_gone, placed_gone, said_passes, most_frames}
+use Rattle.mig_image.proofs.Common.{◌≡◌, ℕ, ◌<◌, ◌≤◌, Bool, true, false, not, nat_eq, nat_lt, List, ◌++◌, length, None, refl, sym, ap, subst, ◌∙◌, arith, ◌&&◌, flat_map, not-false, or_parts, ltb-false, eqb-true, eqb-false, recursion_from_All, little_bytes, AreBytes, Passes, kind_number, kind_of_number, Truncated, Head, Parts, Pv, Hvm, PartKey, HostOf, HostFrame, IsValid, frame_text, part_text, IsGuestImageUpTo, GuestImageVersion, One, Two, cond, ◌||◌, head_version, top_limit, most_width, most_width_of, name_number, version_named, opened, behind_head, Bytes, bytes_front, bytes_back, rows_fine, placed_form, judged_as, first_named, host_head_causes, host_head_form, frames_form, host_parts_form, count_form, behind_frames, guest_image_form, host_at, both_go, bytes_gone, placed_gone, said_passes, most_frames}
 use Rattle.std.specs.FinMap as maps
 use Rattle.mig_bytes.specs.Fields.{le32, le64, be64}
-use Rattle.mig_image.specs.Image.{host_head, image}
+use Rattle.mig_image.specs.GuestImage.{host_head, guest_image}
 use Rattle.mig_host.proofs.HostsMade.{valid_empty}
 use Rattle.mig_image.proofs.FieldBytes.{name_then, word_then, long_then, long_last, regroup}
 use Rattle.mig_image.proofs.Chains.{Chain, put_all}
@@ -19,7 +19,7 @@ kind_known n h = by (nat_eq n 1) (nat_eq n 2) refl refl h
     by false true p q h = let e : n ≡ 2 = eqb-true n 2 q in ap (λ m. kind_number (kind_of_number m)) e ∙ sym e
     by false false p q h = cc
 
-head_back : (version : ImageVersion) (h : HostOf) (head : List ℕ) → Bytes head → length head ≡ 32 → be64 head 0 ≡ name_number version → kind_number h.kind ≡ le32 head 8 → 0 ≡ le32 head 12 → h.width ≡ le64 head 16 → length (maps.entries h.frames) ≡ le64 head 24
+head_back : (version : GuestImageVersion) (h : HostOf) (head : List ℕ) → Bytes head → length head ≡ 32 → be64 head 0 ≡ name_number version → kind_number h.kind ≡ le32 head 8 → 0 ≡ le32 head 12 → h.width ≡ le64 head 16 → length (maps.entries h.frames) ≡ le64 head 24
     → host_head version h ≡ head
 unfolding host_head
 head_back version h head all size name kind none width count =
@@ -99,14 +99,14 @@ joined input head at_frames frames at_count count at_parts parts rest a b c d =
     regroup input at_frames rest head (frames ++ (count ++ parts)) a (regroup at_frames at_count rest frames (count ++ parts) b (regroup at_count at_parts rest count parts c d))
 
 -- an image of these pieces
-image_of : (version : ImageVersion) (g : HostOf) (head : List ℕ) (fs : List (ℕ × HostFrame)) (n : ℕ) (ps : List (PartKey × List ℕ)) → host_head version g ≡ head → maps.entries g.frames ≡ fs → length (maps.entries g.parts) ≡ n → maps.entries g.parts ≡ ps
-    → image version g ≡ head ++ (flat_map (frame_text version) fs ++ (little_bytes 8 n ++ flat_map part_text ps))
-unfolding image
+image_of : (version : GuestImageVersion) (g : HostOf) (head : List ℕ) (fs : List (ℕ × HostFrame)) (n : ℕ) (ps : List (PartKey × List ℕ)) → host_head version g ≡ head → maps.entries g.frames ≡ fs → length (maps.entries g.parts) ≡ n → maps.entries g.parts ≡ ps
+    → guest_image version g ≡ head ++ (flat_map (frame_text version) fs ++ (little_bytes 8 n ++ flat_map part_text ps))
+unfolding guest_image
 image_of version g head fs n ps a b c d = rw (a, c, b, d) refl
 
 module _ (widest : ℕ) (few_widths : widest ≤ most_width) (head : List ℕ) (bytes : Bytes head) (size : length head ≡ 32) (said : HeadFine widest head) (fs : List (ℕ × HostFrame)) (few : length fs ≡ le64 head 24) (fits : Chain (FrameFits (opened head).kind (opened head).width) maps.empty fs)
     (ps : List (PartKey × List ℕ)) (stand : Chain (PartFits (opened head).kind (opened head).width) maps.empty ps) where
-  abbrev version : ImageVersion
+  abbrev version : GuestImageVersion
   version = head_version head
 
   abbrev given : HostOf
@@ -118,14 +118,14 @@ module _ (widest : ℕ) (few_widths : widest ≤ most_width) (head : List ℕ) (
       let none = valid_empty (kind_of_number (le32 head 8)) (le64 head 16) small said.some_width said.pv_narrow in
       parts_valid (framed head fs) ps (frames_valid (opened head) fs none fits (subst (λ n. n ≤ most_frames) (sym few) said.few)) stand
 
-  given_image : image version given ≡ head ++ (flat_map (frame_text version) fs ++ (little_bytes 8 (length ps) ++ flat_map part_text ps))
+  given_image : guest_image version given ≡ head ++ (flat_map (frame_text version) fs ++ (little_bytes 8 (length ps) ++ flat_map part_text ps))
   given_image =
       let frames : maps.entries given.frames ≡ fs = frame_entries (opened head) fs fits in
       let parts : maps.entries given.parts ≡ ps = part_entries (framed head fs) ps stand in
       image_of version given head fs (length ps) ps (head_back version given head bytes size said.name said.kind said.none refl (ap length frames ∙ few)) frames (ap length parts) parts
 
-pub image_back : (widest : ℕ) (input : List ℕ) (h : HostOf) (rest : List ℕ) → widest ≤ most_width → AreBytes input → host_at widest input ≡ Passes h rest → IsHostImageUpTo widest input h rest
-unfolding image_file_form
+pub image_back : (widest : ℕ) (input : List ℕ) (h : HostOf) (rest : List ℕ) → widest ≤ most_width → AreBytes input → host_at widest input ≡ Passes h rest → IsGuestImageUpTo widest input h rest
+unfolding guest_image_form
 image_back widest input h rest few_widths are is =
     let all : Bytes input = recursion_from_All (λ b. b < 256) input are in
     let a = both_go (placed_form Head (host_head_form widest)) behind_head input h rest is in
@@ -142,7 +142,7 @@ image_back widest input h rest few_widths are is =
     let bytes = bytes_front input a.x a.mid p.0 all in
     let said = head_fine widest a.x p.2 in
     let counted : b.mid ≡ little_bytes 8 (length q.es) ++ c.mid = n ∙ ap (λ k. little_bytes 8 k ++ c.mid) (sym q.size) in
-    subst (λ (g : HostOf). IsHostImageUpTo widest input g rest) (sym q.is) (record {
+    subst (λ (g : HostOf). IsGuestImageUpTo widest input g rest) (sym q.is) (record {
       image = record {
         version = version;
         valid = given_valid widest few_widths a.x bytes p.1 said f.es f.size f.chain q.es q.chain;

@@ -1,9 +1,9 @@
 -- The image of a valid host is read as this host.
-use Rattle.mig_image.proofs.Common.{◌≡◌, ℕ, ◌^◌, ◌<◌, ◌≤◌, false, not, nat_eq, nat_lt, List, [], ◌++◌, length, None, refl, sym, ap, ◌∙◌, arith, append_assoc, ◌&&◌, flat_map, or_from, le-ltb, ne_eqb, little_bytes, little_number-reads_back, Passes, same_passes, kind_number, kind_of_number, Truncated, Head, Frame, Parts, Part, Kind, Pv, Hvm, HostOf, IsValid, frame_text, part_text, IsHostImage, IsHostImageUpTo, ImageVersion, One, Two, ◌||◌, head_version, top_limit, most_width, most_width_of, name_number, version_named, opened, behind_head, no_fault, Bool, placed_form, judged_as, first_named, host_head_causes, host_head_form, host_frame_form, host_part_form, frames_form, host_parts_form, count_form, behind_frames, image_file_form, host_at, bytes_go, placed_goes, then_goes, steps_go, said_goes, most_frames}
+use Rattle.mig_image.proofs.Common.{◌≡◌, ℕ, ◌^◌, ◌<◌, ◌≤◌, false, not, nat_eq, nat_lt, List, [], ◌++◌, length, None, refl, sym, ap, ◌∙◌, arith, append_assoc, ◌&&◌, flat_map, or_from, le-ltb, ne_eqb, little_bytes, little_number-reads_back, Passes, same_passes, kind_number, kind_of_number, Truncated, Head, Frame, Parts, Part, Kind, Pv, Hvm, HostOf, IsValid, frame_text, part_text, IsGuestImage, IsGuestImageUpTo, GuestImageVersion, One, Two, ◌||◌, head_version, top_limit, most_width, most_width_of, name_number, version_named, opened, behind_head, no_fault, Bool, placed_form, judged_as, first_named, host_head_causes, host_head_form, host_frame_form, host_part_form, frames_form, host_parts_form, count_form, behind_frames, guest_image_form, host_at, bytes_go, placed_goes, then_goes, steps_go, said_goes, most_frames}
 use Rattle.std.specs.FinMap as maps
 use Rattle.mig_bytes.specs.Fields.{le32, le64, be64}
 use Rattle.mig_headers.proofs.KindNumbers.{kind_back}
-use Rattle.mig_image.specs.Image.{host_head, image}
+use Rattle.mig_image.specs.GuestImage.{host_head, guest_image}
 use Rattle.mig_image.proofs.Chains.{chain_goes}
 use Rattle.mig_image.proofs.Frames.{frames_chain, frames_same, frames_within, with_frames, FrameFits, frame_goes}
 use Rattle.mig_image.proofs.Parts.{parts_chain, parts_same, parts_few, with_parts, PartFits, part_goes, IsPvNarrow, valid_narrow}
@@ -14,7 +14,7 @@ kind_small : (kind : Kind) → kind_number kind < 2 ^ 32
 kind_small Pv = omega arith
 kind_small Hvm = omega arith
 
-head_len : (version : ImageVersion) (h : HostOf) → length (host_head version h) ≡ 32
+head_len : (version : GuestImageVersion) (h : HostOf) → length (host_head version h) ≡ 32
 unfolding host_head
 head_len One h = refl
 head_len Two h = refl
@@ -23,18 +23,18 @@ kind_known : (kind : Kind) → (not (nat_eq (kind_number kind) 1) && not (nat_eq
 kind_known Pv = refl
 kind_known Hvm = refl
 
-name_known : (version : ImageVersion) → (not (nat_eq (name_number version) (name_number One)) && not (nat_eq (name_number version) (name_number Two))) ≡ false
+name_known : (version : GuestImageVersion) → (not (nat_eq (name_number version) (name_number One)) && not (nat_eq (name_number version) (name_number Two))) ≡ false
 name_known One = refl
 name_known Two = refl
 
-version_back : (version : ImageVersion) → version_named (name_number version) ≡ version
+version_back : (version : GuestImageVersion) → version_named (name_number version) ≡ version
 version_back One = refl
 version_back Two = refl
 
-abbrev is_wide : ℕ → ImageVersion → ℕ → ℕ → Bool
+abbrev is_wide : ℕ → GuestImageVersion → ℕ → ℕ → Bool
 is_wide widest version kind width = nat_lt widest width || (nat_lt (most_width_of version) width || (nat_eq kind 1 && (nat_eq width 0 || nat_lt top_limit width)))
 
-not_wide : (widest : ℕ) (version : ImageVersion) (kind : Kind) (width : ℕ) → width ≤ widest → width ≤ most_width_of version → (kind ≡ Pv → 0 < width) → IsPvNarrow kind width → is_wide widest version (kind_number kind) width ≡ false
+not_wide : (widest : ℕ) (version : GuestImageVersion) (kind : Kind) (width : ℕ) → width ≤ widest → width ≤ most_width_of version → (kind ≡ Pv → 0 < width) → IsPvNarrow kind width → is_wide widest version (kind_number kind) width ≡ false
 not_wide widest version kind width narrow holds some pv_narrow =
     or_from (nat_lt widest width) (nat_lt (most_width_of version) width || (nat_eq (kind_number kind) 1 && (nat_eq width 0 || nat_lt top_limit width))) (le-ltb widest width narrow)
     (or_from (nat_lt (most_width_of version) width) (nat_eq (kind_number kind) 1 && (nat_eq width 0 || nat_lt top_limit width)) (le-ltb (most_width_of version) width holds) (by kind some pv_narrow))
@@ -44,7 +44,7 @@ not_wide widest version kind width narrow holds some pv_narrow =
     by Hvm some small = refl
 
 -- what the head of a host says
-record Says (version : ImageVersion) (head : List ℕ) (h : HostOf) : Type 0 where
+record Says (version : GuestImageVersion) (head : List ℕ) (h : HostOf) : Type 0 where
   name : be64 head 0 ≡ name_number version
   kind : le32 head 8 ≡ kind_number h.kind
   zero : le32 head 12 ≡ 0
@@ -52,7 +52,7 @@ record Says (version : ImageVersion) (head : List ℕ) (h : HostOf) : Type 0 whe
   count : le64 head 24 ≡ length (maps.entries h.frames)
 
 -- behind a name of 8 bytes
-says_behind : (version : ImageVersion) (h : HostOf) → IsValid h → h.width < 2 ^ 64 → Says version (host_head version h) h
+says_behind : (version : GuestImageVersion) (h : HostOf) → IsValid h → h.width < 2 ^ 64 → Says version (host_head version h) h
 unfolding be64 le32 le64 host_head
 says_behind One h valid wide = record {
   name = refl;
@@ -69,10 +69,10 @@ says_behind Two h valid wide = record {
   count = little_number-reads_back 8 (length (maps.entries h.frames)) [] (let small : length (maps.entries h.frames) < 2 ^ 64 = let few = valid.few in omega (arith, few) in small);
 }
 
-says : (version : ImageVersion) (h : HostOf) → IsValid h → Says version (host_head version h) h
+says : (version : GuestImageVersion) (h : HostOf) → IsValid h → Says version (host_head version h) h
 says version h valid = says_behind version h valid (omega (arith, valid.width))
 
-fine : (widest : ℕ) (version : ImageVersion) (h : HostOf) (head : List ℕ) → IsValid h → h.width ≤ widest → h.width ≤ most_width_of version → Says version head h → first_named (host_head_causes widest head) ≡ None
+fine : (widest : ℕ) (version : GuestImageVersion) (h : HostOf) (head : List ℕ) → IsValid h → h.width ≤ widest → h.width ≤ most_width_of version → Says version head h → first_named (host_head_causes widest head) ≡ None
 fine widest version h head valid narrow holds s =
     let n = length (maps.entries h.frames) in
     let name = ap (λ n. not (nat_eq n (name_number One)) && not (nat_eq n (name_number Two))) s.name ∙ name_known version in
@@ -90,7 +90,7 @@ fine widest version h head valid narrow holds s =
 abbrev without : HostOf → HostOf
 without h = record { kind = h.kind; width = h.width; frames = maps.empty; parts = maps.empty }
 
-opened_is : (version : ImageVersion) (h : HostOf) (head : List ℕ) → Says version head h → opened head ≡ without h
+opened_is : (version : GuestImageVersion) (h : HostOf) (head : List ℕ) → Says version head h → opened head ≡ without h
 opened_is version h head s =
     ap (λ k. record { kind = kind_of_number k; width = le64 head 16; frames = maps.empty; parts = maps.empty }) s.kind
     ∙ ap (λ k. record { kind = k; width = le64 head 16; frames = maps.empty; parts = maps.empty }) (kind_back h.kind)
@@ -104,7 +104,7 @@ count_text n rest small = said_goes Truncated (λ _. None) (λ b. le64 b 0) 8 (l
 
 -- ---- the whole
 
-module _ (widest : ℕ) (version : ImageVersion) (h : HostOf) (valid : IsValid h) (narrow : h.width ≤ widest) (holds : h.width ≤ most_width_of version) (rest : List ℕ) where
+module _ (widest : ℕ) (version : GuestImageVersion) (h : HostOf) (valid : IsValid h) (narrow : h.width ≤ widest) (holds : h.width ≤ most_width_of version) (rest : List ℕ) where
   abbrev frames_text : List ℕ
   frames_text = flat_map (frame_text version) (maps.entries h.frames)
 
@@ -129,8 +129,8 @@ module _ (widest : ℕ) (version : ImageVersion) (h : HostOf) (valid : IsValid h
   abbrev framed : HostOf
   framed = with_frames (without h) h.frames
 
-  spelled : image version h ++ rest ≡ head ++ at_frames
-  unfolding image
+  spelled : guest_image version h ++ rest ≡ head ++ at_frames
+  unfolding guest_image
   spelled =
       append_assoc head (frames_text ++ (little_bytes 8 count ++ parts_text)) rest
       ∙ ap (λ l. head ++ l) (append_assoc frames_text (little_bytes 8 count ++ parts_text) rest ∙ ap (λ l. frames_text ++ l) (append_assoc (little_bytes 8 count) parts_text rest))
@@ -156,7 +156,7 @@ module _ (widest : ℕ) (version : ImageVersion) (h : HostOf) (valid : IsValid h
       (then_goes (placed_form Parts count_form) (host_parts_form framed) at_count count at_parts _ (placed_goes Parts count_form at_count count at_parts (count_text count at_parts (parts_few h valid))) parts_read)
 
   reads : host_at widest (head ++ at_frames) ≡ Passes h rest
-  unfolding image_file_form
+  unfolding guest_image_form
   reads =
       then_goes (placed_form Head (host_head_form widest)) behind_head (head ++ at_frames) head at_frames _
       (placed_goes Head (host_head_form widest) (head ++ at_frames) head at_frames (bytes_go Truncated 32 (host_head_causes widest) head at_frames (head_len version h) (fine widest version h head valid narrow holds (says version h valid)))) behind
@@ -165,13 +165,13 @@ module _ (widest : ℕ) (version : ImageVersion) (h : HostOf) (valid : IsValid h
 pub held : (h : HostOf) → IsValid h → h.width ≤ most_width_of Two
 held h valid = omega (arith, valid.width)
 
-pub image_reads : (widest : ℕ) (input : List ℕ) (h : HostOf) (rest : List ℕ) → IsHostImageUpTo widest input h rest → host_at widest input ≡ Passes h rest
+pub image_reads : (widest : ℕ) (input : List ℕ) (h : HostOf) (rest : List ℕ) → IsGuestImageUpTo widest input h rest → host_at widest input ≡ Passes h rest
 image_reads widest input h rest is =
     let im = is.image in
     ap (host_at widest) (im.spelled ∙ spelled widest im.version h im.valid is.narrow im.holds rest) ∙ reads widest im.version h im.valid is.narrow im.holds rest
 
 -- an input begins with the image of at most one host
-pub one_host : (input : List ℕ) (g h : HostOf) (rest more : List ℕ) → IsHostImage input g rest → IsHostImage input h more → (g ≡ h) × (rest ≡ more)
+pub one_host : (input : List ℕ) (g h : HostOf) (rest more : List ℕ) → IsGuestImage input g rest → IsGuestImage input h more → (g ≡ h) × (rest ≡ more)
 one_host input g h rest more a b =
     let first = image_reads most_width input g rest (record { image = a; narrow = a.valid.width }) in
     let second = image_reads most_width input h more (record { image = b; narrow = b.valid.width }) in

@@ -1,12 +1,12 @@
 -- The pages, the order and the length of an image, in the words of the form.
-use Rattle.mig_image.proofs.Common.{◌≡◌, ℕ, zero, suc, ◌+◌, ◌*◌, ◌<◌, Bool, true, false, cond, not, nat_eq, List, [], ◌∷◌, ◌++◌, length, Option, Some, None, is_some, refl, sym, ap, ◌∙◌, arith, length-append, append-nil, ◌&&◌, T, flat_map, AllByRecursion, and_from, and_parts, eq-eqb, eqb-true, true≢false, nat_cmp_total, nat_cmp, nat_cmp-IsAntisymmetric, is_sorted, little_bytes, HostOf, HostFrame, ImageVersion, One, Two, frame_text, is_all_zero, is_left_out, most_width_of, page_text, part_text, IsValid, subst, ◌≤◌}
+use Rattle.mig_image.proofs.Common.{◌≡◌, ℕ, zero, suc, ◌+◌, ◌*◌, ◌<◌, Bool, true, false, cond, not, nat_eq, List, [], ◌∷◌, ◌++◌, length, Option, Some, None, is_some, refl, sym, ap, ◌∙◌, arith, length-append, append-nil, ◌&&◌, T, flat_map, AllByRecursion, and_from, and_parts, eq-eqb, eqb-true, true≢false, nat_cmp_total, nat_cmp, nat_cmp-IsAntisymmetric, is_sorted, little_bytes, HostOf, HostFrame, GuestImageVersion, One, Two, frame_text, is_all_zero, is_left_out, most_width_of, page_text, part_text, IsValid, subst, ◌≤◌}
 use Rattle.std.proofs.Common.{filter, get_or, unwrap_or}
 use Rattle.std.specs.FinMap as maps
 use Rattle.std.specs.FinMap.Entries.{below_all}
 use Rattle.mig_guest.proofs.PartCursor.{both_of}
 use Rattle.mig_host.proofs.InOrder.{each_entry, nat_rises}
-use Rattle.mig_image.specs.Image.{frame_head_of, host_head, image}
-use Rattle.mig_image.specs.ImageLaws.{HasZeroPage, HostsHaveImages, IsImageIn, FlagsSayZero, UnsentAreZero, IsAscending, sends_page, ImagesHaveSizes}
+use Rattle.mig_image.specs.GuestImage.{frame_head_of, host_head, guest_image}
+use Rattle.mig_image.specs.GuestImageLaws.{HasZeroPage, HostsHaveGuestImages, IsGuestImageIn, FlagsSayZero, UnsentAreZero, IsAscending, sends_page, GuestImagesHaveSizes}
 use Rattle.mig_image.proofs.FrameHeads.{head_len, says}
 use Rattle.mig_image.proofs.ImageReads.{held}
 
@@ -58,14 +58,14 @@ unsent_are_zero kind width pfn frame is some = (to, λ z. ap (λ b. cond b [] (u
 
 -- ---- images and hosts
 
-in_version : (version : ImageVersion) (h : HostOf) → IsValid h → h.width ≤ most_width_of version → (text : List ℕ) × IsImageIn version text h
-in_version version h valid holds = (image version h, record { image = record { version = version; valid = valid; holds = holds; spelled = sym (append-nil (image version h)) }; in_version = refl })
+in_version : (version : GuestImageVersion) (h : HostOf) → IsValid h → h.width ≤ most_width_of version → (text : List ℕ) × IsGuestImageIn version text h
+in_version version h valid holds = (guest_image version h, record { image = record { version = version; valid = valid; holds = holds; spelled = sym (append-nil (guest_image version h)) }; in_version = refl })
 
-spelled_in : (version : ImageVersion) (text : List ℕ) (h : HostOf) → IsImageIn version text h → text ≡ image version h
-spelled_in version text h is = is.image.spelled ∙ append-nil (image is.image.version h) ∙ ap (λ v. image v h) is.in_version
+spelled_in : (version : GuestImageVersion) (text : List ℕ) (h : HostOf) → IsGuestImageIn version text h → text ≡ guest_image version h
+spelled_in version text h is = is.image.spelled ∙ append-nil (guest_image is.image.version h) ∙ ap (λ v. guest_image v h) is.in_version
 
-pub hosts_have_images : HostsHaveImages
-hosts_have_images = record {
+pub hosts_have_guest_images : HostsHaveGuestImages
+hosts_have_guest_images = record {
   two = λ h valid. in_version Two h valid (held h valid);
   one = λ h valid narrow. in_version One h valid narrow;
   narrow = λ text h is. subst (λ v. h.width ≤ most_width_of v) is.in_version is.image.holds;
@@ -90,7 +90,7 @@ frames_ascend h = ascending (maps.entries h.frames) (maps.entries_sorted h.frame
 abbrev IsSizedPage : HostFrame → Type 0
 IsSizedPage frame = (page : List ℕ) → frame.page ≡ Some page → length page ≡ 4096
 
-frame_size : (version : ImageVersion) (e : ℕ × HostFrame) → IsSizedPage e.1 → length (frame_text version e) ≡ 16 + 4096 * length (cond (sends_page version e) (e ∷ []) [])
+frame_size : (version : GuestImageVersion) (e : ℕ × HostFrame) → IsSizedPage e.1 → length (frame_text version e) ≡ 16 + 4096 * length (cond (sends_page version e) (e ∷ []) [])
 frame_size version e sized =
     length-append (frame_head_of version e.0 e.1) (page_text version e.1.page) ∙ ap (λ n. n + length (page_text version e.1.page)) (head_len version e.0 e.1)
     ∙ ap (λ n. 16 + n) (by e.1.page sized)
@@ -103,7 +103,7 @@ frame_size version e sized =
         sent true = refl
         sent false = sized page refl
 
-frames_size : (version : ImageVersion) (es : List (ℕ × HostFrame)) → AllByRecursion (λ e. IsSizedPage e.1) es → length (flat_map (frame_text version) es) ≡ 16 * length es + 4096 * length (filter (sends_page version) es)
+frames_size : (version : GuestImageVersion) (es : List (ℕ × HostFrame)) → AllByRecursion (λ e. IsSizedPage e.1) es → length (flat_map (frame_text version) es) ≡ 16 * length es + 4096 * length (filter (sends_page version) es)
 frames_size version [] sized = refl
 frames_size version (e ∷ es) sized =
     let one = frame_size version e sized.0 in
@@ -115,14 +115,14 @@ frames_size version (e ∷ es) sized =
     by true = omega arith
     by false = omega arith
 
-head_size : (version : ImageVersion) (h : HostOf) → length (host_head version h) ≡ 32
+head_size : (version : GuestImageVersion) (h : HostOf) → length (host_head version h) ≡ 32
 unfolding host_head
 head_size One h = refl
 head_size Two h = refl
 
-pub images_have_sizes : ImagesHaveSizes
-unfolding image
-images_have_sizes version h valid =
+pub guest_images_have_sizes : GuestImagesHaveSizes
+unfolding guest_image
+guest_images_have_sizes version h valid =
     let es = maps.entries h.frames in
     let parts = flat_map part_text (maps.entries h.parts) in
     let count = little_bytes 8 (length (maps.entries h.parts)) in

@@ -7,7 +7,7 @@ use Rattle.mig_headers.proofs.PairTexts.{canonical_pairs_are_computed}
 use Rattle.mig_guest.specs.declared.part_code.PartCode.{PartCode}
 use Rattle.mig_guest.specs.declared.part_code.PartCode.TheVariants.{EmulatorPairs, CpuidLeaf, Msr, P2mFrames}
 use Rattle.mig_guest.specs.PartCodes.{code_number, code_of_number, row_of}
-use Rattle.mig_image.specs.Image.{part_head_of}
+use Rattle.mig_image.specs.GuestImage.{part_head_of}
 use Rattle.mig_host.proofs.InOrder.{entries_behind, no_entries, has_from, get_at, each_entry, few_ranks, nat_rises}
 use Rattle.mig_host.proofs.HostsMade.{valid_part}
 use Rattle.mig_image.proofs.FieldBytes.{word_then, word_last, regroup}

@@ -6,7 +6,7 @@ use Rattle.std.proofs.KnownBytes.{Appends-trans}
 use Rattle.std.specs.FinMap as maps
 use Rattle.mig_bytes.specs.declared.failure.WriteFailed.{WriteFailed}
 use Rattle.mig_host.proofs.InOrder.{each_entry}
-use Rattle.mig_image.specs.Image.{host_head, image}
+use Rattle.mig_image.specs.GuestImage.{host_head, guest_image}
 use Rattle.mig_image.proofs.Parts.{len_small, valid_narrow}
 
 module _ {X : Type 0} where
@@ -48,8 +48,8 @@ walked F all i n a b done is before = subst (λ l. Appends a b (flat_map F l)) (
 pub image_is : (h : HostOf) (head : List ℕ) (kind : Kind) (width frames parts : ℕ)
     → head ≡ codes "XGIMAGE2" ++ (little_bytes 4 (kind_number kind) ++ (little_bytes 4 0 ++ (little_bytes 8 width ++ little_bytes 8 frames)))
     → kind ≡ h.kind → width ≡ h.width → frames ≡ maps.len h.frames → parts ≡ length (maps.entries h.parts)
-    → image Two h ≡ head ++ (flat_map (frame_text Two) (maps.entries h.frames) ++ (little_bytes 8 parts ++ flat_map part_text (maps.entries h.parts)))
-unfolding image host_head
+    → guest_image Two h ≡ head ++ (flat_map (frame_text Two) (maps.entries h.frames) ++ (little_bytes 8 parts ++ flat_map part_text (maps.entries h.parts)))
+unfolding guest_image host_head
 image_is h head kind width frames parts is k w f p = rw (is, k, w, f, maps.len-entries h.frames, p) refl
 
 -- a part of a valid host has a length of 32 bits

@@ -1,6 +1,6 @@
 -- Pages that are all zero.
-use Rattle.mig_image.proofs.Common.{◌≡◌, ℕ, zero, suc, ◌+◌, ◌<◌, Bool, true, false, nat_eq, List, [], ◌∷◌, length, take, replicate, Some, refl, sym, ap, ◌∙◌, arith, ◌&&◌, list_all, and_parts, eqb-true, eqb-false, ne_eqb, ImageVersion, is_all_zero, is_left_out}
-use Rattle.mig_image.specs.Image.{page_left_out}
+use Rattle.mig_image.proofs.Common.{◌≡◌, ℕ, zero, suc, ◌+◌, ◌<◌, Bool, true, false, nat_eq, List, [], ◌∷◌, length, take, replicate, Some, refl, sym, ap, ◌∙◌, arith, ◌&&◌, list_all, and_parts, eqb-true, eqb-false, ne_eqb, GuestImageVersion, is_all_zero, is_left_out}
+use Rattle.mig_image.specs.GuestImage.{page_left_out}
 use Rattle.std.proofs.Common.{get_or}
 use Rattle.std.specs.Int.RustNames.{bit_or}
 use Rattle.std.specs.Int.Bits.{or_zero_l}
@@ -43,7 +43,7 @@ pub zeros_whole : length page_left_out ≡ 4096
 unfolding page_left_out
 zeros_whole = refl
 
-pub left_out_is_zeros : (version : ImageVersion) (page : List ℕ) → is_left_out version (Some page) ≡ true → length page ≡ 4096 → page ≡ page_left_out
+pub left_out_is_zeros : (version : GuestImageVersion) (page : List ℕ) → is_left_out version (Some page) ≡ true → length page ≡ 4096 → page ≡ page_left_out
 unfolding page_left_out
 left_out_is_zeros version page left_out size =
     let p = and_parts _ (is_all_zero page) left_out in only_zeros page p.1 ∙ ap (λ n. replicate n 0) size

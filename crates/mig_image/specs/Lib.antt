@@ -1,7 +1,7 @@
-pub mod Image
-pub mod ImageParts
-pub mod ImageForm
+pub mod GuestImage
+pub mod GuestImageParts
+pub mod GuestImageForm
 pub mod Answer
 pub mod PartCounts
 pub mod FrameEnds
-pub mod ImageLaws
+pub mod GuestImageLaws

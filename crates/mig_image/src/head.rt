@@ -2,16 +2,16 @@ ghost use Rattle.std.specs.Prelude.{◌≡◌, OnOk, IfOk, IsErrOf, None, nat_lt
 ghost use Rattle.mig_bytes.specs.Bytes.{TakesBytes};
 ghost use Rattle.mig_bytes.specs.Faults.{RisesOnReadFault};
 ghost use Rattle.mig_bytes.specs.Fields.{le32};
-ghost use Rattle.mig_bytes.specs.Judged.{Gives};
+ghost use Rattle.mig_bytes.specs.Judged.{AgreesWithJudging};
 ghost use Rattle.mig_bytes.specs.declared.stop.Stop.TheVariants.{Memory};
 ghost use Rattle.mig_bytes_form.specs.Form.{judged_as};
 ghost use Rattle.mig_bytes_form.specs.Tests.{first_named};
 ghost use Rattle.mig_headers.specs.Headers.{kind_of_number};
-ghost use Rattle.mig_image.specs.Image.{most_width_of};
-ghost use Rattle.mig_image.specs.ImageForm.{host_head_causes, host_head_form};
-ghost use Rattle.mig_image.specs.ImageParts.{head_version};
+ghost use Rattle.mig_image.specs.GuestImage.{most_width_of};
+ghost use Rattle.mig_image.specs.GuestImageForm.{host_head_causes, host_head_form};
+ghost use Rattle.mig_image.specs.GuestImageParts.{head_version};
 
-use crate::version::ImageVersion;
+use crate::version::GuestImageVersion;
 use mig_bytes::{Source, Stop, take_part, u32_le, u64_be, u64_le};
 use mig_headers::{ImageCause, Kind};
 use mig_pagetypes::{MOST_FRAMES, TOP_LIMIT};
@@ -28,23 +28,23 @@ const MOST_WIDTH_ONE: u64 = 1 << 28;
 const MOST_WIDTH_TWO: u64 = 1 << 52;
 
 /// The version of an image with this head.
-pub(crate) fn version_in(head: &[u8; 32]) -> ImageVersion
+pub(crate) fn version_in(head: &[u8; 32]) -> GuestImageVersion
     ensures { result ≡ head_version head.now }
 {
     if u64_be(head, 0) == NAME_TWO {
-        ImageVersion::Two
+        GuestImageVersion::Two
     } else {
-        ImageVersion::One
+        GuestImageVersion::One
     }
 }
 
 /// Whether the version holds no host of this width.
-fn is_above_version(version: ImageVersion, width: u64) -> bool
+fn is_above_version(version: GuestImageVersion, width: u64) -> bool
     ensures { result ≡ nat_lt (most_width_of version) width }
 {
     match version {
-        ImageVersion::One => width > MOST_WIDTH_ONE,
-        ImageVersion::Two => width > MOST_WIDTH_TWO,
+        GuestImageVersion::One => width > MOST_WIDTH_ONE,
+        GuestImageVersion::Two => width > MOST_WIDTH_TWO,
     }
 }
 
@@ -88,7 +88,7 @@ fn head_fault(widest: u64, head: &[u8; 32]) -> Option<ImageCause>
 /// Takes the head of an image of a host that is no wider than this.
 #[tactic(auto, unfolding(mig_bytes_form::specs::Form::judged_as))]
 pub(crate) fn read_head<S: Source>(src: &mut S, widest: u64) -> Result<[u8; 32], Stop<ImageCause>>
-    ensures read { Gives (λ v head. head ≡ v) (S.left src.old) (S.left src.new) (judged_as (host_head_form widest)) result }
+    ensures read { AgreesWithJudging (λ v head. head ≡ v) (S.left src.old) (S.left src.new) (judged_as (host_head_form widest)) result }
     ensures fine { IfOk result (λ head. first_named (host_head_causes widest head) ≡ None) }
     ensures taken { OnOk result (TakesBytes (S.left src.old) (S.left src.new)) }
     ensures faults { RisesOnReadFault (S.faults src.old) (S.faults src.new) result }

@@ -1,6 +1,6 @@
-//! The image file that keeps a guest as it stands in a machine.
+//! The guest image that keeps a guest as it stands in a machine.
 //!
-//! Responsible for: the image file in its two versions, reading both, and writing version 2. What a host is, which one a
+//! Responsible for: the guest image in its two versions, reading both, and writing version 2. What a host is, which one a
 //! restored guest becomes and as which guest it is seen is left to mig_host, whose calls and laws are passed on. It knows
 //! nothing of streams.
 //!
@@ -18,13 +18,13 @@ mod write;
 mod zeros;
 
 pub use law::{
-    frames_ascend, hosts_have_images, image_is_judged, images_have_sizes, judged_is_image,
-    one_image, zero_pages_are_left_out,
+    frames_ascend, guest_images_have_sizes, hosts_have_guest_images, image_is_judged,
+    judged_is_image, one_image, zero_pages_are_left_out,
 };
 pub use mig_host::{
     Host, HostAnswer, SoundAnswer, guest_of, host_of, hosted_is_seen, hosted_is_sound,
     hosted_is_valid, hosted_p2m_frames_are_filled, hvm_hosted_is_seen,
 };
 pub use read::{ImageAnswer, read_host};
-pub use version::ImageVersion;
+pub use version::GuestImageVersion;
 pub use write::write_host;

@@ -4,20 +4,20 @@ ghost use Rattle.mig_bytes.specs.Answers.{or_stop};
 ghost use Rattle.mig_bytes.specs.Bytes.{TakesBytes};
 ghost use Rattle.mig_bytes.specs.Faults.{RisesOnReadFault};
 ghost use Rattle.mig_bytes.specs.Fields.{le64};
-ghost use Rattle.mig_bytes.specs.Judged.{Gives};
+ghost use Rattle.mig_bytes.specs.Judged.{AgreesWithJudging};
 ghost use Rattle.mig_bytes.specs.declared.stop.Stop.TheVariants.{Memory};
 ghost use Rattle.mig_bytes_form.specs.Form.{judged_as};
 ghost use Rattle.mig_bytes_form.specs.Tests.{first_named};
 ghost use Rattle.mig_pagetypes.specs.Limits.{most_frames};
 ghost use Rattle.mig_guest.specs.Hosts.{most_width};
-ghost use Rattle.mig_image.specs.Answer.{IsHost, ReadsHost, BeginsWithImage};
-ghost use Rattle.mig_image.specs.ImageForm.{host_head_causes, frames_form, count_form, behind_head, host_at};
-ghost use Rattle.mig_image.specs.ImageParts.{opened};
+ghost use Rattle.mig_image.specs.Answer.{IsHost, ReadsHost, BeginsWithGuestImage};
+ghost use Rattle.mig_image.specs.GuestImageForm.{host_head_causes, frames_form, count_form, behind_head, host_at};
+ghost use Rattle.mig_image.specs.GuestImageParts.{opened};
 
 use crate::frame::read_frame;
 use crate::head::{kind_in, read_head, version_in};
 use crate::read_part::read_parts;
-use crate::version::ImageVersion;
+use crate::version::GuestImageVersion;
 use mig_bytes::{Answer, Source, Stop, answer_for, take_part, u64_le};
 use mig_headers::{ImageCause, ImagePlace};
 use mig_host::Host;
@@ -29,13 +29,13 @@ pub type ImageAnswer = Answer<ImagePlace, ImageCause>;
 /// Takes so many frames.
 fn read_frames<S: Source>(
     src: &mut S,
-    version: ImageVersion,
+    version: GuestImageVersion,
     host: &mut Host,
     count: u64,
 ) -> Result<(), Stop<(ImagePlace, ImageCause)>>
     requires few { count ≤ most_frames }
     requires none { length (maps.entries host.old.host.frames) ≡ 0 }
-    ensures read { Gives (λ _ h. host.new.host ≡ h) (S.left src.old) (S.left src.new) (judged_as (frames_form version host.old.host count)) result }
+    ensures read { AgreesWithJudging (λ _ h. host.new.host ≡ h) (S.left src.old) (S.left src.new) (judged_as (frames_form version host.old.host count)) result }
     ensures width { OnOk result (host.new.host.width ≡ host.old.host.width) }
     ensures parts { OnOk result (host.new.host.parts ≡ host.old.host.parts) }
     ensures taken { OnOk result (TakesBytes (S.left src.old) (S.left src.new)) }
@@ -54,7 +54,7 @@ fn read_frames<S: Source>(
 /// Takes the number of parts.
 #[tactic(auto, unfolding(mig_bytes_form::specs::Form::judged_as))]
 fn read_count<S: Source>(src: &mut S) -> Result<u64, Stop<ImageCause>>
-    ensures read { Gives (λ v count. count ≡ v) (S.left src.old) (S.left src.new) (judged_as count_form) result }
+    ensures read { AgreesWithJudging (λ v count. count ≡ v) (S.left src.old) (S.left src.new) (judged_as count_form) result }
     ensures taken { OnOk result (TakesBytes (S.left src.old) (S.left src.new)) }
     ensures faults { RisesOnReadFault (S.faults src.old) (S.faults src.new) result }
     ensures takes_no_memory { ¬ IsErrOf result Memory }
@@ -74,7 +74,7 @@ fn take_behind<S: Source>(
 ) -> Result<(), Stop<(ImagePlace, ImageCause)>>
     requires opened { host.old.host ≡ opened head.now }
     requires few { le64 head.now 24 ≤ most_frames }
-    ensures read { Gives (λ _ h. host.new.host ≡ h) (S.left src.old) (S.left src.new) (judged_as (behind_head head.now)) result }
+    ensures read { AgreesWithJudging (λ _ h. host.new.host ≡ h) (S.left src.old) (S.left src.new) (judged_as (behind_head head.now)) result }
     ensures width { OnOk result (host.new.host.width ≡ host.old.host.width) }
     ensures taken { OnOk result (TakesBytes (S.left src.old) (S.left src.new)) }
     ensures faults { RisesOnReadFault (S.faults src.old) (S.faults src.new) result }
@@ -96,7 +96,7 @@ fn read_behind<S: Source>(
 ) -> Result<Host, Stop<(ImagePlace, ImageCause)>>
     requires widest { widest ≤ most_width }
     requires fine { first_named (host_head_causes widest head.now) ≡ None }
-    ensures read { Gives (λ host h. host.host ≡ h) (S.left src.old) (S.left src.new) (judged_as (behind_head head.now)) result }
+    ensures read { AgreesWithJudging (λ host h. host.host ≡ h) (S.left src.old) (S.left src.new) (judged_as (behind_head head.now)) result }
     ensures narrow { IfOk result (λ host. host.host.width ≤ widest) }
     ensures taken { OnOk result (TakesBytes (S.left src.old) (S.left src.new)) }
     ensures faults { RisesOnReadFault (S.faults src.old) (S.faults src.new) result }
@@ -113,7 +113,7 @@ fn read_whole<S: Source>(
     widest: u64,
 ) -> Result<Host, Stop<(ImagePlace, ImageCause)>>
     requires { widest ≤ most_width }
-    ensures read { Gives IsHost (S.left src.old) (S.left src.new) (host_at widest) result }
+    ensures read { AgreesWithJudging IsHost (S.left src.old) (S.left src.new) (host_at widest) result }
     ensures narrow { IfOk result (λ host. host.host.width ≤ widest) }
     ensures taken { OnOk result (TakesBytes (S.left src.old) (S.left src.new)) }
     ensures faults { RisesOnReadFault (S.faults src.old) (S.faults src.new) result }
@@ -132,7 +132,7 @@ fn read_whole<S: Source>(
 pub fn read_host<S: Source>(alloc: Global, src: &mut S, widest: u64) -> Result<Host, ImageAnswer>
     requires { widest ≤ most_width }
     ensures read { ReadsHost widest (S.left src.old) (S.left src.new) result }
-    ensures spelled { BeginsWithImage widest (S.left src.old) (S.left src.new) result }
+    ensures spelled { BeginsWithGuestImage widest (S.left src.old) (S.left src.new) result }
     ensures narrow { IfOk result (λ host. host.host.width ≤ widest) }
     ensures faults { RisesOnReadFault (S.faults src.old) (S.faults src.new) (or_stop result) }
 {

@@ -3,7 +3,7 @@ ghost use Rattle.std.specs.List.{list_all};
 ghost use Rattle.std.specs.FinMap as maps;
 ghost use Rattle.mig_bytes.specs.Bytes.{TakesBytes};
 ghost use Rattle.mig_bytes.specs.Faults.{RisesOnReadFault};
-ghost use Rattle.mig_bytes.specs.Judged.{Gives};
+ghost use Rattle.mig_bytes.specs.Judged.{AgreesWithJudging};
 ghost use Rattle.mig_bytes.specs.declared.stop.Stop.TheVariants.{Memory};
 ghost use Rattle.mig_bytes_form.specs.Form.{judged_as};
 ghost use Rattle.mig_bytes_form.specs.Tests.{first_named, is_passed};
@@ -12,8 +12,8 @@ ghost use Rattle.mig_headers.specs.RecordTypes.{most_policy_entries};
 ghost use Rattle.mig_guest.specs.Hosts.{IsValid};
 ghost use Rattle.mig_guest.specs.PartCodes.{code_of_number};
 ghost use Rattle.mig_guest.specs.Parts.{PartMap};
-ghost use Rattle.mig_image.specs.ImageForm.{part_causes, content_causes, full_policy, part_head_form, part_bytes_form, padding_form, host_part_form, host_parts_form};
-ghost use Rattle.mig_image.specs.ImageParts.{head_key, code_fits, code_allows, has_part_from};
+ghost use Rattle.mig_image.specs.GuestImageForm.{part_causes, content_causes, full_policy, part_head_form, part_bytes_form, padding_form, host_part_form, host_parts_form};
+ghost use Rattle.mig_image.specs.GuestImageParts.{head_key, code_fits, code_allows, has_part_from};
 ghost use Rattle.mig_image.specs.PartCounts.{Counts};
 
 use mig_bytes::{Source, Stop, pad_len, take_long, take_part, u32_le};
@@ -130,7 +130,7 @@ fn read_part_head<S: Source>(
     entries: Entries,
 ) -> Result<[u8; 16], Stop<ImageCause>>
     requires { Counts entries host.now.host.parts }
-    ensures read { Gives (λ v head. head ≡ v) (S.left src.old) (S.left src.new) (judged_as (part_head_form host.now.host)) result }
+    ensures read { AgreesWithJudging (λ v head. head ≡ v) (S.left src.old) (S.left src.new) (judged_as (part_head_form host.now.host)) result }
     ensures fine { IfOk result (λ head. first_named (part_causes host.now.host head) ≡ None) }
     ensures valid { IfOk result (λ _. IsValid host.now.host) }
     ensures taken { OnOk result (TakesBytes (S.left src.old) (S.left src.new)) }
@@ -153,7 +153,7 @@ fn read_bytes<S: Source>(
     code: u32,
     len: u32,
 ) -> Result<Vec<u8>, Stop<ImageCause>>
-    ensures read { Gives (λ v bytes. bytes ≡ v.items) (S.left src.old) (S.left src.new) (judged_as (part_bytes_form code len)) result }
+    ensures read { AgreesWithJudging (λ v bytes. bytes ≡ v.items) (S.left src.old) (S.left src.new) (judged_as (part_bytes_form code len)) result }
     ensures len { IfOk result (λ v. length v.items ≡ len) }
     ensures fine { IfOk result (λ v. first_named (content_causes code v.items) ≡ None) }
     ensures taken { OnOk result (TakesBytes (S.left src.old) (S.left src.new)) }
@@ -176,7 +176,7 @@ fn are_zeros(bytes: &[u8]) -> bool
 /// Takes the zeros behind so many bytes.
 #[tactic(auto, unfolding(mig_bytes_form::specs::Form::judged_as))]
 fn read_padding<S: Source>(src: &mut S, len: u32) -> Result<(), Stop<ImageCause>>
-    ensures read { Gives (λ _ _. ⊤) (S.left src.old) (S.left src.new) (judged_as (padding_form len)) result }
+    ensures read { AgreesWithJudging (λ _ _. ⊤) (S.left src.old) (S.left src.new) (judged_as (padding_form len)) result }
     ensures taken { OnOk result (TakesBytes (S.left src.old) (S.left src.new)) }
     ensures faults { RisesOnReadFault (S.faults src.old) (S.faults src.new) result }
     ensures takes_no_memory { ¬ IsErrOf result Memory }
@@ -199,7 +199,7 @@ fn read_part<S: Source>(
     entries: &mut Entries,
 ) -> Result<(), Stop<ImageCause>>
     requires { Counts entries.old host.old.host.parts }
-    ensures read { Gives (λ _ h. host.new.host ≡ h) (S.left src.old) (S.left src.new) (judged_as (host_part_form host.old.host)) result }
+    ensures read { AgreesWithJudging (λ _ h. host.new.host ≡ h) (S.left src.old) (S.left src.new) (judged_as (host_part_form host.old.host)) result }
     ensures width { OnOk result (host.new.host.width ≡ host.old.host.width) }
     ensures counted { OnOk result (Counts entries.new host.new.host.parts) }
     ensures taken { OnOk result (TakesBytes (S.left src.old) (S.left src.new)) }
@@ -225,7 +225,7 @@ pub(crate) fn read_parts<S: Source>(
     count: u64,
 ) -> Result<(), Stop<(ImagePlace, ImageCause)>>
     requires { host.old.host.parts ≡ maps.empty }
-    ensures read { Gives (λ _ h. host.new.host ≡ h) (S.left src.old) (S.left src.new) (judged_as (host_parts_form host.old.host count)) result }
+    ensures read { AgreesWithJudging (λ _ h. host.new.host ≡ h) (S.left src.old) (S.left src.new) (judged_as (host_parts_form host.old.host count)) result }
     ensures width { OnOk result (host.new.host.width ≡ host.old.host.width) }
     ensures taken { OnOk result (TakesBytes (S.left src.old) (S.left src.new)) }
     ensures faults { RisesOnReadFault (S.faults src.old) (S.faults src.new) result }

@@ -1,7 +1,7 @@
-/// The version of an image file. They differ in the name that they begin with and in a frame's word; and version 2 leaves
+/// The version of a guest image. They differ in the name that they begin with and in a frame's word; and version 2 leaves
 /// out the pages that are all zero.
 #[derive(Clone, Copy, Debug, PartialEq, Eq)]
-pub enum ImageVersion {
+pub enum GuestImageVersion {
     One,
     Two,
 }

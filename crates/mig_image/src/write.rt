@@ -5,14 +5,14 @@ ghost use Rattle.std.specs.Option.{option_copied};
 ghost use Rattle.byteorder.specs.Endian.{little_bytes};
 ghost use Rattle.mig_bytes.specs.Bytes.{Puts};
 ghost use Rattle.mig_bytes.specs.Fields.{with_field};
-ghost use Rattle.mig_bytes.specs.Faults.{HasCause};
+ghost use Rattle.mig_bytes.specs.Faults.{FaultHasCause};
 ghost use Rattle.mig_headers.specs.Headers.{kind_number};
 ghost use Rattle.mig_pagetypes.specs.Limits.{pfn_limit};
 ghost use Rattle.mig_guest.specs.Hosts.{IsValid};
 ghost use Rattle.mig_guest.specs.Frames.{entries_from};
 ghost use Rattle.mig_pagetypes.specs.PageTypes.{number_of};
-ghost use Rattle.mig_image.specs.declared.version.ImageVersion.TheVariants.{Two};
-ghost use Rattle.mig_image.specs.Image.{frame_head_of, frame_text, is_left_out, part_head_of, part_text, image, zero_flag};
+ghost use Rattle.mig_image.specs.declared.version.GuestImageVersion.TheVariants.{Two};
+ghost use Rattle.mig_image.specs.GuestImage.{frame_head_of, frame_text, is_left_out, part_head_of, part_text, guest_image, zero_flag};
 
 use crate::head::NAME_TWO;
 use crate::zeros::is_all_zero;
@@ -64,7 +64,7 @@ fn word_of(pfn: u64, kind: PageType, left_out: bool) -> u64
 }
 
 /// The head of a frame, whose page is left out or isn't.
-#[tactic(auto, unfolding(crate::specs::Image::frame_head_of))]
+#[tactic(auto, unfolding(crate::specs::GuestImage::frame_head_of))]
 fn frame_head(pfn: u64, kind: PageType, machine: u64, left_out: bool) -> [u8; 16]
     requires { pfn < pfn_limit }
     ensures { (page : Option (List ℕ)) → left_out ≡ is_left_out Two page → result ≡ frame_head_of Two pfn (record { type = kind; machine = machine; page = page }) }
@@ -76,7 +76,7 @@ fn frame_head(pfn: u64, kind: PageType, machine: u64, left_out: bool) -> [u8; 16
 }
 
 /// The head of a part with so many bytes.
-#[tactic(auto, unfolding(crate::specs::Image::part_head_of))]
+#[tactic(auto, unfolding(crate::specs::GuestImage::part_head_of))]
 fn part_head(key: PartKey, len: u32) -> [u8; 16]
     ensures { result ≡ part_head_of key len }
 {
@@ -158,7 +158,7 @@ fn fill_frames(buffer: &mut [u8], host: &Host, start: u64, count: u64) -> (u64, 
 /// Appends all frames, four at a time.
 fn write_frames<K: Sink>(sink: &mut K, host: &Host) -> Result<(), WriteFailed>
     ensures bytes { Puts (flat_map (frame_text Two) (maps.entries host.now.host.frames)) (K.written sink.old) (K.written sink.new) result }
-    ensures cause { HasCause (K.faults sink.old) (K.faults sink.new) result }
+    ensures cause { FaultHasCause (K.faults sink.old) (K.faults sink.new) result }
 {
     let mut buffer = no_bytes();
     let total = host.frames();
@@ -192,7 +192,7 @@ fn count_parts(host: &Host) -> u64
 /// Appends the number of parts.
 fn write_count<K: Sink>(sink: &mut K, count: u64) -> Result<(), WriteFailed>
     ensures bytes { Puts (little_bytes 8 count) (K.written sink.old) (K.written sink.new) result }
-    ensures cause { HasCause (K.faults sink.old) (K.faults sink.new) result }
+    ensures cause { FaultHasCause (K.faults sink.old) (K.faults sink.new) result }
 {
     put_all(sink, &count.to_le_bytes())
 }
@@ -201,7 +201,7 @@ fn write_count<K: Sink>(sink: &mut K, count: u64) -> Result<(), WriteFailed>
 fn write_part<K: Sink>(sink: &mut K, key: PartKey, bytes: &[u8]) -> Result<(), WriteFailed>
     requires { length bytes.now < 2 ^ 32 }
     ensures bytes { Puts (part_text (key, bytes.now)) (K.written sink.old) (K.written sink.new) result }
-    ensures cause { HasCause (K.faults sink.old) (K.faults sink.new) result }
+    ensures cause { FaultHasCause (K.faults sink.old) (K.faults sink.new) result }
 {
     let len = bytes.len() as u32;
     put_all(sink, &part_head(key, len))?;
@@ -215,7 +215,7 @@ fn write_parts<K: Sink>(sink: &mut K, host: &Host, count: u64) -> Result<(), Wri
     requires valid { IsValid host.now.host }
     requires count { count ≡ length (maps.entries host.now.host.parts) }
     ensures bytes { Puts (flat_map part_text (maps.entries host.now.host.parts)) (K.written sink.old) (K.written sink.new) result }
-    ensures cause { HasCause (K.faults sink.old) (K.faults sink.new) result }
+    ensures cause { FaultHasCause (K.faults sink.old) (K.faults sink.new) result }
 {
     let mut after = None;
     for _ in 0..count {
@@ -232,8 +232,8 @@ fn write_parts<K: Sink>(sink: &mut K, host: &Host, count: u64) -> Result<(), Wri
 
 /// Appends the image of the host, of version 2. It takes no memory. After a failed write a part of the image is appended.
 pub fn write_host<K: Sink>(sink: &mut K, host: &Host) -> Result<(), WriteFailed>
-    ensures bytes { Puts (image Two host.now.host) (K.written sink.old) (K.written sink.new) result }
-    ensures cause { HasCause (K.faults sink.old) (K.faults sink.new) result }
+    ensures bytes { Puts (guest_image Two host.now.host) (K.written sink.old) (K.written sink.new) result }
+    ensures cause { FaultHasCause (K.faults sink.old) (K.faults sink.new) result }
 {
     put_all(sink, &head_bytes(host.kind(), host.width(), host.frames()))?;
     write_frames(sink, host)?;

@@ -1,8 +1,8 @@
 ghost use Rattle.std.specs.Prelude.{◌≡◌};
-ghost use Rattle.mig_image.specs.Image.{is_all_zero, page_left_out};
+ghost use Rattle.mig_image.specs.GuestImage.{is_all_zero, page_left_out};
 
 /// The page that is all zero.
-#[tactic(auto, unfolding(crate::specs::Image::page_left_out))]
+#[tactic(auto, unfolding(crate::specs::GuestImage::page_left_out))]
 pub(crate) fn zero_page() -> [u8; 4096]
     ensures { result ≡ page_left_out }
 {

@@ -1,6 +1,6 @@
 -- An accepted guest is whole, with the parts of its device model: each chunk that is spelled leaves the guest on its way and the
 -- emulators well formed, and the tail sets the context.
-use Rattle.mig_legacy.proofs.Common.{◌≡◌, ℕ, ◌<◌, true, false, List, [], ◌++◌, length, Option, Some, None, refl, sym, ap, subst, ◌∙◌, arith, length-append, All-append, fold-append, AreBytes, Hvm, Pv, GuestOf, width_of, IsStreamed, guest_done, context_kept, EmulatorsOf, emulators_of, put_libxl_content, no_emulators, AreEmulators, IsStreamedBare, Grows, IsBegun, sent, put_record, empty_guest, sent_kind, words, page_data_words, ChunkKind, End, LegacyContent, LegacyChunk, LegacyTail, Nothing, param_key, tsc_key, store_records, image_records, tail_records, device_records, guest_without, device_model, is_legacy_ended, mean_legacy, put_in_guest, put_in_emulators, put_tail, put_device, HasLegacyContent, StoreFits, FollowsLegacy, IsTail, IsDevice, AcceptedLegacy, blank, IsOfBytes, signature}
+use Rattle.mig_legacy.proofs.Common.{◌≡◌, ℕ, ◌<◌, true, false, List, [], ◌++◌, length, Option, Some, None, refl, sym, ap, subst, ◌∙◌, arith, length-append, All-append, fold-append, AreBytes, Hvm, Pv, GuestOf, width_of, IsStreamed, guest_done, context_kept, EmulatorsOf, emulators_of, put_libxl_content, no_emulators, AreEmulators, IsStreamedBare, GrewByRecord, IsBegun, sent, put_record, empty_guest, sent_kind, words, page_data_words, ChunkKind, End, LegacyContent, LegacyChunk, LegacyTail, Nothing, param_key, tsc_key, store_records, image_records, tail_records, device_records, guest_without, device_model, is_legacy_ended, mean_legacy, put_in_guest, put_in_emulators, put_tail, put_device, HasLegacyContent, StoreFits, FollowsLegacy, IsTail, IsDevice, AcceptedLegacy, blank, IsOfBytes, signature}
 use Rattle.mig_guest.specs.Frames.{IsFew}
 use Rattle.mig_records.proofs.BodyBytes.{bytes_front, bytes_back}
 use Rattle.mig_bytes.specs.Sequences.{Spells}
@@ -28,7 +28,7 @@ IsByte b = b < 256
 
 -- ---- chunks
 
-guest_kept : (g : GuestOf) → g.kind ≡ Hvm → g.top ≡ 0 → (kind : ChunkKind) (body : List ℕ) (c : LegacyContent) → HasLegacyContent kind body c → IsWithinLimits kind → AreBytes body → Grows g (put_in_guest g c)
+guest_kept : (g : GuestOf) → g.kind ≡ Hvm → g.top ≡ 0 → (kind : ChunkKind) (body : List ℕ) (c : LegacyContent) → HasLegacyContent kind body c → IsWithinLimits kind → AreBytes body → GrewByRecord g (put_in_guest g c)
 guest_kept g hvm zero _ _ _ ends limits all = grows_not g
 guest_kept g hvm zero _ _ _ (batch n body es is) limits all =
     let ws = words n is.words_bytes in

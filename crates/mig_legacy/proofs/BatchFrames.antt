@@ -1,5 +1,5 @@
 -- The frames of a batch are those of a PAGE_DATA, whose words are good.
-use Rattle.mig_legacy.proofs.Common.{◌≡◌, ℕ, ◌≤◌, Bool, true, false, cond, List, [], ◌∷◌, length, nat_le, Option, Some, None, Ok, Err, refl, sym, ap, subst, ◌∙◌, arith, length-append, ◌&&◌, ◌==◌, All, All-nil, All-cons, All-append, All-head, All-tail, Judged, ◌>>=◌, each, Gives, Passes, Stop, then_reads, Kind, Hvm, LegacyCause, rows_fine, GuestOf, word_type, legacy_type, placeholder, none_pass, entry_at, with_places, put_entries, FrameEntry, IsGoodWord, is_reserved, fault_of_batch, batch_rows, page_data_word, page_data_words_of, page_data_words, judged_as, words_form, batch_form, LegacyContent, Frames, put_in_guest}
+use Rattle.mig_legacy.proofs.Common.{◌≡◌, ℕ, ◌≤◌, Bool, true, false, cond, List, [], ◌∷◌, length, nat_le, Option, Some, None, Ok, Err, refl, sym, ap, subst, ◌∙◌, arith, length-append, ◌&&◌, ◌==◌, All, All-nil, All-cons, All-append, All-head, All-tail, Judged, ◌>>=◌, each, AgreesWithJudging, Passes, Stop, then_reads, Kind, Hvm, LegacyCause, rows_fine, GuestOf, word_type, legacy_type, placeholder, none_pass, entry_at, with_places, put_entries, FrameEntry, IsGoodWord, is_reserved, fault_of_batch, batch_rows, page_data_word, page_data_words_of, page_data_words, judged_as, words_form, batch_form, LegacyContent, Frames, put_in_guest}
 use Rattle.mig_bytes.specs.declared.stop.Stop.TheVariants.{Refused, ReadFault, Memory}
 use Rattle.mig_headers.specs.declared.fault.Cause.{Cause}
 use Rattle.mig_legacy.specs.Seen.{cut_short}
@@ -36,11 +36,11 @@ few_words (w ∷ ws) = omega (arith, length-append (page_data_words_of w) (page_
 -- ---- the frames
 
 module _ {X Y V : Type 0} (R : X → Y → Type 0) (Q : V → LegacyContent → Type 0) (f : List ℕ → Judged Cause Y) (says : Y → LegacyContent) where
-  pub cut_read : (a b : Option (List ℕ)) (x : X) (v : V) → Gives R a b f (Ok x) → ((y : Y) → R x y → Q v (says y)) → Gives Q a b (λ i. or_truncated (f i) >>= λ y. Passes (says y.0) y.1) (Ok v)
+  pub cut_read : (a b : Option (List ℕ)) (x : X) (v : V) → AgreesWithJudging R a b f (Ok x) → ((y : Y) → R x y → Q v (says y)) → AgreesWithJudging Q a b (λ i. or_truncated (f i) >>= λ y. Passes (says y.0) y.1) (Ok v)
   cut_read None b x v h turn = tt
   cut_read (Some i) b x v (y, rest, is, left, r) turn = (says y, rest, ap (λ j. or_truncated j >>= λ y. Passes (says y.0) y.1) is, left, turn y r)
 
-  pub cut_stops : (a b : Option (List ℕ)) (e : Stop Cause) → Gives R a b f (Err e) → Gives Q a b (λ i. or_truncated (f i) >>= λ y. Passes (says y.0) y.1) (Err (cut_short e))
+  pub cut_stops : (a b : Option (List ℕ)) (e : Stop Cause) → AgreesWithJudging R a b f (Err e) → AgreesWithJudging Q a b (λ i. or_truncated (f i) >>= λ y. Passes (says y.0) y.1) (Err (cut_short e))
   cut_stops None b e h = tt
   cut_stops (Some i) b (Refused c) (rest, is, left) = (rest, ap (λ j. or_truncated j >>= λ y. Passes (says y.0) y.1) is, left)
   cut_stops (Some i) b ReadFault h = tt
@@ -57,14 +57,14 @@ module _ {X : Type 0} (g h : GuestOf) (n : ℕ) (hvm : g.kind ≡ Hvm) (zero : g
   same : (ws : List ℕ) → ws ≡ items words → each (entry_at g.kind g.top) (with_places 0 list) ≡ each (entry_at Hvm 0) (with_places 0 (page_data_words ws))
   same ws e = same_entries g.kind g.top ws list hvm zero (is ∙ ap page_data_words (sym e))
 
-  pub batch_read : Gives (λ v ws. ws ≡ items v) a b (judged_as (words_form n)) (Ok words) → Gives Sets b c (each (entry_at g.kind g.top) (with_places 0 list)) (Ok tt) → Gives {X = Unit {0}} (λ _ said. h ≡ put_in_guest g said) a c (judged_as (batch_form n)) (Ok tt)
+  pub batch_read : AgreesWithJudging (λ v ws. ws ≡ items v) a b (judged_as (words_form n)) (Ok words) → AgreesWithJudging Sets b c (each (entry_at g.kind g.top) (with_places 0 list)) (Ok tt) → AgreesWithJudging {X = Unit {0}} (λ _ said. h ≡ put_in_guest g said) a c (judged_as (batch_form n)) (Ok tt)
   batch_read told read =
       then_reads (λ v ws. ws ≡ items v) (λ _ said. h ≡ put_in_guest g said) a b c (judged_as (words_form n)) (judged_as (batch_form n)) behind_words words (Ok tt) (batch_is n) told
-      (λ ws e. cut_read Sets (λ _ said. h ≡ put_in_guest g said) (each (entry_at Hvm 0) (with_places 0 (page_data_words ws))) Frames b c tt tt (subst (λ f. Gives Sets b c f (Ok tt)) (same ws e) read) (λ es now. now))
+      (λ ws e. cut_read Sets (λ _ said. h ≡ put_in_guest g said) (each (entry_at Hvm 0) (with_places 0 (page_data_words ws))) Frames b c tt tt (subst (λ f. AgreesWithJudging Sets b c f (Ok tt)) (same ws e) read) (λ es now. now))
 
-  pub batch_stopped : (e : Stop Cause) (t : Stop LegacyCause) → t ≡ cut_short e → Gives (λ v ws. ws ≡ items v) a b (judged_as (words_form n)) (Ok words) → Gives Sets b c (each (entry_at g.kind g.top) (with_places 0 list)) (Err e)
-      → Gives {X = Unit {0}} (λ _ said. h ≡ put_in_guest g said) a c (judged_as (batch_form n)) (Err t)
+  pub batch_stopped : (e : Stop Cause) (t : Stop LegacyCause) → t ≡ cut_short e → AgreesWithJudging (λ v ws. ws ≡ items v) a b (judged_as (words_form n)) (Ok words) → AgreesWithJudging Sets b c (each (entry_at g.kind g.top) (with_places 0 list)) (Err e)
+      → AgreesWithJudging {X = Unit {0}} (λ _ said. h ≡ put_in_guest g said) a c (judged_as (batch_form n)) (Err t)
   batch_stopped e t cut told read =
-      subst (λ (s : Stop LegacyCause). Gives {X = Unit {0}} (λ _ said. h ≡ put_in_guest g said) a c (judged_as (batch_form n)) (Err s)) (sym cut)
+      subst (λ (s : Stop LegacyCause). AgreesWithJudging {X = Unit {0}} (λ _ said. h ≡ put_in_guest g said) a c (judged_as (batch_form n)) (Err s)) (sym cut)
       (then_reads (λ v ws. ws ≡ items v) (λ _ said. h ≡ put_in_guest g said) a b c (judged_as (words_form n)) (judged_as (batch_form n)) behind_words words (Err (cut_short e)) (batch_is n) told
-      (λ ws is. cut_stops Sets (λ _ said. h ≡ put_in_guest g said) (each (entry_at Hvm 0) (with_places 0 (page_data_words ws))) Frames b c e (subst (λ f. Gives Sets b c f (Err e)) (same ws is) read)))
+      (λ ws is. cut_stops Sets (λ _ said. h ≡ put_in_guest g said) (each (entry_at Hvm 0) (with_places 0 (page_data_words ws))) Frames b c e (subst (λ f. AgreesWithJudging Sets b c f (Err e)) (same ws is) read)))

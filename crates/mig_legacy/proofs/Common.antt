@@ -7,7 +7,7 @@ pub use Rattle.mig_bytes.specs.Bytes.{AreBytes}
 unfoldable pub use Rattle.mig_bytes.specs.Fields.{le32}
 pub use Rattle.mig_bytes.specs.Fields.{be64}
 unfoldable pub use Rattle.mig_bytes.specs.Judged.{each}
-pub use Rattle.mig_bytes.specs.Judged.{Judged, ◌>>=◌, part, Matches, Gives, plain_at, said_at, placed, stop_at, tried}
+pub use Rattle.mig_bytes.specs.Judged.{Judged, ◌>>=◌, part, Matches, AgreesWithJudging, plain_at, said_at, placed, stop_at, tried}
 pub use Rattle.mig_bytes.specs.Judged.Judged.{Passes, Faulty}
 pub use Rattle.mig_bytes.specs.declared.stop.Stop.{Stop}
 unfoldable pub use Rattle.mig_bytes_form.specs.Form.{judged_as, each_form, ◌>>>◌}
@@ -71,7 +71,7 @@ pub use Rattle.mig_records.specs.Words.{words}
 pub use Rattle.mig_restore_form.proofs.Meaning.{last_entry_is, parts_got, sent_kind, part_ties}
 pub use Rattle.mig_restore_form.specs.Judging.{type_in_word, fault_of_level, fault_of_page, entry_at, with_places}
 unfoldable pub use Rattle.mig_restore_form.specs.Mean.{sent, mean}
-pub use Rattle.mig_restore_form.specs.Mean.{put_record, empty_guest, entries_of, last_entry, frame_in, same_key, last_bytes, meant_type, put_entries, Grows, IsBegun}
+pub use Rattle.mig_restore_form.specs.Mean.{put_record, empty_guest, entries_of, last_entry, frame_in, same_key, last_bytes, type_in_guest, put_entries, GrewByRecord, IsBegun}
 pub use Rattle.mig_restore_form.specs.Record.{StreamRecord, FrameEntry}
 pub use Rattle.mig_restore_form.specs.Spelled.{AreEntries, IsGoodWord}
 pub use Rattle.std.proofs.Common.{◌≡◌, ℕ, cond, List, [], ◌∷◌, ◌++◌, Option, Some, None, refl, sym, ap, ◌∙◌, arith, append_assoc, ◌+◌, ◌-◌, ◌<◌, ◌≤◌, Bool, not, length, drop, nat_eq, nat_lt, suc, ◌^◌, true, false, take, get_or, Result, Ok, Err, subst, ◌/◌, length-append, nat_le, eqb-true, ltb-false, ◌*◌, ◌≢◌, length-take-le, length-drop, ◌⊎◌, inl, inr, take-append-drop, drop-drop, eq-eqb, leb-false, rules}

@@ -1,13 +1,13 @@
 -- What the body of a batch, or of a toolstack, makes of what a reader keeps: it leaves the emulators, or the guest, as they were.
 use Rattle.mig_bytes_form.proofs.Verdicts.{passes_is_spelled}
-use Rattle.mig_legacy.proofs.Common.{◌≡◌, ℕ, List, Option, Some, None, Result, Ok, Err, refl, sym, subst, ◌∙◌, Judged, Passes, Gives, Stop, LegacyCause, ChunkKind, Batch, Toolstack, ChunksSeen, EmulatorsOf, GuestOf, emulators_of, judged_as, toolstack_causes, pairs_of_toolstack, batch_form, toolstack_form, content_form, LegacyContent, LegacyChunk, Pairs, store_records, put_in_guest, put_in_emulators, TakesLegacy, most_body}
+use Rattle.mig_legacy.proofs.Common.{◌≡◌, ℕ, List, Option, Some, None, Result, Ok, Err, refl, sym, subst, ◌∙◌, Judged, Passes, AgreesWithJudging, Stop, LegacyCause, ChunkKind, Batch, Toolstack, ChunksSeen, EmulatorsOf, GuestOf, emulators_of, judged_as, toolstack_causes, pairs_of_toolstack, batch_form, toolstack_form, content_form, LegacyContent, LegacyChunk, Pairs, store_records, put_in_guest, put_in_emulators, TakesLegacy, most_body}
 use Rattle.mig_bytes.specs.declared.stop.Stop.TheVariants.{Refused, ReadFault, Memory}
 use Rattle.mig_legacy.proofs.Batches.{batch_passes}
 use Rattle.mig_legacy.proofs.Parts.{spelled_counted}
 
 -- what a reader gives is told of in another way, where all that judging passes has this property
 module _ {V Y : Type 0} (R Q : V → Y → Type 0) (Known : Y → Type 0) (f : List ℕ → Judged LegacyCause Y) (knows : (i : List ℕ) (y : Y) (rest : List ℕ) → f i ≡ Passes y rest → Known y) (turn : (v : V) (y : Y) → Known y → R v y → Q v y) where
-  told_so : (a b : Option (List ℕ)) (r : Result V (Stop LegacyCause)) → Gives R a b f r → Gives Q a b f r
+  told_so : (a b : Option (List ℕ)) (r : Result V (Stop LegacyCause)) → AgreesWithJudging R a b f r → AgreesWithJudging Q a b f r
   told_so None b r h = tt
   told_so (Some i) b (Ok v) (y, rest, is, left, r) = (y, rest, is, left, turn v y (knows i y rest is) r)
   told_so (Some i) b (Err (Refused c)) h = h
@@ -27,16 +27,16 @@ module _ (old new : ChunksSeen) (chunks : List LegacyChunk) (kind : ChunkKind) (
   abbrev Takes : Unit {0} → LegacyContent → Type 0
   Takes _ c = TakesLegacy old new c
 
-  pub takes_batch : (n : ℕ) → kind ≡ Batch n → new.emulators ≡ old.emulators → Gives {X = Unit {0}} (λ _ c. new.guest ≡ put_in_guest old.guest c) a b (judged_as (batch_form n)) r → Gives Takes a b (judged_as (content_form chunks kind)) r
+  pub takes_batch : (n : ℕ) → kind ≡ Batch n → new.emulators ≡ old.emulators → AgreesWithJudging {X = Unit {0}} (λ _ c. new.guest ≡ put_in_guest old.guest c) a b (judged_as (batch_form n)) r → AgreesWithJudging Takes a b (judged_as (content_form chunks kind)) r
   takes_batch n is same read =
-      subst (λ (k : ChunkKind). Gives Takes a b (judged_as (content_form chunks k)) r) (sym is)
+      subst (λ (k : ChunkKind). AgreesWithJudging Takes a b (judged_as (content_form chunks k)) r) (sym is)
       (told_so (λ _ c. new.guest ≡ put_in_guest old.guest c) Takes (λ c. put_in_emulators old.emulators c ≡ old.emulators) (judged_as (batch_form n)) (batch_leaves old.emulators n)
       (λ _ c left guest. record { guest = guest; emulators = same ∙ sym left; chunks = count; requests = requests; buffered = buffered }) a b r read)
 
-  pub takes_toolstack : kind ≡ Toolstack → old.emulators ≡ emulators_of (store_records chunks) → new.guest ≡ old.guest → Gives {X = Unit {0}} (λ _ c. new.emulators ≡ put_in_emulators old.emulators c) a b (judged_as (toolstack_form old.emulators)) r
-      → Gives Takes a b (judged_as (content_form chunks kind)) r
+  pub takes_toolstack : kind ≡ Toolstack → old.emulators ≡ emulators_of (store_records chunks) → new.guest ≡ old.guest → AgreesWithJudging {X = Unit {0}} (λ _ c. new.emulators ≡ put_in_emulators old.emulators c) a b (judged_as (toolstack_form old.emulators)) r
+      → AgreesWithJudging Takes a b (judged_as (content_form chunks kind)) r
   takes_toolstack is told same read =
-      subst (λ (k : ChunkKind). Gives Takes a b (judged_as (content_form chunks k)) r) (sym is)
-      (subst (λ (e : EmulatorsOf). Gives Takes a b (judged_as (toolstack_form e)) r) told
+      subst (λ (k : ChunkKind). AgreesWithJudging Takes a b (judged_as (content_form chunks k)) r) (sym is)
+      (subst (λ (e : EmulatorsOf). AgreesWithJudging Takes a b (judged_as (toolstack_form e)) r) told
       (told_so (λ _ c. new.emulators ≡ put_in_emulators old.emulators c) Takes (λ c. put_in_guest old.guest c ≡ old.guest) (judged_as (toolstack_form old.emulators)) (toolstack_leaves old.guest old.emulators)
       (λ _ c left emulators. record { guest = same ∙ sym left; emulators = emulators; chunks = count; requests = requests; buffered = buffered }) a b r read))

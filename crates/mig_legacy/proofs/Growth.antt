@@ -3,15 +3,15 @@ use Rattle.std.proofs.Common.{nat_eq}
 use Rattle.std.proofs.lemmas.Bool.{eqb-false}
 use Rattle.mig_records.proofs.Kept.{is_part}
 use Rattle.mig_guest.specs.PartCodes.{row_of}
-use Rattle.mig_legacy.proofs.Common.{◌≡◌, ℕ, ◌<◌, ◌≤◌, true, false, List, length, refl, sym, ap, subst, ◌∙◌, arith, le-leb, lt-ltb, and_from, AreBytes, Kind, Hvm, IsPart, IsCut, is_policy, is_emulator_code, width_of, GuestOf, context_key, p2m_key, PartKey, part_total, part_exact, Grows, param_key, tsc_key, most_policy_entries, vcpu_limit, most_body}
+use Rattle.mig_legacy.proofs.Common.{◌≡◌, ℕ, ◌<◌, ◌≤◌, true, false, List, length, refl, sym, ap, subst, ◌∙◌, arith, le-leb, lt-ltb, and_from, AreBytes, Kind, Hvm, IsPart, IsCut, is_policy, is_emulator_code, width_of, GuestOf, context_key, p2m_key, PartKey, part_total, part_exact, GrewByRecord, param_key, tsc_key, most_policy_entries, vcpu_limit, most_body}
 use Rattle.std.specs.FinMap as maps
 use Rattle.mig_guest.specs.declared.part_code.PartCode.TheVariants.{Tsc, HvmContext, HvmParam}
 use Rattle.mig_guest.proofs.Counts.{same_parts}
 use Rattle.mig_guest.proofs.Found.{insert_holds}
 use Rattle.mig_guest.proofs.PartSets.{put_other}
 
-pub part_grows : (g h : GuestOf) (key : PartKey) (bytes : List ℕ) → is_policy key.code ≡ false → is_emulator_code key.code ≡ false → nat_eq 3 key.code ≡ false → IsPart g.kind (width_of g) key bytes → AreBytes bytes → h ≡ record g { parts = maps.insert g.parts key bytes } → Grows g h
-part_grows g h key bytes no_policy no_emulator no_list part are now = subst (Grows g) (sym now) (record {
+pub part_grows : (g h : GuestOf) (key : PartKey) (bytes : List ℕ) → is_policy key.code ≡ false → is_emulator_code key.code ≡ false → nat_eq 3 key.code ≡ false → IsPart g.kind (width_of g) key bytes → AreBytes bytes → h ≡ record g { parts = maps.insert g.parts key bytes } → GrewByRecord g h
+part_grows g h key bytes no_policy no_emulator no_list part are now = subst (GrewByRecord g) (sym now) (record {
   kind = refl;
   kept = λ begun. record {
     formed = record {

@@ -3,7 +3,7 @@ use Rattle.mig_bytes_form.proofs.Joined.{then_judged}
 use Rattle.mig_bytes_form.proofs.Tests.{append_named, computed_is}
 use Rattle.std.proofs.lemmas.Bool.{cases_eq, cases_lt}
 use Rattle.std.specs.Result.{IsErrAnd}
-use Rattle.mig_legacy.proofs.Common.{◌≡◌, ℕ, ◌<◌, ◌≤◌, Bool, true, false, List, ◌∷◌, [], length, Option, Some, Result, Ok, Err, inl, inr, refl, sym, ap, subst, ◌∙◌, arith, append-nil, le32, Judged, ◌>>=◌, Gives, Stop, stopped, then_reads, LegacyCause, Truncated, BadToolstack, TooManyPairs, toolstack_fault, option_or, option_map, judged_as, ◌>>>◌, SpelledAs, nothing, one_part, Given, Test, Less, computed, first_named, NoneHolds, said_form, length_causes, length_form, counted_form, toolstack_causes, most_pairs, spelled_with, EmulatorsOf, store_key, pairs_of_toolstack, IsCounted}
+use Rattle.mig_legacy.proofs.Common.{◌≡◌, ℕ, ◌<◌, ◌≤◌, Bool, true, false, List, ◌∷◌, [], length, Option, Some, Result, Ok, Err, inl, inr, refl, sym, ap, subst, ◌∙◌, arith, append-nil, le32, Judged, ◌>>=◌, AgreesWithJudging, Stop, stopped, then_reads, LegacyCause, Truncated, BadToolstack, TooManyPairs, toolstack_fault, option_or, option_map, judged_as, ◌>>>◌, SpelledAs, nothing, one_part, Given, Test, Less, computed, first_named, NoneHolds, said_form, length_causes, length_form, counted_form, toolstack_causes, most_pairs, spelled_with, EmulatorsOf, store_key, pairs_of_toolstack, IsCounted}
 
 -- ---- what doesn't hold
 
@@ -60,13 +60,13 @@ module _ {X : Type 0} (most : ℕ) (rows : List ℕ → List (Test × LegacyCaus
 
 -- as a reader takes it
 module _ {X V : Type 0} (Q : V → X → Type 0) (most : ℕ) (rows : List ℕ → List (Test × LegacyCause)) (says : List ℕ → X) where
-  pub counted_stops : (a b : Option (List ℕ)) (e : Stop LegacyCause) (r : Result V (Stop LegacyCause)) → IsErrAnd r (λ d. d ≡ e) → Gives {X = ℕ} (λ len n. n ≡ len) a b (judged_as (length_form most)) (Err e) → Gives Q a b (judged_as (counted_form most rows says)) r
+  pub counted_stops : (a b : Option (List ℕ)) (e : Stop LegacyCause) (r : Result V (Stop LegacyCause)) → IsErrAnd r (λ d. d ≡ e) → AgreesWithJudging {X = ℕ} (λ len n. n ≡ len) a b (judged_as (length_form most)) (Err e) → AgreesWithJudging Q a b (judged_as (counted_form most rows says)) r
   counted_stops a b e r is told = stopped (λ len n. n ≡ len) Q a b (judged_as (length_form most)) (judged_as (counted_form most rows says)) (behind_length most rows says) e r (counted_is most rows says) is told
 
-  pub counted_reads : (a b d : Option (List ℕ)) (len : ℕ) (r : Result V (Stop LegacyCause)) → Gives {X = ℕ} (λ len n. n ≡ len) a b (judged_as (length_form most)) (Ok len) → Gives Q b d (judged_as (said_form Truncated len rows says)) r → Gives Q a d (judged_as (counted_form most rows says)) r
+  pub counted_reads : (a b d : Option (List ℕ)) (len : ℕ) (r : Result V (Stop LegacyCause)) → AgreesWithJudging {X = ℕ} (λ len n. n ≡ len) a b (judged_as (length_form most)) (Ok len) → AgreesWithJudging Q b d (judged_as (said_form Truncated len rows says)) r → AgreesWithJudging Q a d (judged_as (counted_form most rows says)) r
   counted_reads a b d len r told read =
       then_reads (λ len n. n ≡ len) Q a b d (judged_as (length_form most)) (judged_as (counted_form most rows says)) (behind_length most rows says) len r (counted_is most rows says) told
-      (λ n is. subst (λ m. Gives Q b d (λ i. behind_length most rows says (m, i)) r) (sym is) read)
+      (λ n is. subst (λ m. AgreesWithJudging Q b d (λ i. behind_length most rows says (m, i)) r) (sym is) read)
 
 -- ---- the data of a toolstack
 

@@ -1,6 +1,6 @@
 -- The tail: how it is read, and that a guest with it is whole.
 use Rattle.mig_records.proofs.Kept.{cut_is}
-use Rattle.mig_legacy.proofs.Common.{◌≡◌, ℕ, ◌<◌, ◌≤◌, List, length, take, drop, Option, Result, Ok, Err, refl, sym, ap, subst, ◌∙◌, arith, length-take-le, length-drop, IsOk, IfOk, IsSome, replicate, false≢true, All-append, All-take, All-drop, All-replicate, AreBytes, Judged, ◌>>=◌, part, tried, Gives, said_at, Passes, Stop, then_reads, scan, cut_at, ContextFault, Hvm, LegacyCause, Truncated, IsCut, width_of, GuestOf, context_key, PartKey, part_total, blank_of, IsBegun, IsStreamedBare, judged_as, Test, computed, length_form, counted_form, context_fault, cut_context, tail_of, tail_form, LegacyTail, param_key, put_tail, most_body}
+use Rattle.mig_legacy.proofs.Common.{◌≡◌, ℕ, ◌<◌, ◌≤◌, List, length, take, drop, Option, Result, Ok, Err, refl, sym, ap, subst, ◌∙◌, arith, length-take-le, length-drop, IsOk, IfOk, IsSome, replicate, false≢true, All-append, All-take, All-drop, All-replicate, AreBytes, Judged, ◌>>=◌, part, tried, AgreesWithJudging, said_at, Passes, Stop, then_reads, scan, cut_at, ContextFault, Hvm, LegacyCause, Truncated, IsCut, width_of, GuestOf, context_key, PartKey, part_total, blank_of, IsBegun, IsStreamedBare, judged_as, Test, computed, length_form, counted_form, context_fault, cut_context, tail_of, tail_form, LegacyTail, param_key, put_tail, most_body}
 use Rattle.std.specs.FinMap as maps
 use Rattle.mig_guest.specs.Frames.{IsFew}
 use Rattle.mig_restore_form.proofs.Laws.{complete_faultless}
@@ -33,16 +33,16 @@ context_is frames n i = λ at. part Truncated n i >>= λ b. tried (computed_is (
 pub counted_parts : (frames i : List ℕ) → behind_frames (frames, i) ≡ (judged_as (length_form most_body) i >>= λ len. context_at frames len.0 len.1)
 counted_parts frames i = counted_is most_body tail_rows (tail_of frames) i ∙ (λ at. judged_as (length_form most_body) i >>= λ len. context_is frames len.0 len.1 at)
 
-module _ {V : Type 0} (Q : V → LegacyTail → Type 0) (n : ℕ) (size : n ≡ 24) (frames : List ℕ) (a b : Option (List ℕ)) (told : Gives {X = Unit {0}} (λ _ bytes. bytes ≡ frames) a b (part Truncated n) (Ok tt)) where
+module _ {V : Type 0} (Q : V → LegacyTail → Type 0) (n : ℕ) (size : n ≡ 24) (frames : List ℕ) (a b : Option (List ℕ)) (told : AgreesWithJudging {X = Unit {0}} (λ _ bytes. bytes ≡ frames) a b (part Truncated n) (Ok tt)) where
   -- behind the frame numbers
-  pub framed : (d : Option (List ℕ)) (r : Result V (Stop LegacyCause)) → Gives Q b d (λ i. behind_frames (frames, i)) r → Gives Q a d (judged_as tail_form) r
+  pub framed : (d : Option (List ℕ)) (r : Result V (Stop LegacyCause)) → AgreesWithJudging Q b d (λ i. behind_frames (frames, i)) r → AgreesWithJudging Q a d (judged_as tail_form) r
   framed d r read =
-      then_reads (λ _ bytes. bytes ≡ frames) Q a b d (part Truncated n) (judged_as tail_form) behind_frames tt r (tail_parts n size) told (λ bytes is. subst (λ l. Gives Q b d (λ i. behind_frames (l, i)) r) (sym is) read)
+      then_reads (λ _ bytes. bytes ≡ frames) Q a b d (part Truncated n) (judged_as tail_form) behind_frames tt r (tail_parts n size) told (λ bytes is. subst (λ l. AgreesWithJudging Q b d (λ i. behind_frames (l, i)) r) (sym is) read)
 
   -- behind the length too
-  pub counted : (c d : Option (List ℕ)) (len : ℕ) (r : Result V (Stop LegacyCause)) → Gives {X = ℕ} (λ len n. n ≡ len) b c (judged_as (length_form most_body)) (Ok len) → Gives Q c d (context_at frames len) r → Gives Q a d (judged_as tail_form) r
+  pub counted : (c d : Option (List ℕ)) (len : ℕ) (r : Result V (Stop LegacyCause)) → AgreesWithJudging {X = ℕ} (λ len n. n ≡ len) b c (judged_as (length_form most_body)) (Ok len) → AgreesWithJudging Q c d (context_at frames len) r → AgreesWithJudging Q a d (judged_as tail_form) r
   counted c d len r counts read =
-      framed d r (then_reads (λ len n. n ≡ len) Q b c d (judged_as (length_form most_body)) (λ i. behind_frames (frames, i)) (λ len. context_at frames len.0 len.1) len r (counted_parts frames) counts (λ m is. subst (λ k. Gives Q c d (context_at frames k) r) (sym is) read))
+      framed d r (then_reads (λ len n. n ≡ len) Q b c d (judged_as (length_form most_body)) (λ i. behind_frames (frames, i)) (λ len. context_at frames len.0 len.1) len r (counted_parts frames) counts (λ m is. subst (λ k. AgreesWithJudging Q c d (context_at frames k) r) (sym is) read))
 
 -- ---- what is set
 

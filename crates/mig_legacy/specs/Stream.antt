@@ -2,7 +2,7 @@
 -- record if there is one.
 use Rattle.std.specs.Prelude.{◌≡◌, ℕ, List, [], ◌∷◌, length, Option, None, Result}
 use Rattle.mig_bytes.specs.Answers.{or_stop}
-use Rattle.mig_bytes.specs.Judged.{Judged, ◌>>=◌, placed, Gives}
+use Rattle.mig_bytes.specs.Judged.{Judged, ◌>>=◌, placed, AgreesWithJudging}
 use Rattle.mig_bytes.specs.Judged.Judged.{Passes, Faulty}
 use Rattle.mig_bytes.specs.Sequences.{sequence_at}
 use Rattle.mig_bytes.specs.declared.answer.Answer.{Answer}
@@ -47,4 +47,4 @@ IsLegacyRefused input place cause rest = legacy_at input ≡ Faulty (place, caus
 
 -- what the reader answered, and what it left in the source, is what judging gives: the guest that the stream means
 abbrev pub ReadsLegacy : Option (List ℕ) → Option (List ℕ) → Result GuestOf (Answer LegacyPlace LegacyCause) → Type 0
-ReadsLegacy old new result = Gives (λ guest s. guest ≡ mean_legacy s) old new legacy_at (or_stop result)
+ReadsLegacy old new result = AgreesWithJudging (λ guest s. guest ≡ mean_legacy s) old new legacy_at (or_stop result)

@@ -1,11 +1,11 @@
 ghost use Rattle.std.specs.Prelude.{◌≡◌, ◌≤◌, ◌<◌, length, None, IfOk, OnOk, IsErrOf};
 ghost use Rattle.mig_bytes.specs.Faults.{RisesOnReadFault};
-ghost use Rattle.mig_bytes.specs.Judged.{Gives};
+ghost use Rattle.mig_bytes.specs.Judged.{AgreesWithJudging};
 ghost use Rattle.mig_bytes.specs.declared.stop.Stop.TheVariants.{Memory as NoMemory};
 ghost use Rattle.mig_bytes_form.specs.Form.{judged_as};
 ghost use Rattle.mig_headers.specs.declared.kind.Kind.TheVariants.{Hvm};
 ghost use Rattle.mig_headers.specs.RecordTypes.{vcpu_limit};
-ghost use Rattle.mig_restore_form.specs.Mean.{Grows};
+ghost use Rattle.mig_restore_form.specs.Mean.{GrewByRecord};
 ghost use Rattle.mig_libxl_form.specs.Formed.{AreEmulators};
 ghost use Rattle.mig_legacy.specs.Batches.{fault_of_batch};
 ghost use Rattle.mig_legacy.specs.LegacyForm.{length_form, words_form, batch_form, clock_of as clock_in, vcpus_form, clock_form, value_form, toolstack_form};
@@ -53,7 +53,7 @@ pub(crate) fn param_key(index: u32) -> PartKey
 /// Takes a length, which is at most so much.
 #[tactic(auto, unfolding(mig_bytes_form::specs::Form::judged_as))]
 pub(crate) fn take_length<S: Source>(src: &mut S, most: u32) -> Result<u32, Stop<LegacyCause>>
-    ensures read { Gives (λ len n. n ≡ len) (S.left src.old) (S.left src.new) (judged_as (length_form most)) result }
+    ensures read { AgreesWithJudging (λ len n. n ≡ len) (S.left src.old) (S.left src.new) (judged_as (length_form most)) result }
     ensures most { IfOk result (λ len. len ≤ most) }
     ensures faults { RisesOnReadFault (S.faults src.old) (S.faults src.new) result }
     ensures takes_no_memory { ¬ IsErrOf result NoMemory }
@@ -88,7 +88,7 @@ fn take_words<S: Source>(
     count: u32,
 ) -> Result<Vec<u64>, Stop<LegacyCause>>
     requires { count ≤ 1024 }
-    ensures read { Gives (λ list ws. ws ≡ list.items) (S.left src.old) (S.left src.new) (judged_as (words_form count)) result }
+    ensures read { AgreesWithJudging (λ list ws. ws ≡ list.items) (S.left src.old) (S.left src.new) (judged_as (words_form count)) result }
     ensures good { IfOk result (λ list. fault_of_batch list.items ≡ None) }
     ensures len { IfOk result (λ list. length list.items ≡ count) }
     ensures faults { RisesOnReadFault (S.faults src.old) (S.faults src.new) result }
@@ -113,8 +113,8 @@ pub(crate) fn take_batch<S: Source>(
     requires few { count ≤ 1024 }
     requires hvm { guest.old.kind ≡ Hvm }
     requires top { guest.old.top ≡ 0 }
-    ensures read { Gives (λ _ c. guest.new ≡ put_in_guest guest.old c) (S.left src.old) (S.left src.new) (judged_as (batch_form count)) result }
-    ensures grown { OnOk result (Grows guest.old guest.new) }
+    ensures read { AgreesWithJudging (λ _ c. guest.new ≡ put_in_guest guest.old c) (S.left src.old) (S.left src.new) (judged_as (batch_form count)) result }
+    ensures grown { OnOk result (GrewByRecord guest.old guest.new) }
     ensures faults { RisesOnReadFault (S.faults src.old) (S.faults src.new) result }
 {
     let words = take_words(alloc, src, count)?;
@@ -132,7 +132,7 @@ pub(crate) fn take_batch<S: Source>(
 /// Takes which vCPUs there are, of which nothing is kept.
 #[tactic(auto, unfolding(mig_bytes_form::specs::Form::judged_as))]
 pub(crate) fn take_vcpus<S: Source>(src: &mut S) -> Result<(), Stop<LegacyCause>>
-    ensures read { Gives (λ _ c. c ≡ Nothing) (S.left src.old) (S.left src.new) (judged_as vcpus_form) result }
+    ensures read { AgreesWithJudging (λ _ c. c ≡ Nothing) (S.left src.old) (S.left src.new) (judged_as vcpus_form) result }
     ensures faults { RisesOnReadFault (S.faults src.old) (S.faults src.new) result }
     ensures takes_no_memory { ¬ IsErrOf result NoMemory }
 {
@@ -171,8 +171,8 @@ pub(crate) fn take_clock<S: Source>(
     guest: &mut Guest,
 ) -> Result<(), Stop<LegacyCause>>
     requires hvm { guest.old.kind ≡ Hvm }
-    ensures read { Gives (λ _ c. guest.new ≡ put_in_guest guest.old c) (S.left src.old) (S.left src.new) (judged_as clock_form) result }
-    ensures grown { OnOk result (Grows guest.old guest.new) }
+    ensures read { AgreesWithJudging (λ _ c. guest.new ≡ put_in_guest guest.old c) (S.left src.old) (S.left src.new) (judged_as clock_form) result }
+    ensures grown { OnOk result (GrewByRecord guest.old guest.new) }
     ensures faults { RisesOnReadFault (S.faults src.old) (S.faults src.new) result }
 {
     let mut bytes = [0; 20];
@@ -196,8 +196,8 @@ pub(crate) fn take_value<S: Source>(
 ) -> Result<(), Stop<LegacyCause>>
     requires small { index < vcpu_limit }
     requires hvm { guest.old.kind ≡ Hvm }
-    ensures read { Gives (λ _ c. guest.new ≡ put_in_guest guest.old c) (S.left src.old) (S.left src.new) (judged_as (value_form index)) result }
-    ensures grown { OnOk result (Grows guest.old guest.new) }
+    ensures read { AgreesWithJudging (λ _ c. guest.new ≡ put_in_guest guest.old c) (S.left src.old) (S.left src.new) (judged_as (value_form index)) result }
+    ensures grown { OnOk result (GrewByRecord guest.old guest.new) }
     ensures faults { RisesOnReadFault (S.faults src.old) (S.faults src.new) result }
 {
     let mut bytes = [0; 12];
@@ -216,7 +216,7 @@ pub(crate) fn take_toolstack<S: Source>(
     emulators: &mut Emulators,
 ) -> Result<(), Stop<LegacyCause>>
     requires begun { AreEmulators emulators.old }
-    ensures read { Gives (λ _ c. emulators.new ≡ put_in_emulators emulators.old c) (S.left src.old) (S.left src.new) (judged_as (toolstack_form emulators.old)) result }
+    ensures read { AgreesWithJudging (λ _ c. emulators.new ≡ put_in_emulators emulators.old c) (S.left src.old) (S.left src.new) (judged_as (toolstack_form emulators.old)) result }
     ensures begun { OnOk result (AreEmulators emulators.new) }
     ensures faults { RisesOnReadFault (S.faults src.old) (S.faults src.new) result }
 {

@@ -2,7 +2,7 @@ ghost use Rattle.std.specs.Prelude.{◌≡◌, ◌≤◌, ◌+◌, ◌||◌, ◌
 ghost use Rattle.std.specs.FinMap as maps;
 ghost use Rattle.mig_bytes.specs.Answers.{or_stop};
 ghost use Rattle.mig_bytes.specs.Faults.{RisesOnReadFault};
-ghost use Rattle.mig_bytes.specs.Judged.{Gives};
+ghost use Rattle.mig_bytes.specs.Judged.{AgreesWithJudging};
 ghost use Rattle.mig_bytes.specs.declared.stop.Stop.TheVariants.{Memory as NoMemory};
 ghost use Rattle.mig_bytes_form.specs.Form.{judged_as};
 ghost use Rattle.mig_bytes_form.specs.Tests.{first_named};
@@ -50,7 +50,7 @@ fn start_fault(width: &[u8; 8]) -> Option<LegacyCause>
 /// Takes the width of the P2M, of which nothing is kept.
 #[tactic(auto, unfolding(mig_bytes_form::specs::Form::judged_as))]
 fn take_start<S: Source>(src: &mut S) -> Result<(), Stop<LegacyCause>>
-    ensures read { Gives (λ _ _. ⊤) (S.left src.old) (S.left src.new) (judged_as start_form) result }
+    ensures read { AgreesWithJudging (λ _ _. ⊤) (S.left src.old) (S.left src.new) (judged_as start_form) result }
     ensures faults { RisesOnReadFault (S.faults src.old) (S.faults src.new) result }
     ensures takes_no_memory { ¬ IsErrOf result NoMemory }
 {
@@ -120,7 +120,7 @@ impl ChunksSeen {
     /// Takes the type of the next chunk.
     #[tactic(auto, using(crate::proofs::ChunkNumbers::sound_kind), unfolding(mig_bytes_form::specs::Form::judged_as))]
     fn take_kind<S: Source>(&self, src: &mut S) -> Result<ChunkKind, Stop<LegacyCause>>
-        ensures read { (chunks : List LegacyChunk) → IsLegacySeen self.now chunks → Gives (λ kind k. k ≡ kind) (S.left src.old) (S.left src.new) (judged_as (type_form chunks)) result }
+        ensures read { (chunks : List LegacyChunk) → IsLegacySeen self.now chunks → AgreesWithJudging (λ kind k. k ≡ kind) (S.left src.old) (S.left src.new) (judged_as (type_form chunks)) result }
         ensures sound { IfOk result (λ kind. IsWithinLimits kind) }
         ensures room { OnOk result (self.now.chunks < most_chunks) }
         ensures few { IfOk result (λ kind. is_end kind ≡ true → maps.len self.now.guest.frames ≤ most_frames) }
@@ -149,7 +149,7 @@ impl ChunksSeen {
     ) -> Result<(), Stop<LegacyCause>>
         requires begun { IsLegacyBegun self.old }
         requires sound { IsWithinLimits kind }
-        ensures read { (chunks : List LegacyChunk) → IsLegacySeen self.old chunks → Gives (λ _ c. TakesLegacy self.old self.new c) (S.left src.old) (S.left src.new) (judged_as (content_form chunks kind)) result }
+        ensures read { (chunks : List LegacyChunk) → IsLegacySeen self.old chunks → AgreesWithJudging (λ _ c. TakesLegacy self.old self.new c) (S.left src.old) (S.left src.new) (judged_as (content_form chunks kind)) result }
         ensures begun { OnOk result (IsLegacyBegun self.new) }
         ensures chunks { OnOk result (self.new.chunks ≡ self.old.chunks) }
         ensures end { OnOk result (is_end kind ≡ true → self.new ≡ self.old) }
@@ -190,7 +190,7 @@ impl ChunksSeen {
     ) -> Result<bool, Stop<LegacyCause>>
         requires begun { IsLegacyBegun self.old }
         ensures read { (chunks : List LegacyChunk) → IsLegacySeen self.old chunks →
-            Gives (λ over c. IsLegacySeen self.new (chunks ++ c ∷ []) × (over ≡ is_end c.kind)) (S.left src.old) (S.left src.new) (judged_as (chunk_form chunks)) result }
+            AgreesWithJudging (λ over c. IsLegacySeen self.new (chunks ++ c ∷ []) × (over ≡ is_end c.kind)) (S.left src.old) (S.left src.new) (judged_as (chunk_form chunks)) result }
         ensures begun { OnOk result (IsLegacyBegun self.new) }
         ensures few { IfOk result (λ over. over ≡ true → maps.len self.new.guest.frames ≤ most_frames) }
         ensures counted { OnOk result ((self.new.chunks ≡ self.old.chunks + 1) × (self.old.chunks < most_chunks)) }
@@ -225,7 +225,7 @@ fn take_chunks<S: Source>(
     alloc: Global,
     src: &mut S,
 ) -> Result<ChunksSeen, Stop<(LegacyPlace, LegacyCause)>>
-    ensures read { Gives IsLegacySeen (S.left src.old) (S.left src.new) chunks_at result }
+    ensures read { AgreesWithJudging IsLegacySeen (S.left src.old) (S.left src.new) chunks_at result }
     ensures begun { IfOk result (λ seen. IsLegacyBegun seen) }
     ensures few { IfOk result (λ seen. maps.len seen.guest.frames ≤ most_frames) }
     ensures faults { RisesOnReadFault (S.faults src.old) (S.faults src.new) result }
@@ -246,7 +246,7 @@ fn read_parts<S: Source>(
     alloc: Global,
     src: &mut S,
 ) -> Result<Guest, Stop<(LegacyPlace, LegacyCause)>>
-    ensures read { Gives (λ guest s. guest ≡ mean_legacy s) (S.left src.old) (S.left src.new) legacy_at result }
+    ensures read { AgreesWithJudging (λ guest s. guest ≡ mean_legacy s) (S.left src.old) (S.left src.new) legacy_at result }
     ensures streamed { IfOk result (λ guest. IsStreamed guest) }
     ensures faults { RisesOnReadFault (S.faults src.old) (S.faults src.new) result }
 {

@@ -1,6 +1,6 @@
 ghost use Rattle.std.specs.Prelude.{◌≡◌, ◌≤◌, ◌+◌, ◌∷◌, Some, length, IsOk, IfOk, OnOk};
 ghost use Rattle.mig_bytes.specs.Faults.{RisesOnReadFault};
-ghost use Rattle.mig_bytes.specs.Judged.{Gives};
+ghost use Rattle.mig_bytes.specs.Judged.{AgreesWithJudging};
 ghost use Rattle.mig_bytes_form.specs.Form.{judged_as};
 ghost use Rattle.mig_headers.specs.RecordTypes.{most_body};
 ghost use Rattle.mig_headers.specs.Contexts.{scan};
@@ -59,7 +59,7 @@ pub(crate) fn take_tail<S: Source>(
     requires hvm { guest.old.kind ≡ Hvm }
     requires begun { IsBegun guest.old }
     requires few { IsFew guest.old.frames }
-    ensures read { Gives (λ _ t. guest.new ≡ put_tail guest.old t) (S.left src.old) (S.left src.new) (judged_as tail_form) result }
+    ensures read { AgreesWithJudging (λ _ t. guest.new ≡ put_tail guest.old t) (S.left src.old) (S.left src.new) (judged_as tail_form) result }
     ensures plain { OnOk result (IsStreamedBare guest.new) }
     ensures kind { OnOk result (guest.new.kind ≡ Hvm) }
     ensures faults { RisesOnReadFault (S.faults src.old) (S.faults src.new) result }
@@ -86,7 +86,7 @@ fn take_record<S: Source>(
     src: &mut S,
     first: u8,
 ) -> Result<Vec<u8>, Stop<LegacyCause>>
-    ensures read { Gives (λ content device. device ≡ Some content.items) (S.left src.old) (S.left src.new) (λ rest. judged_as device_form (first ∷ rest)) result }
+    ensures read { AgreesWithJudging (λ content device. device ≡ Some content.items) (S.left src.old) (S.left src.new) (λ rest. judged_as device_form (first ∷ rest)) result }
     ensures small { IfOk result (λ content. length content.items + 8 ≤ most_body) }
     ensures faults { RisesOnReadFault (S.faults src.old) (S.faults src.new) result }
 {
@@ -106,7 +106,7 @@ pub(crate) fn take_device<S: Source>(
     emulators: &mut Emulators,
 ) -> Result<(), Stop<LegacyCause>>
     requires begun { AreEmulators emulators.old }
-    ensures read { Gives (λ _ device. emulators.new ≡ put_device emulators.old device) (S.left src.old) (S.left src.new) device_at result }
+    ensures read { AgreesWithJudging (λ _ device. emulators.new ≡ put_device emulators.old device) (S.left src.old) (S.left src.new) device_at result }
     ensures begun { OnOk result (AreEmulators emulators.new) }
     ensures faults { RisesOnReadFault (S.faults src.old) (S.faults src.new) result }
 {

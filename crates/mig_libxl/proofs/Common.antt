@@ -18,7 +18,7 @@ pub use Rattle.mig_bytes.proofs.Said.{said_read, said_refused}
 pub use Rattle.mig_bytes.proofs.Texts.{puts_same, puts_stop, puts_then}
 pub use Rattle.mig_bytes.specs.Bytes.{AreBytes, padding_len}
 pub use Rattle.mig_bytes.specs.Fields.{le32}
-pub use Rattle.mig_bytes.specs.Judged.{Gives, part, placed, stop_at, ◌>>=◌}
+pub use Rattle.mig_bytes.specs.Judged.{AgreesWithJudging, part, placed, stop_at, ◌>>=◌}
 pub use Rattle.mig_bytes.specs.Judged.Judged.{Passes}
 pub use Rattle.mig_bytes.specs.Sequences.Spells.{one_more}
 pub use Rattle.mig_canon.proofs.CanonParts.{is_record}

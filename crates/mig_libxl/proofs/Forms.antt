@@ -1,5 +1,5 @@
 -- A stream of either form behind its first 8 bytes, as it is read.
-use Rattle.mig_libxl.proofs.Common.{◌≡◌, ℕ, Bool, true, false, cond, List, [], ◌++◌, length, take, drop, nat_le, nat_lt, nat_eq, Option, Some, None, Ok, refl, sym, ap, subst, ◌∙◌, arith, length-append, le-leb, lt-leb, ◌>>=◌, part, placed, Passes, Cause, Truncated, LibxlHeader, header_at, bare_at, Bare, ltb-true, stop_at, Gives, image_behind, behind_header}
+use Rattle.mig_libxl.proofs.Common.{◌≡◌, ℕ, Bool, true, false, cond, List, [], ◌++◌, length, take, drop, nat_le, nat_lt, nat_eq, Option, Some, None, Ok, refl, sym, ap, subst, ◌∙◌, arith, length-append, le-leb, lt-leb, ◌>>=◌, part, placed, Passes, Cause, Truncated, LibxlHeader, header_at, bare_at, Bare, ltb-true, stop_at, AgreesWithJudging, image_behind, behind_header}
 use Rattle.std.proofs.Common.{Result, Err}
 use Rattle.mig_bytes.specs.Judged.{Judged, tried, Matches}
 use Rattle.mig_headers.specs.declared.fault.Place.{Place}
@@ -59,19 +59,19 @@ too_short i cause rest is =
 
 module _ {X : Type 0} (R : X → StreamOf → Type 0) where
   -- they are there, and the rest is judged by their form
-  pub form_reads : (a b c : Option (List ℕ)) (first : List ℕ) (k : List ℕ → Judged (Place × Cause) StreamOf) (u : Unit {0}) (r : Result X (Stop (Place × Cause))) → Gives {X = Unit {0}} (λ _ p. p ≡ first) a b (part Truncated (length first)) (Ok u)
-      → ((rest : List ℕ) → stream_at (first ++ rest) ≡ k rest) → Gives R b c k r → Gives R a c stream_at r
+  pub form_reads : (a b c : Option (List ℕ)) (first : List ℕ) (k : List ℕ → Judged (Place × Cause) StreamOf) (u : Unit {0}) (r : Result X (Stop (Place × Cause))) → AgreesWithJudging {X = Unit {0}} (λ _ p. p ≡ first) a b (part Truncated (length first)) (Ok u)
+      → ((rest : List ℕ) → stream_at (first ++ rest) ≡ k rest) → AgreesWithJudging R b c k r → AgreesWithJudging R a c stream_at r
   form_reads None b c first k u r is goes h = tt
   form_reads (Some i) b c first k u r (bytes, rest, is, left, same) goes h =
       let p = part_passes Truncated (length first) i bytes rest is in
       let j : stream_at i ≡ k rest = ap stream_at (p.0 ∙ ap (λ l. l ++ rest) same) ∙ goes rest in
-      subst (λ x. Matches R c x r) (sym j) (subst (λ o. Gives R o c k r) left h)
+      subst (λ x. Matches R c x r) (sym j) (subst (λ o. AgreesWithJudging R o c k r) left h)
 
   -- there are fewer, and so no ident
-  pub form_stops : (a b : Option (List ℕ)) (first : List ℕ) (stop : Stop Cause) (d : Stop (Place × Cause)) → length first ≡ 8 → d ≡ stop_at ImageHeader stop → Gives {X = Unit {0}} (λ _ p. p ≡ first) a b (part Truncated (length first)) (Err stop) → Gives R a b stream_at (Err d)
-  form_stops a b first stop d size is h = subst (λ s. Gives R a b stream_at (Err s)) (sym is) (stops_so a b first stop size h)
+  pub form_stops : (a b : Option (List ℕ)) (first : List ℕ) (stop : Stop Cause) (d : Stop (Place × Cause)) → length first ≡ 8 → d ≡ stop_at ImageHeader stop → AgreesWithJudging {X = Unit {0}} (λ _ p. p ≡ first) a b (part Truncated (length first)) (Err stop) → AgreesWithJudging R a b stream_at (Err d)
+  form_stops a b first stop d size is h = subst (λ s. AgreesWithJudging R a b stream_at (Err s)) (sym is) (stops_so a b first stop size h)
     where
-      stops_so : (a b : Option (List ℕ)) (first : List ℕ) (stop : Stop Cause) → length first ≡ 8 → Gives {X = Unit {0}} (λ _ p. p ≡ first) a b (part Truncated (length first)) (Err stop) → Gives R a b stream_at (Err (stop_at ImageHeader stop))
+      stops_so : (a b : Option (List ℕ)) (first : List ℕ) (stop : Stop Cause) → length first ≡ 8 → AgreesWithJudging {X = Unit {0}} (λ _ p. p ≡ first) a b (part Truncated (length first)) (Err stop) → AgreesWithJudging R a b stream_at (Err (stop_at ImageHeader stop))
       stops_so None b first stop size h = tt
       stops_so (Some i) b first (stops.Refused cause) size (rest, is, left) = (rest, too_short i cause rest (subst (λ n. part Truncated n i ≡ Faulty cause rest) size is), left)
       stops_so (Some i) b first stops.ReadFault size h = tt

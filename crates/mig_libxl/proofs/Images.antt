@@ -5,7 +5,7 @@ use Rattle.std.proofs.lemmas.Option.{same_Some}
 use Rattle.std.specs.Prelude.{IfOk}
 use Rattle.mig_restore_form.specs.Mean.{mean}
 use Rattle.mig_bytes.proofs.Joins.{any_stop}
-use Rattle.mig_bytes.specs.Judged.{Gives, Judged}
+use Rattle.mig_bytes.specs.Judged.{AgreesWithJudging, Judged}
 use Rattle.mig_bytes.specs.declared.stop.Stop.{Stop}
 use Rattle.mig_headers.specs.declared.fault.Cause.{Cause}
 use Rattle.mig_headers.specs.declared.fault.Place.{Place}
@@ -33,15 +33,15 @@ bare_tally : (tally : Tally) (image : ImageOf) → IsTally tally image → IsStr
 bare_tally tally image t = record { image = image; is = refl; frames = t.frames; version = t.version; kind = t.kind; records = t.records; verified = t.verified }
 
 module _ {X C : Type 0} (R Q : X → ImageOf → Type 0) (turn : (x : X) (image : ImageOf) → R x image → Q x image) where
-  told_as : (a b : Option (List ℕ)) (f : List ℕ → Judged C ImageOf) (r : Result X (Stop C)) → Gives R a b f r → Gives Q a b f r
+  told_as : (a b : Option (List ℕ)) (f : List ℕ → Judged C ImageOf) (r : Result X (Stop C)) → AgreesWithJudging R a b f r → AgreesWithJudging Q a b f r
   told_as None b f (Ok x) h = tt
   told_as (Some i) b f (Ok x) (image, rest, is, left, told) = (image, rest, is, left, turn x image told)
   told_as a b f (Err e) h = any_stop R Q a b f e h
 
-pub readings_told : (a b : Option (List ℕ)) (r : Result Reading (Stop (Place × Cause))) → Gives IsImageReading a b image_behind r → Gives (λ reading image. IsStreamReading reading (Bare image)) a b image_behind r
+pub readings_told : (a b : Option (List ℕ)) (r : Result Reading (Stop (Place × Cause))) → AgreesWithJudging IsImageReading a b image_behind r → AgreesWithJudging (λ reading image. IsStreamReading reading (Bare image)) a b image_behind r
 readings_told a b r h = told_as IsImageReading (λ reading image. IsStreamReading reading (Bare image)) bare_reading a b image_behind r h
 
-pub tallies_told : (a b : Option (List ℕ)) (r : Result Tally (Stop (Place × Cause))) → Gives IsTally a b image_behind r → Gives (λ tally image. IsStreamTally tally (Bare image)) a b image_behind r
+pub tallies_told : (a b : Option (List ℕ)) (r : Result Tally (Stop (Place × Cause))) → AgreesWithJudging IsTally a b image_behind r → AgreesWithJudging (λ tally image. IsStreamTally tally (Bare image)) a b image_behind r
 tallies_told a b r h = told_as IsTally (λ tally image. IsStreamTally tally (Bare image)) bare_tally a b image_behind r h
 
 -- ---- what is kept of the image, where a stream ends

@@ -1,5 +1,5 @@
 -- What the reader keeps of a record's content.
-use Rattle.mig_libxl.proofs.Common.{◌≡◌, ℕ, ◌-◌, ◌≤◌, ◌<◌, true, false, List, length, take, drop, nat_eq, nat_le, nat_lt, Option, Some, None, Ok, refl, sym, ap, subst, ◌∙◌, arith, ◌||◌, le-leb, lt-leb, common_steps, ◌>>=◌, Passes, Cause, pairs_fault, ImageOf, LibxlContent, image_in, Image, Pairs, Context, EmulatorsOf, add_pairs, put_libxl_content, emulator_key, Holds, WrapperSeen, length-drop, le32, Gives, pairs_in, TakesLibxl}
+use Rattle.mig_libxl.proofs.Common.{◌≡◌, ℕ, ◌-◌, ◌≤◌, ◌<◌, true, false, List, length, take, drop, nat_eq, nat_le, nat_lt, Option, Some, None, Ok, refl, sym, ap, subst, ◌∙◌, arith, ◌||◌, le-leb, lt-leb, common_steps, ◌>>=◌, Passes, Cause, pairs_fault, ImageOf, LibxlContent, image_in, Image, Pairs, Context, EmulatorsOf, add_pairs, put_libxl_content, emulator_key, Holds, WrapperSeen, length-drop, le32, AgreesWithJudging, pairs_in, TakesLibxl}
 use Rattle.std.proofs.lemmas.Bool.{le-ltb, lt-ltb}
 use Rattle.std.proofs.lemmas.List.{take_all}
 use Rattle.std.proofs.lemmas.Option.{none-some, same_Some}
@@ -114,7 +114,7 @@ takes_of is_of old new type c none of_emulator emulators emulated image records 
 -- ---- the image
 
 pub image_read : {I : Type 0} (is_of : I → ImageOf → Type 0) (old new : WrapperSeen I) (a b : Option (List ℕ)) (kept : I) → old.image ≡ None → new.emulators ≡ old.emulators → new.emulated ≡ old.emulated → new.image ≡ Some kept → new.records ≡ old.records
-    → Gives is_of a b image_at (Ok kept) → Gives {X = Unit {0}} (λ _ c. TakesLibxl is_of old new 1 c) a b inner_at (Ok tt)
+    → AgreesWithJudging is_of a b image_at (Ok kept) → AgreesWithJudging {X = Unit {0}} (λ _ c. TakesLibxl is_of old new 1 c) a b inner_at (Ok tt)
 image_read is_of old new None b kept none emulators emulated image records h = tt
 image_read {I = I} is_of old new (Some i) b kept none emulators emulated image records (im, rest, is, left, read) = (
   Image im,

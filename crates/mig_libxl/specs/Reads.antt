@@ -2,7 +2,7 @@
 use Rattle.std.specs.Prelude.{◌≡◌, ℕ, List, length, Option, Some, is_some, Result}
 use Rattle.std.specs.FinMap as maps
 use Rattle.mig_bytes.specs.Answers.{or_stop}
-use Rattle.mig_bytes.specs.Judged.{Gives}
+use Rattle.mig_bytes.specs.Judged.{AgreesWithJudging}
 use Rattle.mig_bytes.specs.declared.answer.Answer.{Answer}
 use Rattle.mig_headers.specs.declared.fault.Cause.{Cause}
 use Rattle.mig_headers.specs.declared.fault.Place.{Place}
@@ -24,7 +24,7 @@ pub record IsStreamReading (reading : Reading) (s : StreamOf) : Type 0 where
 
 -- what a reader of streams answered, and what it left in the source, is what judging gives
 abbrev pub ReadsStream : Option (List ℕ) → Option (List ℕ) → Result Reading (Answer Place Cause) → Type 0
-ReadsStream old new result = Gives IsStreamReading old new stream_at (or_stop result)
+ReadsStream old new result = AgreesWithJudging IsStreamReading old new stream_at (or_stop result)
 
 -- a tally of a stream: the number of frames of the guest that it means, and of its image the version, the kind, the number
 -- of records, and whether frames are compared in it
@@ -39,4 +39,4 @@ pub record IsStreamTally (tally : Tally) (s : StreamOf) : Type 0 where
 
 -- what a judge of streams answered, and what it left in the source, is what judging gives
 abbrev pub JudgesStream : Option (List ℕ) → Option (List ℕ) → Result Tally (Answer Place Cause) → Type 0
-JudgesStream old new result = Gives IsStreamTally old new stream_at (or_stop result)
+JudgesStream old new result = AgreesWithJudging IsStreamTally old new stream_at (or_stop result)

@@ -1,7 +1,7 @@
 ghost use Rattle.std.specs.Prelude.{◌≡◌, IfOk, List, Some};
 ghost use Rattle.mig_bytes.specs.Answers.{or_stop};
 ghost use Rattle.mig_bytes.specs.Faults.{RisesOnReadFault};
-ghost use Rattle.mig_bytes.specs.Judged.{Gives};
+ghost use Rattle.mig_bytes.specs.Judged.{AgreesWithJudging};
 ghost use Rattle.mig_headers.specs.declared.kind.Kind.{Kind};
 ghost use Rattle.mig_headers.specs.declared.kind.Kind.TheVariants.{Pv};
 ghost use Rattle.mig_libxl.specs.Reads.{IsStreamReading, IsStreamTally};
@@ -42,13 +42,13 @@ pub(crate) trait KeptImage: Drop {
 
     /// Takes an image.
     fn take<S: Source>(alloc: Global, src: &mut S) -> Result<Self, StreamAnswer>
-        ensures read { Gives is_of (S.left src.old) (S.left src.new) image_at (or_stop result) }
+        ensures read { AgreesWithJudging is_of (S.left src.old) (S.left src.new) image_at (or_stop result) }
         ensures kept { IfOk result kept }
         ensures faults { RisesOnReadFault (S.faults src.old) (S.faults src.new) (or_stop result) };
 
     /// Takes an image behind its marker, as a stream of its own.
     fn take_bare<S: Source>(alloc: Global, src: &mut S) -> Result<Self, StreamAnswer>
-        ensures read { Gives (λ kept image. is_of_stream kept (Bare image)) (S.left src.old) (S.left src.new) image_behind (or_stop result) }
+        ensures read { AgreesWithJudging (λ kept image. is_of_stream kept (Bare image)) (S.left src.old) (S.left src.new) image_behind (or_stop result) }
         ensures finished { IfOk result finished }
         ensures faults { RisesOnReadFault (S.faults src.old) (S.faults src.new) (or_stop result) };
 

@@ -1,7 +1,7 @@
 ghost use Rattle.std.specs.Prelude.{Option, ◌≡◌, ◌≤◌, ◌+◌, ◌==◌, ◌∷◌, [], ◌++◌, ⊤, ◌≢◌, ◌<◌, List, true, None, IfOk, IfNone, OnOk, IsErrOf};
 ghost use Rattle.mig_bytes.specs.Answers.{or_stop};
 ghost use Rattle.mig_bytes.specs.Faults.{RisesOnReadFault};
-ghost use Rattle.mig_bytes.specs.Judged.{Gives};
+ghost use Rattle.mig_bytes.specs.Judged.{AgreesWithJudging};
 ghost use Rattle.mig_bytes.specs.declared.stop.Stop.TheVariants.{Memory as NoMemory};
 ghost use Rattle.mig_headers.specs.RecordTypes.{most_body};
 ghost use Rattle.mig_headers.specs.declared.fault.Cause.TheVariants.{Truncated};
@@ -43,7 +43,7 @@ const CONTEXT: u32 = mig_guest::EMULATOR_CONTEXT;
 
 /// Takes a body of which nothing is kept.
 fn skip_body<S: Source>(src: &mut S, len: u32) -> Result<(), Stop<Cause>>
-    ensures read { Gives (λ _ c. c ≡ Nothing) (S.left src.old) (S.left src.new) (skipped_at len) result }
+    ensures read { AgreesWithJudging (λ _ c. c ≡ Nothing) (S.left src.old) (S.left src.new) (skipped_at len) result }
     ensures faults { RisesOnReadFault (S.faults src.old) (S.faults src.new) result }
     ensures takes_no_memory { ¬ IsErrOf result NoMemory }
 {
@@ -115,7 +115,7 @@ impl<I: KeptImage> WrapperSeen<I> {
 
     /// Takes the next record's head.
     fn take_head<S: Source>(&self, src: &mut S) -> Result<RecordHead, Stop<Cause>>
-        ensures read { (records : List LibxlRecord) → IsLibxlSeen I.is_of self.now records → Gives (λ h head. h ≡ head_in head) (S.left src.old) (S.left src.new) (libxl_head_at records) result }
+        ensures read { (records : List LibxlRecord) → IsLibxlSeen I.is_of self.now records → AgreesWithJudging (λ h head. h ≡ head_in head) (S.left src.old) (S.left src.new) (libxl_head_at records) result }
         ensures may { IfOk result (λ h. MayFollow (behind_of I.kind_of self.now) h.kind h.len) }
         ensures faults { RisesOnReadFault (S.faults src.old) (S.faults src.new) result }
         ensures takes_no_memory { ¬ IsErrOf result NoMemory }
@@ -137,7 +137,7 @@ impl<I: KeptImage> WrapperSeen<I> {
         requires front { 8 ≤ len }
         requires small { len ≤ most_body }
         requires begun { IsLibxlBegun I.kept self.old }
-        ensures read { Gives (λ _ c. TakesLibxl I.is_of self.old self.new 2 c) (S.left src.old) (S.left src.new) (pairs_at self.old.emulators len) result }
+        ensures read { AgreesWithJudging (λ _ c. TakesLibxl I.is_of self.old self.new 2 c) (S.left src.old) (S.left src.new) (pairs_at self.old.emulators len) result }
         ensures begun { OnOk result (IsLibxlBegun I.kept self.new) }
         ensures others { OnOk result ((self.new.records ≡ self.old.records) × (self.new.image ≡ self.old.image)) }
         ensures faults { RisesOnReadFault (S.faults src.old) (S.faults src.new) result }
@@ -180,7 +180,7 @@ impl<I: KeptImage> WrapperSeen<I> {
         requires front { 8 ≤ len }
         requires small { len ≤ most_body }
         requires begun { IsLibxlBegun I.kept self.old }
-        ensures read { Gives (λ _ c. TakesLibxl I.is_of self.old self.new 3 c) (S.left src.old) (S.left src.new) (context_at len) result }
+        ensures read { AgreesWithJudging (λ _ c. TakesLibxl I.is_of self.old self.new 3 c) (S.left src.old) (S.left src.new) (context_at len) result }
         ensures begun { OnOk result (IsLibxlBegun I.kept self.new) }
         ensures others { OnOk result ((self.new.records ≡ self.old.records) × (self.new.image ≡ self.old.image)) }
         ensures faults { RisesOnReadFault (S.faults src.old) (S.faults src.new) result }
@@ -217,7 +217,7 @@ impl<I: KeptImage> WrapperSeen<I> {
     ) -> Result<(), Stop<(Place, Cause)>>
         requires first { self.old.image ≡ None }
         requires begun { IsLibxlBegun I.kept self.old }
-        ensures read { Gives (λ _ c. TakesLibxl I.is_of self.old self.new 1 c) (S.left src.old) (S.left src.new) inner_at result }
+        ensures read { AgreesWithJudging (λ _ c. TakesLibxl I.is_of self.old self.new 1 c) (S.left src.old) (S.left src.new) inner_at result }
         ensures begun { OnOk result (IsLibxlBegun I.kept self.new) }
         ensures others { OnOk result ((self.new.records ≡ self.old.records) × (self.new.emulated ≡ self.old.emulated)) }
         ensures faults { RisesOnReadFault (S.faults src.old) (S.faults src.new) result }
@@ -242,7 +242,7 @@ impl<I: KeptImage> WrapperSeen<I> {
         requires allowed { length_allowed head.kind head.len ≡ true }
         requires no_image { head.kind ≢ 1 }
         requires begun { IsLibxlBegun I.kept self.old }
-        ensures read { Gives (λ _ c. TakesLibxl I.is_of self.old self.new head.kind c) (S.left src.old) (S.left src.new) (body_of_type self.old.emulators head.kind head.len) result }
+        ensures read { AgreesWithJudging (λ _ c. TakesLibxl I.is_of self.old self.new head.kind c) (S.left src.old) (S.left src.new) (body_of_type self.old.emulators head.kind head.len) result }
         ensures begun { OnOk result (IsLibxlBegun I.kept self.new) }
         ensures others { OnOk result ((self.new.records ≡ self.old.records) × (self.new.image ≡ self.old.image)) }
         ensures end { OnOk result (head.kind ≡ 0 → self.new ≡ self.old) }
@@ -264,7 +264,7 @@ impl<I: KeptImage> WrapperSeen<I> {
     ) -> Result<(), Stop<(Place, Cause)>>
         requires may { MayFollow (behind_of I.kind_of self.old) head.kind head.len }
         requires begun { IsLibxlBegun I.kept self.old }
-        ensures read { (records : List LibxlRecord) → IsLibxlSeen I.is_of self.old records → Gives (λ _ c. TakesLibxl I.is_of self.old self.new head.kind c) (S.left src.old) (S.left src.new) (libxl_content_at records head.kind head.len) result }
+        ensures read { (records : List LibxlRecord) → IsLibxlSeen I.is_of self.old records → AgreesWithJudging (λ _ c. TakesLibxl I.is_of self.old self.new head.kind c) (S.left src.old) (S.left src.new) (libxl_content_at records head.kind head.len) result }
         ensures begun { OnOk result (IsLibxlBegun I.kept self.new) }
         ensures others { OnOk result (self.new.records ≡ self.old.records) }
         ensures end { OnOk result (head.kind ≡ 0 → self.new ≡ self.old) }
@@ -288,7 +288,7 @@ impl<I: KeptImage> WrapperSeen<I> {
     ) -> Result<bool, Stop<(Place, Cause)>>
         requires begun { IsLibxlBegun I.kept self.old }
         ensures read { (records : List LibxlRecord) → IsLibxlSeen I.is_of self.old records →
-            Gives (λ over r. IsLibxlSeen I.is_of self.new (records ++ r ∷ []) × (over ≡ (r.type == 0))) (S.left src.old) (S.left src.new) (libxl_record_at records) result }
+            AgreesWithJudging (λ over r. IsLibxlSeen I.is_of self.new (records ++ r ∷ []) × (over ≡ (r.type == 0))) (S.left src.old) (S.left src.new) (libxl_record_at records) result }
         ensures begun { OnOk result (IsLibxlBegun I.kept self.new) }
         ensures closed { IfOk result (λ over. over ≡ true → IsClosed I.kind_of self.new) }
         ensures counted { OnOk result ((self.new.records ≡ self.old.records + 1) × (self.old.records < most_records)) }
@@ -330,7 +330,7 @@ fn take_records<S: Source, I: KeptImage>(
     alloc: Global,
     src: &mut S,
 ) -> Result<WrapperSeen<I>, Stop<(Place, Cause)>>
-    ensures read { Gives (IsLibxlSeen I.is_of) (S.left src.old) (S.left src.new) libxl_records_at result }
+    ensures read { AgreesWithJudging (IsLibxlSeen I.is_of) (S.left src.old) (S.left src.new) libxl_records_at result }
     ensures begun { IfOk result (λ seen. IsLibxlBegun I.kept seen) }
     ensures closed { IfOk result (λ seen. IsClosed I.kind_of seen) }
     ensures faults { RisesOnReadFault (S.faults src.old) (S.faults src.new) result }
@@ -342,7 +342,7 @@ fn take_records<S: Source, I: KeptImage>(
 
 /// Takes the header behind the ident of a libxl stream.
 fn take_header<S: Source>(src: &mut S) -> Result<(), Stop<Cause>>
-    ensures read { Gives (λ _ _. ⊤) (S.left src.old) (S.left src.new) header_at result }
+    ensures read { AgreesWithJudging (λ _ _. ⊤) (S.left src.old) (S.left src.new) header_at result }
     ensures faults { RisesOnReadFault (S.faults src.old) (S.faults src.new) result }
     ensures takes_no_memory { ¬ IsErrOf result NoMemory }
 {
@@ -359,7 +359,7 @@ fn read_wrapped<S: Source, I: KeptImage>(
     alloc: Global,
     src: &mut S,
 ) -> Result<I, Stop<(Place, Cause)>>
-    ensures read { Gives I.is_of_stream (S.left src.old) (S.left src.new) wrapped_at result }
+    ensures read { AgreesWithJudging I.is_of_stream (S.left src.old) (S.left src.new) wrapped_at result }
     ensures finished { IfOk result (λ kept. I.finished kept) }
     ensures faults { RisesOnReadFault (S.faults src.old) (S.faults src.new) result }
 {
@@ -379,7 +379,7 @@ fn read_bare<S: Source, I: KeptImage>(
     src: &mut S,
     first: &[u8; 8],
 ) -> Result<I, Stop<(Place, Cause)>>
-    ensures read { Gives I.is_of_stream (S.left src.old) (S.left src.new) (λ rest. bare_at (first.now ++ rest)) result }
+    ensures read { AgreesWithJudging I.is_of_stream (S.left src.old) (S.left src.new) (λ rest. bare_at (first.now ++ rest)) result }
     ensures finished { IfOk result (λ kept. I.finished kept) }
     ensures faults { RisesOnReadFault (S.faults src.old) (S.faults src.new) result }
 {
@@ -394,7 +394,7 @@ fn read_bare<S: Source, I: KeptImage>(
 
 /// Takes a stream of either form.
 fn read_form<S: Source, I: KeptImage>(alloc: Global, src: &mut S) -> Result<I, Stop<(Place, Cause)>>
-    ensures read { Gives I.is_of_stream (S.left src.old) (S.left src.new) stream_at result }
+    ensures read { AgreesWithJudging I.is_of_stream (S.left src.old) (S.left src.new) stream_at result }
     ensures finished { IfOk result (λ kept. I.finished kept) }
     ensures faults { RisesOnReadFault (S.faults src.old) (S.faults src.new) result }
 {

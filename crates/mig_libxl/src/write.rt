@@ -5,7 +5,7 @@ ghost use Rattle.std.specs.List.{list_any};
 ghost use Rattle.std.specs.FinMap as maps;
 ghost use Rattle.byteorder.specs.Endian.{little_bytes};
 ghost use Rattle.mig_bytes.specs.Bytes.{Puts};
-ghost use Rattle.mig_bytes.specs.Faults.{HasCause};
+ghost use Rattle.mig_bytes.specs.Faults.{FaultHasCause};
 ghost use Rattle.mig_headers.specs.RecordTypes.{most_body};
 ghost use Rattle.mig_guest.specs.Formed.{IsFormed, is_emulator_code};
 ghost use Rattle.mig_pvtables.specs.Whole.{IsWhole};
@@ -24,7 +24,7 @@ use mig_records::{write_head, write_padding, write_record};
 #[tactic(auto, using(mig_bytes::proofs::Texts::puts_then, mig_bytes::proofs::Texts::puts_stop))]
 pub fn open_wrapper<K: Sink>(sink: &mut K, legacy: bool) -> Result<(), WriteFailed>
     ensures bytes { Puts (opening_text legacy) (K.written sink.old) (K.written sink.new) result }
-    ensures cause { HasCause (K.faults sink.old) (K.faults sink.new) result }
+    ensures cause { FaultHasCause (K.faults sink.old) (K.faults sink.new) result }
 {
     put_all(sink, &LibxlHeader { legacy }.encode())?;
     write_record(sink, LIBXC_CONTEXT, &[])
@@ -46,7 +46,7 @@ pub fn write_emulator<K: Sink>(sink: &mut K, key: PartKey, bytes: &[u8]) -> Resu
     requires code { is_emulator_code key.code ≡ true }
     requires small { length bytes.now + 8 ≤ most_body }
     ensures bytes { Puts (emulator_record (key, bytes.now)) (K.written sink.old) (K.written sink.new) result }
-    ensures cause { HasCause (K.faults sink.old) (K.faults sink.new) result }
+    ensures cause { FaultHasCause (K.faults sink.old) (K.faults sink.new) result }
 {
     let len = (8 + bytes.len()) as u32;
     write_head(sink, key.code - 256, len)?;
@@ -58,7 +58,7 @@ pub fn write_emulator<K: Sink>(sink: &mut K, key: PartKey, bytes: &[u8]) -> Resu
 /// Appends the record that ends a libxl stream.
 pub fn close_wrapper<K: Sink>(sink: &mut K) -> Result<(), WriteFailed>
     ensures bytes { Puts (spelled 0 []) (K.written sink.old) (K.written sink.new) result }
-    ensures cause { HasCause (K.faults sink.old) (K.faults sink.new) result }
+    ensures cause { FaultHasCause (K.faults sink.old) (K.faults sink.new) result }
 {
     write_record(sink, LIBXL_END, &[])
 }
@@ -99,7 +99,7 @@ fn next_emulator(
 fn write_emulators<K: Sink>(sink: &mut K, guest: &Guest) -> Result<(), WriteFailed>
     requires formed { IsFormed guest.now }
     ensures bytes { Puts (text_of_emulators (emulators_in_order guest.now.parts)) (K.written sink.old) (K.written sink.new) result }
-    ensures cause { HasCause (K.faults sink.old) (K.faults sink.new) result }
+    ensures cause { FaultHasCause (K.faults sink.old) (K.faults sink.new) result }
 {
     let mut pairs = None;
     let mut context = None;
@@ -154,7 +154,7 @@ fn is_of_converter(guest: &Guest) -> bool
 fn write_behind<K: Sink>(sink: &mut K, guest: &Guest) -> Result<(), WriteFailed>
     requires formed { IsFormed guest.now }
     ensures bytes { Puts (text_of_emulators (emulators_in_order guest.now.parts) ++ spelled 0 []) (K.written sink.old) (K.written sink.new) result }
-    ensures cause { HasCause (K.faults sink.old) (K.faults sink.new) result }
+    ensures cause { FaultHasCause (K.faults sink.old) (K.faults sink.new) result }
 {
     write_emulators(sink, guest)?;
     close_wrapper(sink)
@@ -165,7 +165,7 @@ fn write_behind<K: Sink>(sink: &mut K, guest: &Guest) -> Result<(), WriteFailed>
 #[tactic(auto, using(mig_bytes::proofs::Texts::puts_same, crate::proofs::Around::opening_some, crate::proofs::Around::opening_none))]
 pub fn write_opening<K: Sink>(sink: &mut K, guest: &Guest) -> Result<(), WriteFailed>
     ensures bytes { Puts (wrapper_opening guest.now.parts) (K.written sink.old) (K.written sink.new) result }
-    ensures cause { HasCause (K.faults sink.old) (K.faults sink.new) result }
+    ensures cause { FaultHasCause (K.faults sink.old) (K.faults sink.new) result }
 {
     if has_emulators(guest) {
         open_wrapper(sink, is_of_converter(guest))
@@ -180,7 +180,7 @@ pub fn write_opening<K: Sink>(sink: &mut K, guest: &Guest) -> Result<(), WriteFa
 pub fn write_closing<K: Sink>(sink: &mut K, guest: &Guest) -> Result<(), WriteFailed>
     requires { IsFormed guest.now }
     ensures bytes { Puts (wrapper_closing guest.now.parts) (K.written sink.old) (K.written sink.new) result }
-    ensures cause { HasCause (K.faults sink.old) (K.faults sink.new) result }
+    ensures cause { FaultHasCause (K.faults sink.old) (K.faults sink.new) result }
 {
     if has_emulators(guest) {
         write_behind(sink, guest)
@@ -195,7 +195,7 @@ pub fn write_closing<K: Sink>(sink: &mut K, guest: &Guest) -> Result<(), WriteFa
 pub fn write_any<K: Sink>(sink: &mut K, guest: &Guest) -> Result<(), WriteFailed>
     requires { IsWhole guest.now }
     ensures bytes { Puts (canon_any guest.now) (K.written sink.old) (K.written sink.new) result }
-    ensures cause { HasCause (K.faults sink.old) (K.faults sink.new) result }
+    ensures cause { FaultHasCause (K.faults sink.old) (K.faults sink.new) result }
 {
     write_opening(sink, guest)?;
     write_canon(sink, guest)?;

@@ -1,6 +1,6 @@
 -- What a machine that hands its calls on promises of each of them beside the answer: the clauses that the calls of `Machine` share.
 use Rattle.std.specs.Prelude.{ℕ, Result, OnOk, OnErr}
-use Rattle.mig_bytes.specs.Faults.{HasCause}
+use Rattle.mig_bytes.specs.Faults.{FaultHasCause}
 use Rattle.mig_guest.specs.MachineStates.{MachineState, IsValidState, Stays}
 
 -- a call from s to t, where `before` and `now` count its faults: it did this, or failed and isn't in the history
@@ -8,4 +8,4 @@ pub record KeepsContract {X E : Type 0} (did : MachineState → MachineState →
   pub ok : OnOk result (did s t)
   pub err : OnErr result (Stays s t)
   pub valid : IsValidState t
-  pub cause : HasCause before now result
+  pub cause : FaultHasCause before now result

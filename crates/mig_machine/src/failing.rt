@@ -1,6 +1,6 @@
 ghost use Rattle.std.proofs.Common.{◌∙◌, le_refl, le_trans};
 ghost use Rattle.std.specs.Prelude.{refl, ◌≡◌, ◌+◌, ◌/◌, ◌<◌, ◌↔◌, length, IsTrue, IsErr, IfOk, IfSome, OnOk, OnErr};
-ghost use Rattle.mig_bytes.specs.Faults.{HasCause};
+ghost use Rattle.mig_bytes.specs.Faults.{FaultHasCause};
 ghost use Rattle.mig_bytes.specs.Memory.{counted_up, IsListed};
 ghost use Rattle.mig_guest.specs.Hosts.{pfn_in};
 ghost use Rattle.mig_guest.specs.MachineCalls.{seen_at, page_peeked, Peeked, LookedUp, LogTaken, Paused};
@@ -64,7 +64,7 @@ impl FailingMachine {
         ensures passed { OnOk result (self.new ≡ record self.old { number = counted_up self.old.number }) }
         ensures valid { IsValidState (failing_state self.new) }
         ensures later { IsLaterFailing self.old self.new }
-        ensures cause { HasCause self.old.faults self.new.faults result }
+        ensures cause { FaultHasCause self.old.faults self.new.faults result }
     {
         let _width = self.inner.width();
         let call = self.number;

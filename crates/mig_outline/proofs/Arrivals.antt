@@ -1,5 +1,5 @@
 -- The front of a stream that a judge has behind it.
-use Rattle.mig_restore.proofs.Common.{◌≡◌, ℕ, List, [], ◌∷◌, ◌++◌, length, Bool, true, false, nat_eq, ◌||◌, Option, Result, Ok, Err, refl, sym, ap, subst, ◌∙◌, length-map, map-append, Stop, stop_at, Gives, Passes, Cause, Record, Kind, GuestOf, RecordsSeen, empty_guest, StreamRecord, types_of, is_ended, is_verified, Opening, before, IsSeen, image_of, records_at, Follows}
+use Rattle.mig_restore.proofs.Common.{◌≡◌, ℕ, List, [], ◌∷◌, ◌++◌, length, Bool, true, false, nat_eq, ◌||◌, Option, Result, Ok, Err, refl, sym, ap, subst, ◌∙◌, length-map, map-append, Stop, stop_at, AgreesWithJudging, Passes, Cause, Record, Kind, GuestOf, RecordsSeen, empty_guest, StreamRecord, types_of, is_ended, is_verified, Opening, before, IsSeen, image_of, records_at, Follows}
 use Rattle.std.specs.FinMap as maps
 use Rattle.mig_bytes.proofs.Arrivals as fronts
 use Rattle.mig_bytes.proofs.Joins.{any_stop, mapped, stop}
@@ -78,7 +78,7 @@ module _ (o : Opening) where
 
   -- the clause of the judge of a record
   abbrev pub Tells : State → State → Option (List ℕ) → Option (List ℕ) → Result Bool (Stop Cause) → Type 0
-  Tells old new b c r = (records : List StreamRecord) → IsSeen old.seen o (types_of records) → old.guest ≡ outline (sent o.kind records) → old.verified ≡ is_verified (types_of records) → Gives (Told old new records) b c (next_at o records) r
+  Tells old new b c r = (records : List StreamRecord) → IsSeen old.seen o (types_of records) → old.guest ≡ outline (sent o.kind records) → old.verified ≡ is_verified (types_of records) → AgreesWithJudging (Told old new records) b c (next_at o records) r
 
   -- what is kept behind one more record
   kept : (old new : State) (records : List StreamRecord) (over : Bool) (r : StreamRecord) → Keeps o old records → Told old new records over r → Keeps o new (records ++ r ∷ [])
@@ -102,7 +102,7 @@ module _ (o : Opening) where
   arrived_next a b c old new over still h told = fronts.arrived_next is_ended (placed_next o) (Keeps o) is_last ended_more a b c old new over still h (tells_on b c old new over told)
 
   pub arrived_end : (a b c : Option (List ℕ)) (old new : State) (tally : Tally) (over : Bool) → over ≡ true → tally.version ≡ o.version → tally.kind ≡ o.kind → tally.frames ≡ maps.len new.guest.frames → tally.records ≡ new.seen.records → tally.verified ≡ new.verified
-      → fronts.Arrived is_ended (placed_next o) (Keeps o) a b old → Tells old new b c (Ok over) → Gives IsTally a c (records_at o) (Ok tally)
+      → fronts.Arrived is_ended (placed_next o) (Keeps o) a b old → Tells old new b c (Ok over) → AgreesWithJudging IsTally a c (records_at o) (Ok tally)
   arrived_end a b c old new tally over is_over tv tk tf tr td h told =
       mapped (Keeps o) IsTally a c (sequence_at is_ended (placed_next o)) (records_at o) (image_of o) new tally (λ i. refl)
       (fronts.arrived_end is_ended (placed_next o) (Keeps o) is_last ended_more (Follows o) (finds o) a b c old new over is_over h (tells_on b c old new over told))
@@ -114,7 +114,7 @@ module _ (o : Opening) where
         verified = td ∙ keeps.verified ∙ sym (some_differs o.kind records);
       })
 
-  pub arrived_stopped : (a b c : Option (List ℕ)) (old new : State) (e : Stop Cause) (n : ℕ) → n ≡ old.seen.records → fronts.Arrived is_ended (placed_next o) (Keeps o) a b old → Tells old new b c (Err e) → Gives {X = Tally} IsTally a c (records_at o) (Err (stop_at (Record n) e))
+  pub arrived_stopped : (a b c : Option (List ℕ)) (old new : State) (e : Stop Cause) (n : ℕ) → n ≡ old.seen.records → fronts.Arrived is_ended (placed_next o) (Keeps o) a b old → Tells old new b c (Err e) → AgreesWithJudging {X = Tally} IsTally a c (records_at o) (Err (stop_at (Record n) e))
   arrived_stopped a b c old new e n count h told =
       stop (Keeps o) IsTally a c (sequence_at is_ended (placed_next o)) (λ rs. Passes (image_of o rs.0) rs.1) (stop_at (Record n) e)
       (fronts.arrived_stopped is_ended (placed_next o) (Keeps o) is_last ended_more (Follows o) (finds o) a b c old new (stop_at (Record n) e) h

@@ -1,5 +1,5 @@
 -- The entry of a word, as a judge takes it that puts it into an outline.
-use Rattle.mig_restore.proofs.Common.{◌≡◌, ◌≢◌, ◌<◌, ℕ, List, [], ◌∷◌, ◌++◌, Option, Some, None, Result, Ok, Err, true, false, Bool, refl, sym, ap, subst, ◌∙◌, is_some, none-some, part, Gives, Passes, Stop, Cause, Truncated, Kind, GuestOf, PageType, level_of, pfn_limit, IsInside, entry, word_pfn, word_has_data, FrameEntry, Content, Nothing, Frames, Sets, Lists, Checks, type_in_word, fault_of_level, fault_of_page, meant_type, entry_at, put_entry, put_content, Grows, IsGoodWord, placed_content}
+use Rattle.mig_restore.proofs.Common.{◌≡◌, ◌≢◌, ◌<◌, ℕ, List, [], ◌∷◌, ◌++◌, Option, Some, None, Result, Ok, Err, true, false, Bool, refl, sym, ap, subst, ◌∙◌, is_some, none-some, part, AgreesWithJudging, Passes, Stop, Cause, Truncated, Kind, GuestOf, PageType, level_of, pfn_limit, IsInside, entry, word_pfn, word_has_data, FrameEntry, Content, Nothing, Frames, Sets, Lists, Checks, type_in_word, fault_of_level, fault_of_page, type_in_guest, entry_at, put_entry, put_content, GrewByRecord, IsGoodWord, placed_content}
 use Rattle.std.specs.Prelude.{⊤}
 use Rattle.std.proofs.lemmas.List.Sums.{fold-append}
 use Rattle.mig_bytes.specs.Judged.{plain_at}
@@ -18,7 +18,7 @@ use Rattle.mig_restore_form.specs.Judging.{page_at}
 
 -- ---- a page of which nothing is kept
 
-module _ (kind : Kind) (top place w : ℕ) (none : level_of (meant_type kind (type_in_word w)) ≡ None) where
+module _ (kind : Kind) (top place w : ℕ) (none : level_of (type_in_guest kind (type_in_word w)) ≡ None) where
   unjudged : (bytes : List ℕ) → fault_of_page kind top (place, w) bytes ≡ None
   unjudged bytes = ap (λ o. fault_of_level top place o bytes) none
 
@@ -30,7 +30,7 @@ module _ (kind : Kind) (top place w : ℕ) (none : level_of (meant_type kind (ty
 
   -- it was skipped
   pub passed : (a b : Option (List ℕ)) (r : Result (Unit {0}) (Stop Cause)) → word_has_data w ≡ true
-      → Gives {X = Unit {0}} (λ _ c. c ≡ Nothing) a b (λ i. plain_at Truncated (λ _. Nothing) 4096 i) r → Gives {X = Unit {0}} (λ _ _. ⊤) a b (page_at kind top (place, w)) r
+      → AgreesWithJudging {X = Unit {0}} (λ _ c. c ≡ Nothing) a b (λ i. plain_at Truncated (λ _. Nothing) 4096 i) r → AgreesWithJudging {X = Unit {0}} (λ _ _. ⊤) a b (page_at kind top (place, w)) r
   passed None b (Ok u) some h = tt
   passed (Some i) b (Ok u) some (y, rest, is, left, _) =
       let a = both_pass (part Truncated 4096 i) (λ p. Passes Nothing p.1) y rest is in
@@ -42,7 +42,7 @@ module _ (kind : Kind) (top place w : ℕ) (none : level_of (meant_type kind (ty
   passed (Some i) b (Err Memory) some h = tt
 
   -- or there is none
-  pub not_there : (a : Option (List ℕ)) → word_has_data w ≡ false → Gives {X = Unit {0}} (λ _ _. ⊤) a a (page_at kind top (place, w)) (Ok tt)
+  pub not_there : (a : Option (List ℕ)) → word_has_data w ≡ false → AgreesWithJudging {X = Unit {0}} (λ _ _. ⊤) a a (page_at kind top (place, w)) (Ok tt)
   not_there None none = tt
   not_there (Some i) none = (None, i, rw none refl, refl, tt)
 
@@ -51,17 +51,17 @@ entry_of w page = record { pfn = word_pfn w; type = type_in_word w; page = page 
 
 -- ---- what is set
 
-pub outline_set : (g n : GuestOf) (w pfn : ℕ) (meant type : PageType) (page : Option (List ℕ)) → pfn ≡ word_pfn w → meant ≡ meant_type g.kind (type_in_word w) → type ≡ outline_type meant → level_of meant ≡ None
+pub outline_set : (g n : GuestOf) (w pfn : ℕ) (meant type : PageType) (page : Option (List ℕ)) → pfn ≡ word_pfn w → meant ≡ type_in_guest g.kind (type_in_word w) → type ≡ outline_type meant → level_of meant ≡ None
     → n ≡ record g { frames = framed g.frames pfn type None } → n ≡ record g { frames = put_outline_entry g.kind g.frames (entry_of w page) }
 outline_set g n w pfn meant type page at means shown none now =
     now ∙ (λ i. record g { frames = framed g.frames (at i) (shown i) (sym (ap (λ o. outline_page o page) none) i) }) ∙ ap (λ (t : PageType). record g { frames = outline_framed g.frames (word_pfn w) t page }) means
 
 -- a table is set with its page
-pub table_set : (g n : GuestOf) (w : ℕ) (meant : PageType) (e : FrameEntry) → e.type ≡ type_in_word w → meant ≡ meant_type g.kind (type_in_word w) → is_some (level_of meant) ≡ true
+pub table_set : (g n : GuestOf) (w : ℕ) (meant : PageType) (e : FrameEntry) → e.type ≡ type_in_word w → meant ≡ type_in_guest g.kind (type_in_word w) → is_some (level_of meant) ≡ true
     → n ≡ record g { frames = put_entry g.kind g.frames e } → n ≡ record g { frames = put_outline_entry g.kind g.frames e }
 table_set g n w meant e is means some now =
-    let same : meant ≡ meant_type g.kind e.type = means ∙ ap (meant_type g.kind) (sym is) in
-    now ∙ ap (λ (f : FrameMap). record g { frames = f }) (by (meant_type g.kind e.type) (subst (λ t. is_some (level_of t) ≡ true) same some))
+    let same : meant ≡ type_in_guest g.kind e.type = means ∙ ap (type_in_guest g.kind) (sym is) in
+    now ∙ ap (λ (f : FrameMap). record g { frames = f }) (by (type_in_guest g.kind e.type) (subst (λ t. is_some (level_of t) ≡ true) same some))
   where
     by : (t : PageType) → is_some (level_of t) ≡ true → framed g.frames e.pfn t e.page ≡ outline_framed g.frames e.pfn t e.page
     by Notab is = cc
@@ -76,25 +76,25 @@ entry_type kind top place w i e rest h =
     let a = both_pass (page_at kind top (place, w) i) (λ page. Passes (entry_of w page.0) page.1) e rest h in
     sym (ap (λ (x : FrameEntry). x.type) (same_passes _ _ _ _ a.second).0)
 
-pub tabled : (g n : GuestOf) (a b : Option (List ℕ)) (place w : ℕ) (meant : PageType) (r : Result (Unit {0}) (Stop Cause)) → meant ≡ meant_type g.kind (type_in_word w) → is_some (level_of meant) ≡ true
-    → Gives (λ _ e. n ≡ record g { frames = put_entry g.kind g.frames e }) a b (entry_at g.kind g.top (place, w)) r → Gives (λ _ e. n ≡ record g { frames = put_outline_entry g.kind g.frames e }) a b (entry_at g.kind g.top (place, w)) r
+pub tabled : (g n : GuestOf) (a b : Option (List ℕ)) (place w : ℕ) (meant : PageType) (r : Result (Unit {0}) (Stop Cause)) → meant ≡ type_in_guest g.kind (type_in_word w) → is_some (level_of meant) ≡ true
+    → AgreesWithJudging (λ _ e. n ≡ record g { frames = put_entry g.kind g.frames e }) a b (entry_at g.kind g.top (place, w)) r → AgreesWithJudging (λ _ e. n ≡ record g { frames = put_outline_entry g.kind g.frames e }) a b (entry_at g.kind g.top (place, w)) r
 tabled g n a b place w meant (Ok u) means some h = judged_too _ _ a b (entry_at g.kind g.top (place, w)) u u (λ i rest e judged is. table_set g n w meant e (entry_type g.kind g.top place w i e rest judged) means some is) h
 tabled g n a b place w meant (Err e) means some h = any_stop (λ _ e. n ≡ record g { frames = put_entry g.kind g.frames e }) _ a b (entry_at g.kind g.top (place, w)) e h
 
 -- ---- a guest on its way
 
-bare_meant : (kind : Kind) (t : PageType) → outline_type (meant_type kind t) ≡ meant_type kind (outline_type (meant_type kind t))
+bare_meant : (kind : Kind) (t : PageType) → outline_type (type_in_guest kind t) ≡ type_in_guest kind (outline_type (type_in_guest kind t))
 bare_meant Pv t = refl
 bare_meant Hvm Broken = refl
 bare_meant Hvm Xalloc = refl
 bare_meant Hvm Xtab = refl
 bare_meant Hvm _ = refl
 
-pub outline_grows : (g n : GuestOf) (w pfn : ℕ) (meant in_stream type : PageType) → IsGoodWord g.kind g.top w → pfn ≡ word_pfn w → meant ≡ meant_type g.kind in_stream → type ≡ outline_type meant → type_has_data type ≡ false
-    → n ≡ record g { frames = framed g.frames pfn type None } → Grows g n
+pub outline_grows : (g n : GuestOf) (w pfn : ℕ) (meant in_stream type : PageType) → IsGoodWord g.kind g.top w → pfn ≡ word_pfn w → meant ≡ type_in_guest g.kind in_stream → type ≡ outline_type meant → type_has_data type ≡ false
+    → n ≡ record g { frames = framed g.frames pfn type None } → GrewByRecord g n
 outline_grows g n w pfn meant in_stream type good at means shown bare now =
     let inside = word_inside g.kind g.top w good.1 in
-    let same : type ≡ meant_type g.kind type = shown ∙ ap outline_type means ∙ bare_meant g.kind in_stream ∙ ap (meant_type g.kind) (sym (shown ∙ ap outline_type means)) in
+    let same : type ≡ type_in_guest g.kind type = shown ∙ ap outline_type means ∙ bare_meant g.kind in_stream ∙ ap (type_in_guest g.kind) (sym (shown ∙ ap outline_type means)) in
     grows_frame g n type type pfn None same (record {
       small = subst (λ n. n < pfn_limit) (sym at) inside.0;
       inside = subst (IsInside g.kind g.top) (sym at) inside.1;

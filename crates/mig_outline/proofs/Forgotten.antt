@@ -5,7 +5,7 @@ use Rattle.mig_headers.specs.declared.kind.Kind.{Kind}
 use Rattle.mig_pagetypes.specs.declared.page_type.PageType.TheVariants.{Xtab}
 use Rattle.mig_guest.specs.Frames.{framed}
 use Rattle.mig_pvtables.proofs.EachValue.{each_each, same_each}
-use Rattle.mig_restore_form.specs.Mean.{meant_type, put_entry, put_entries, put_content, put_record, empty_guest, sent}
+use Rattle.mig_restore_form.specs.Mean.{type_in_guest, put_entry, put_entries, put_content, put_record, empty_guest, sent}
 use Rattle.mig_restore_form.specs.Record.{FrameEntry, Content, StreamRecord}
 use Rattle.mig_restore_form.specs.Record.Content.{Nothing, Frames, Sets, Lists, Checks}
 use Rattle.mig_outline.specs.Forgotten.{forgotten_guest, forgotten_page, forgotten_frame, forgotten_frames}
@@ -35,7 +35,7 @@ forgotten_framed m p t page = changed_insert nat_cmp_total nat_cmp-IsAntisymmetr
 -- what is set in two maps that are alike once their pages are forgotten leaves them alike
 entry_alike : (kind : Kind) (m n : FrameMap) (e : FrameEntry) → forgotten_frames m ≡ forgotten_frames n → forgotten_frames (put_entry kind m e) ≡ forgotten_frames (put_entry kind n e)
 entry_alike kind m n e same =
-    let t = meant_type kind e.type in
+    let t = type_in_guest kind e.type in
     forgotten_framed m e.pfn t e.page
     ∙ ap (λ (f : FrameMap). framed f e.pfn t (forgotten_page (level_of t) e.page)) same
     ∙ sym (forgotten_framed n e.pfn t e.page)

@@ -4,7 +4,7 @@ use Rattle.std.specs.FinMap as maps
 use Rattle.mig_headers.specs.declared.kind.Kind.{Kind}
 use Rattle.mig_pagetypes.specs.declared.page_type.PageType.TheVariants.{Xtab}
 use Rattle.mig_guest.specs.Frames.{framed}
-use Rattle.mig_restore_form.specs.Mean.{empty_guest, meant_type, put_entry, put_entries, put_content}
+use Rattle.mig_restore_form.specs.Mean.{empty_guest, type_in_guest, put_entry, put_entries, put_content}
 use Rattle.mig_restore_form.specs.Record.{FrameEntry, Content}
 use Rattle.mig_restore_form.specs.Record.Content.{Nothing, Frames, Sets, Lists, Checks}
 use Rattle.mig_outline.specs.Outline.{outline, outline_frame, outline_frames, outline_framed, put_outline_entries, put_outline_content}
@@ -18,7 +18,7 @@ entries_on : (kind : Kind) (m : FrameMap) (es : List FrameEntry) → outline_fra
 entries_on kind m [] = refl
 entries_on kind m (e ∷ es) =
     entries_on kind (put_entry kind m e) es
-    ∙ ap (λ (f : FrameMap). put_outline_entries kind f es) (outlined m e.pfn (meant_type kind e.type) e.page)
+    ∙ ap (λ (f : FrameMap). put_outline_entries kind f es) (outlined m e.pfn (type_in_guest kind e.type) e.page)
 
 pub outline_on : (g : GuestOf) (c : Content) → outline (put_content g c) ≡ put_outline_content (outline g) c
 outline_on g Nothing = refl

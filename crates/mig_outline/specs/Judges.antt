@@ -2,7 +2,7 @@
 use Rattle.std.specs.Prelude.{◌≡◌, ℕ, List, length, Option, is_some, Result}
 use Rattle.std.specs.FinMap as maps
 use Rattle.mig_bytes.specs.Answers.{or_stop}
-use Rattle.mig_bytes.specs.Judged.{Gives}
+use Rattle.mig_bytes.specs.Judged.{AgreesWithJudging}
 use Rattle.mig_bytes.specs.declared.answer.Answer.{Answer}
 use Rattle.mig_headers.specs.declared.fault.Cause.{Cause}
 use Rattle.mig_headers.specs.declared.fault.Place.{Place}
@@ -21,8 +21,8 @@ pub record IsTally (tally : Tally) (image : ImageOf) : Type 0 where
 
 -- what a judge of images answered, and what it left in the source, is what judging gives
 abbrev pub JudgesImage : Option (List ℕ) → Option (List ℕ) → Result Tally (Answer Place Cause) → Type 0
-JudgesImage old new result = Gives IsTally old new image_at (or_stop result)
+JudgesImage old new result = AgreesWithJudging IsTally old new image_at (or_stop result)
 
 -- the same where the marker was taken before
 abbrev pub JudgesRest : Option (List ℕ) → Option (List ℕ) → Result Tally (Answer Place Cause) → Type 0
-JudgesRest old new result = Gives IsTally old new image_behind (or_stop result)
+JudgesRest old new result = AgreesWithJudging IsTally old new image_behind (or_stop result)

@@ -8,7 +8,7 @@ use Rattle.mig_pagetypes.specs.declared.page_type.PageType.TheVariants.{Notab, B
 use Rattle.mig_guest.specs.Frames.{FrameMap, FrameOf, framed}
 use Rattle.mig_guest.specs.Guests.{GuestOf}
 use Rattle.mig_pvtables.specs.Blank.{each_value}
-use Rattle.mig_restore_form.specs.Mean.{meant_type, put_content}
+use Rattle.mig_restore_form.specs.Mean.{type_in_guest, put_content}
 use Rattle.mig_restore_form.specs.Record.{FrameEntry, Content}
 use Rattle.mig_restore_form.specs.Record.Content.{Nothing, Frames, Sets, Lists, Checks}
 
@@ -49,7 +49,7 @@ abbrev pub outline_framed : FrameMap → ℕ → PageType → Option (List ℕ) 
 outline_framed frames pfn type page = framed frames pfn (outline_type type) (outline_page (level_of type) page)
 
 abbrev pub put_outline_entry : Kind → FrameMap → FrameEntry → FrameMap
-put_outline_entry kind frames e = outline_framed frames e.pfn (meant_type kind e.type) e.page
+put_outline_entry kind frames e = outline_framed frames e.pfn (type_in_guest kind e.type) e.page
 
 abbrev pub put_outline_entries : Kind → FrameMap → List FrameEntry → FrameMap
 put_outline_entries kind frames es = fold (put_outline_entry kind) frames es

@@ -1,14 +1,14 @@
 ghost use Rattle.std.specs.Prelude.{◌≡◌, ◌≤◌, ◌^◌, ℕ, ⊤, OnOk, length, false, None, Some, true};
 ghost use Rattle.std.specs.List.{All};
 ghost use Rattle.mig_bytes.specs.Faults.{RisesOnReadFault};
-ghost use Rattle.mig_bytes.specs.Judged.{Gives, each};
+ghost use Rattle.mig_bytes.specs.Judged.{AgreesWithJudging, each};
 ghost use Rattle.mig_headers.specs.RecordTypes.{record_row_of, type_of_number, most_body};
 ghost use Rattle.mig_headers.specs.declared.record_type.RecordType.{RecordType};
 ghost use Rattle.mig_outline.specs.Outline.{outline_type, put_outline_entry, put_outline_entries, put_outline_content};
 ghost use Rattle.mig_pagetypes.specs.PageTypes.{level_of, type_has_data};
 ghost use Rattle.mig_records.specs.Faults.{fault_of_length};
 ghost use Rattle.mig_restore_form.specs.Judging.{with_places, page_at, entry_at, pages_at, body_at, type_in_word};
-ghost use Rattle.mig_restore_form.specs.Mean.{meant_type, Grows};
+ghost use Rattle.mig_restore_form.specs.Mean.{type_in_guest, GrewByRecord};
 ghost use Rattle.mig_restore_form.specs.Record.{placed_content};
 ghost use Rattle.mig_restore_form.specs.Spelled.{IsGoodWord};
 
@@ -18,7 +18,7 @@ use mig_headers::{Cause, Kind};
 use mig_pagetypes::PageType;
 use mig_records::RecordHead;
 use mig_restore::{skip_body, take_entry, take_list, take_placed};
-use mig_restore_form::{meant, pfn_in, type_in};
+use mig_restore_form::{pfn_in, type_in, type_in_guest};
 use std::alloc::Global;
 
 /// The type of the records that carry frames.
@@ -42,8 +42,8 @@ fn outlined(kind: PageType) -> PageType
 
 /// Takes the page that goes with a word, where its type has data, and keeps nothing of it. No page but a table's is judged.
 fn pass_page<S: Source>(src: &mut S, word: u64) -> Result<(), Stop<Cause>>
-    ensures read { (kind : Kind) (top place : ℕ) → level_of (meant_type kind (type_in_word word)) ≡ None →
-        Gives (λ _ _. ⊤) (S.left src.old) (S.left src.new) (page_at kind top (place, word)) result }
+    ensures read { (kind : Kind) (top place : ℕ) → level_of (type_in_guest kind (type_in_word word)) ≡ None →
+        AgreesWithJudging (λ _ _. ⊤) (S.left src.old) (S.left src.new) (page_at kind top (place, word)) result }
     ensures faults { RisesOnReadFault (S.faults src.old) (S.faults src.new) result }
 {
     if type_in(word).has_data() {
@@ -62,13 +62,13 @@ pub fn outline_entry<S: Source>(
     guest: &mut Guest,
 ) -> Result<(), Stop<Cause>>
     requires { IsGoodWord guest.old.kind guest.old.top word }
-    ensures read { Gives (λ _ e. guest.new ≡ record guest.old { frames = put_outline_entry guest.old.kind guest.old.frames e })
+    ensures read { AgreesWithJudging (λ _ e. guest.new ≡ record guest.old { frames = put_outline_entry guest.old.kind guest.old.frames e })
         (S.left src.old) (S.left src.new) (entry_at guest.old.kind guest.old.top (place, word)) result }
-    ensures grown { OnOk result (Grows guest.old guest.new) }
+    ensures grown { OnOk result (GrewByRecord guest.old guest.new) }
     ensures top { OnOk result (guest.new.top ≡ guest.old.top) }
     ensures faults { RisesOnReadFault (S.faults src.old) (S.faults src.new) result }
 {
-    let kind = meant(guest.kind(), type_in(word));
+    let kind = type_in_guest(guest.kind(), type_in(word));
     if kind.table_level().is_some() {
         return take_entry(src, place, word, guest);
     }
@@ -87,9 +87,9 @@ fn outline_entries<S: Source>(
 ) -> Result<(), Stop<Cause>>
     requires good { All (IsGoodWord guest.old.kind guest.old.top) list.now }
     requires few { length list.now ≤ 2 ^ 24 }
-    ensures read { Gives (λ _ es. guest.new ≡ record guest.old { frames = put_outline_entries guest.old.kind guest.old.frames es })
+    ensures read { AgreesWithJudging (λ _ es. guest.new ≡ record guest.old { frames = put_outline_entries guest.old.kind guest.old.frames es })
         (S.left src.old) (S.left src.new) (each (entry_at guest.old.kind guest.old.top) (with_places 0 list.now)) result }
-    ensures grown { OnOk result (Grows guest.old guest.new) }
+    ensures grown { OnOk result (GrewByRecord guest.old guest.new) }
     ensures faults { RisesOnReadFault (S.faults src.old) (S.faults src.new) result }
 {
     for place in 0..list.len() {
@@ -106,8 +106,8 @@ fn outline_pages<S: Source>(
     guest: &mut Guest,
 ) -> Result<(), Stop<Cause>>
     requires { len ≤ most_body }
-    ensures read { Gives (λ _ c. guest.new ≡ put_outline_content guest.old c) (S.left src.old) (S.left src.new) (pages_at guest.old.kind guest.old.top len) result }
-    ensures grown { OnOk result (Grows guest.old guest.new) }
+    ensures read { AgreesWithJudging (λ _ c. guest.new ≡ put_outline_content guest.old c) (S.left src.old) (S.left src.new) (pages_at guest.old.kind guest.old.top len) result }
+    ensures grown { OnOk result (GrewByRecord guest.old guest.new) }
     ensures faults { RisesOnReadFault (S.faults src.old) (S.faults src.new) result }
 {
     let list = take_list(alloc, src, len, guest.kind(), guest.top())?;
@@ -126,8 +126,8 @@ pub fn outline_body<S: Source>(
     requires small { head.len ≤ most_body }
     requires allowed { fault_of_length head.kind head.len ≡ None }
     requires of_kind { (this : RecordType) → type_of_number head.kind ≡ Some this → (record_row_of this).of_kind guest.old.kind ≡ true }
-    ensures read { Gives (λ _ said. guest.new ≡ put_outline_content guest.old (placed_content verified said)) (S.left src.old) (S.left src.new) (body_at guest.old.kind guest.old.top head.kind head.len) result }
-    ensures grown { OnOk result (Grows guest.old guest.new) }
+    ensures read { AgreesWithJudging (λ _ said. guest.new ≡ put_outline_content guest.old (placed_content verified said)) (S.left src.old) (S.left src.new) (body_at guest.old.kind guest.old.top head.kind head.len) result }
+    ensures grown { OnOk result (GrewByRecord guest.old guest.new) }
     ensures faults { RisesOnReadFault (S.faults src.old) (S.faults src.new) result }
 {
     if !verified && head.kind == PAGE_DATA {

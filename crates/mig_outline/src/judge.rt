@@ -1,11 +1,11 @@
 ghost use Rattle.std.specs.Prelude.{◌≡◌, ℕ, ◌<◌, ◌+◌, ◌==◌, ◌||◌, ◌∷◌, [], ◌++◌, List, IfOk, OnOk};
 ghost use Rattle.mig_bytes.specs.Answers.{or_stop};
 ghost use Rattle.mig_bytes.specs.Faults.{RisesOnReadFault};
-ghost use Rattle.mig_bytes.specs.Judged.{Gives};
+ghost use Rattle.mig_bytes.specs.Judged.{AgreesWithJudging};
 ghost use Rattle.mig_outline.specs.Judges.{IsTally, JudgesImage, JudgesRest};
 ghost use Rattle.mig_outline.specs.Outline.{outline, put_outline_content};
 ghost use Rattle.mig_restore_form.specs.Judging.{Opening, Before, most_records, opening_of, record_at, next_at};
-ghost use Rattle.mig_restore_form.specs.Mean.{sent, IsBegun, Grows};
+ghost use Rattle.mig_restore_form.specs.Mean.{sent, IsBegun, GrewByRecord};
 ghost use Rattle.mig_restore_form.specs.Record.{StreamRecord, types_of, is_verified};
 ghost use Rattle.mig_restore_form.specs.Seen.{IsSeen};
 ghost use Rattle.mig_restore_form.specs.Stream.{image_at, image_behind, records_at};
@@ -59,9 +59,9 @@ fn outline_record<S: Source>(
 ) -> Result<u32, Stop<Cause>>
     requires kind { seen.old.kind ≡ guest.old.kind }
     ensures read { (b : Before) → IsSeen seen.old b.opening b.types → guest.old.kind ≡ b.opening.kind → guest.old.top ≡ b.top → verified.old ≡ is_verified b.types →
-        Gives (λ type r. (guest.new ≡ put_outline_content guest.old r.content) × (type ≡ r.type) × (verified.new ≡ (verified.old || (r.type == 0xD)))) (S.left src.old) (S.left src.new) (record_at b) result }
+        AgreesWithJudging (λ type r. (guest.new ≡ put_outline_content guest.old r.content) × (type ≡ r.type) × (verified.new ≡ (verified.old || (r.type == 0xD)))) (S.left src.old) (S.left src.new) (record_at b) result }
     ensures seen { IfOk result (λ type. (o : Opening) (types : List ℕ) → IsSeen seen.old o types → IsSeen seen.new o (types ++ type ∷ [])) }
-    ensures grown { OnOk result (Grows guest.old guest.new) }
+    ensures grown { OnOk result (GrewByRecord guest.old guest.new) }
     ensures counted { OnOk result ((seen.new.records ≡ seen.old.records + 1) × (seen.old.records < most_records)) }
     ensures kind { seen.new.kind ≡ seen.old.kind }
     ensures faults { RisesOnReadFault (S.faults src.old) (S.faults src.new) result }
@@ -84,9 +84,9 @@ fn outline_next<S: Source>(
     requires kind { seen.old.kind ≡ guest.old.kind }
     requires begun { IsBegun guest.old }
     ensures read { (o : Opening) (records : List StreamRecord) → IsSeen seen.old o (types_of records) → guest.old ≡ outline (sent o.kind records) → verified.old ≡ is_verified (types_of records) →
-        Gives (λ over r. (guest.new ≡ put_outline_content guest.old r.content) × IsSeen seen.new o (types_of (records ++ r ∷ [])) × (over ≡ (r.type == 0)) × (verified.new ≡ (verified.old || (r.type == 0xD))))
+        AgreesWithJudging (λ over r. (guest.new ≡ put_outline_content guest.old r.content) × IsSeen seen.new o (types_of (records ++ r ∷ [])) × (over ≡ (r.type == 0)) × (verified.new ≡ (verified.old || (r.type == 0xD))))
         (S.left src.old) (S.left src.new) (next_at o records) result }
-    ensures grown { OnOk result (Grows guest.old guest.new) }
+    ensures grown { OnOk result (GrewByRecord guest.old guest.new) }
     ensures counted { OnOk result ((seen.new.records ≡ seen.old.records + 1) × (seen.old.records < most_records)) }
     ensures kind { seen.new.kind ≡ seen.old.kind }
     ensures faults { RisesOnReadFault (S.faults src.old) (S.faults src.new) result }
@@ -108,7 +108,7 @@ fn judge_records<S: Source>(
     version: u32,
     kind: Kind,
 ) -> Result<Tally, Stop<(Place, Cause)>>
-    ensures read { Gives IsTally (S.left src.old) (S.left src.new) (records_at (opening_of version kind)) result }
+    ensures read { AgreesWithJudging IsTally (S.left src.old) (S.left src.new) (records_at (opening_of version kind)) result }
     ensures faults { RisesOnReadFault (S.faults src.old) (S.faults src.new) result }
 {
     let mut seen = RecordsSeen::new(version, kind);
@@ -135,7 +135,7 @@ fn judge_records<S: Source>(
 
 /// Judges the headers and the records.
 fn judge_parts<S: Source>(alloc: Global, src: &mut S) -> Result<Tally, Stop<(Place, Cause)>>
-    ensures read { Gives IsTally (S.left src.old) (S.left src.new) image_at result }
+    ensures read { AgreesWithJudging IsTally (S.left src.old) (S.left src.new) image_at result }
     ensures faults { RisesOnReadFault (S.faults src.old) (S.faults src.new) result }
 {
     let (version, kind) = read_opening(src)?;
@@ -144,7 +144,7 @@ fn judge_parts<S: Source>(alloc: Global, src: &mut S) -> Result<Tally, Stop<(Pla
 
 /// Judges the headers behind the marker, and the records.
 fn judge_rest<S: Source>(alloc: Global, src: &mut S) -> Result<Tally, Stop<(Place, Cause)>>
-    ensures read { Gives IsTally (S.left src.old) (S.left src.new) image_behind result }
+    ensures read { AgreesWithJudging IsTally (S.left src.old) (S.left src.new) image_behind result }
     ensures faults { RisesOnReadFault (S.faults src.old) (S.faults src.new) result }
 {
     let (version, kind) = read_headers(src)?;

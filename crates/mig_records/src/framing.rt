@@ -1,7 +1,7 @@
 ghost use Rattle.std.specs.Prelude.{◌≡◌, IsErrOf, ⊤};
 ghost use Rattle.mig_bytes.specs.Bytes.{padding_len};
 ghost use Rattle.mig_bytes.specs.Faults.{RisesOnReadFault};
-ghost use Rattle.mig_bytes.specs.Judged.{Gives, part};
+ghost use Rattle.mig_bytes.specs.Judged.{AgreesWithJudging, part};
 ghost use Rattle.mig_bytes.specs.declared.stop.Stop.TheVariants.{Memory};
 ghost use Rattle.mig_headers.specs.declared.fault.Cause.TheVariants.{Truncated};
 ghost use Rattle.mig_records.specs.Heads.{head_in};
@@ -12,7 +12,7 @@ use mig_headers::Cause;
 
 /// Takes a record's head, of a libxc image or of a libxl stream.
 pub fn take_head<S: Source>(src: &mut S) -> Result<RecordHead, Stop<Cause>>
-    ensures read { Gives (λ head bytes. head ≡ head_in bytes) (S.left src.old) (S.left src.new) (part Truncated 8) result }
+    ensures read { AgreesWithJudging (λ head bytes. head ≡ head_in bytes) (S.left src.old) (S.left src.new) (part Truncated 8) result }
     ensures faults { RisesOnReadFault (S.faults src.old) (S.faults src.new) result }
     ensures takes_no_memory { ¬ IsErrOf result Memory }
 {
@@ -23,7 +23,7 @@ pub fn take_head<S: Source>(src: &mut S) -> Result<RecordHead, Stop<Cause>>
 
 /// Takes the bytes behind a body of this length that make it a multiple of 8; any bytes may stand there.
 pub fn take_padding<S: Source>(src: &mut S, len: u32) -> Result<(), Stop<Cause>>
-    ensures read { Gives (λ _ _. ⊤) (S.left src.old) (S.left src.new) (part Truncated (padding_len len)) result }
+    ensures read { AgreesWithJudging (λ _ _. ⊤) (S.left src.old) (S.left src.new) (part Truncated (padding_len len)) result }
     ensures faults { RisesOnReadFault (S.faults src.old) (S.faults src.new) result }
     ensures takes_no_memory { ¬ IsErrOf result Memory }
 {

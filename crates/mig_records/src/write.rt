@@ -3,7 +3,7 @@
 ghost use Rattle.std.specs.Prelude.{◌≡◌, ◌≤◌, ◌++◌, length, replicate};
 ghost use Rattle.byteorder.specs.Endian.{little_bytes};
 ghost use Rattle.mig_bytes.specs.Bytes.{Puts, padding_len};
-ghost use Rattle.mig_bytes.specs.Faults.{HasCause};
+ghost use Rattle.mig_bytes.specs.Faults.{FaultHasCause};
 ghost use Rattle.mig_headers.specs.RecordTypes.{most_body};
 ghost use Rattle.mig_records.specs.Records.{head_of, spelled};
 
@@ -13,7 +13,7 @@ use mig_bytes::{Sink, WriteFailed, pad_len, put_all, put_u64_le};
 /// Appends the head of a record.
 pub fn write_head<K: Sink>(sink: &mut K, kind: u32, len: u32) -> Result<(), WriteFailed>
     ensures bytes { Puts (head_of kind len) (K.written sink.old) (K.written sink.new) result }
-    ensures cause { HasCause (K.faults sink.old) (K.faults sink.new) result }
+    ensures cause { FaultHasCause (K.faults sink.old) (K.faults sink.new) result }
 {
     put_all(sink, &RecordHead { kind, len }.encode())
 }
@@ -21,7 +21,7 @@ pub fn write_head<K: Sink>(sink: &mut K, kind: u32, len: u32) -> Result<(), Writ
 /// Appends the padding behind a body of this length, in zeros.
 pub fn write_padding<K: Sink>(sink: &mut K, len: u32) -> Result<(), WriteFailed>
     ensures bytes { Puts (replicate (padding_len len) 0) (K.written sink.old) (K.written sink.new) result }
-    ensures cause { HasCause (K.faults sink.old) (K.faults sink.new) result }
+    ensures cause { FaultHasCause (K.faults sink.old) (K.faults sink.new) result }
 {
     let zeros = [0; 8];
     put_all(sink, &zeros[..pad_len(len)])
@@ -31,7 +31,7 @@ pub fn write_padding<K: Sink>(sink: &mut K, len: u32) -> Result<(), WriteFailed>
 pub fn write_record<K: Sink>(sink: &mut K, kind: u32, body: &[u8]) -> Result<(), WriteFailed>
     requires { length body.now ≤ most_body }
     ensures bytes { Puts (spelled kind body.now) (K.written sink.old) (K.written sink.new) result }
-    ensures cause { HasCause (K.faults sink.old) (K.faults sink.new) result }
+    ensures cause { FaultHasCause (K.faults sink.old) (K.faults sink.new) result }
 {
     let len = body.len() as u32;
     write_head(sink, kind, len)?;
@@ -51,7 +51,7 @@ pub fn write_numbers<K: Sink>(
     requires first { first ≤ 8 }
     requires second { second ≤ 8 }
     ensures bytes { Puts (little_bytes first one ++ little_bytes second two) (K.written sink.old) (K.written sink.new) result }
-    ensures cause { HasCause (K.faults sink.old) (K.faults sink.new) result }
+    ensures cause { FaultHasCause (K.faults sink.old) (K.faults sink.new) result }
 {
     let mut bytes = [0; 16];
     put_u64_le(&mut bytes, 0, u64::from(one));
@@ -62,7 +62,7 @@ pub fn write_numbers<K: Sink>(
 /// Appends a count, and 4 zero bytes.
 pub fn write_count<K: Sink>(sink: &mut K, count: u32) -> Result<(), WriteFailed>
     ensures bytes { Puts (little_bytes 4 count ++ replicate 4 0) (K.written sink.old) (K.written sink.new) result }
-    ensures cause { HasCause (K.faults sink.old) (K.faults sink.new) result }
+    ensures cause { FaultHasCause (K.faults sink.old) (K.faults sink.new) result }
 {
     write_numbers(sink, 4, count, 4, 0)
 }

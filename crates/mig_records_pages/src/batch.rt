@@ -1,5 +1,5 @@
 ghost use Rattle.std.specs.Prelude.{◌≡◌, ◌<◌, [], length, OnOk, OnErr, IfOk};
-ghost use Rattle.mig_bytes.specs.Faults.{HasCause};
+ghost use Rattle.mig_bytes.specs.Faults.{FaultHasCause};
 ghost use Rattle.mig_records_pages.specs.PageData.{most_entries};
 ghost use Rattle.mig_records_pages.specs.Told.{told_of, HasPfn};
 ghost use Rattle.mig_records_pages.specs.Batches.{SendsOn, Flushes, FallsBehind};
@@ -45,7 +45,7 @@ impl Batch {
         ensures behind { OnErr result (FallsBehind 1 (K.written sink.old) (K.written sink.new) self.old) }
         ensures empty { OnErr result (self.new ≡ []) }
         ensures few { length self.new < most_entries }
-        ensures cause { HasCause (K.faults sink.old) (K.faults sink.new) result }
+        ensures cause { FaultHasCause (K.faults sink.old) (K.faults sink.new) result }
     {
         let _ = self.entries.push(entry);
         if self.entries.len() < MOST_ENTRIES {
@@ -61,7 +61,7 @@ impl Batch {
         ensures sent { OnOk result (Flushes (K.written sink.old) (K.written sink.new) self.old) }
         ensures behind { OnErr result (FallsBehind 0 (K.written sink.old) (K.written sink.new) self.old) }
         ensures empty { self.new ≡ [] }
-        ensures cause { HasCause (K.faults sink.old) (K.faults sink.new) result }
+        ensures cause { FaultHasCause (K.faults sink.old) (K.faults sink.new) result }
     {
         if self.entries.is_empty() {
             return Ok(());

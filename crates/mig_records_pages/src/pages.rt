@@ -1,7 +1,7 @@
 ghost use Rattle.std.specs.Prelude.{◌≡◌, ◌*◌, ◌+◌, ◌<◌, ◌≤◌, All, IfOk, OnErr, length, take, drop};
 ghost use Rattle.std.specs.Io.KnownBytes.{Appends};
 ghost use Rattle.mig_bytes.specs.Bytes.{AppendsPart, Puts};
-ghost use Rattle.mig_bytes.specs.Faults.{HasCause};
+ghost use Rattle.mig_bytes.specs.Faults.{FaultHasCause};
 ghost use Rattle.mig_records.specs.Records.{spelled};
 ghost use Rattle.mig_records_pages.specs.PageData.{most_entries, words_of, pages_of, body_of};
 ghost use Rattle.mig_records_pages.specs.Told.{told_held, telling_frames, HasPfn};
@@ -88,7 +88,7 @@ fn write_some<K: Sink, F: FrameSequence>(
     ensures behind { IfOk result (λ r. F.frames_from frames.now r.0 ≡ drop r.1 (F.frames_from frames.now place)) }
     ensures few { IfOk result (λ r. (0 < r.1) × (r.1 ≤ most)) }
     ensures room { length buffer.new ≡ length buffer.old }
-    ensures cause { HasCause (K.faults sink.old) (K.faults sink.new) result }
+    ensures cause { FaultHasCause (K.faults sink.old) (K.faults sink.new) result }
 {
     let (behind, count, run) = frames.run_from(place, most);
     if count >= GATHERED {
@@ -111,7 +111,7 @@ fn write_pages<K: Sink, F: FrameSequence>(
     requires { count ≤ length (F.frames_from frames.now start) }
     ensures bytes { Puts (pages_of (take count (F.frames_from frames.now start))) (K.written sink.old) (K.written sink.new) result }
     ensures next { IfOk result (λ next. F.frames_from frames.now next ≡ drop count (F.frames_from frames.now start)) }
-    ensures cause { HasCause (K.faults sink.old) (K.faults sink.new) result }
+    ensures cause { FaultHasCause (K.faults sink.old) (K.faults sink.new) result }
 {
     let mut buffer = no_pages();
     let mut place = start;
@@ -136,7 +136,7 @@ pub fn write_page_data<K: Sink, F: FrameSequence>(
     requires has { count ≤ length (F.frames_from frames.now start) }
     ensures bytes { Puts (spelled 1 (body_of (take count (F.frames_from frames.now start)))) (K.written sink.old) (K.written sink.new) result }
     ensures next { IfOk result (λ next. F.frames_from frames.now next ≡ drop count (F.frames_from frames.now start)) }
-    ensures cause { HasCause (K.faults sink.old) (K.faults sink.new) result }
+    ensures cause { FaultHasCause (K.faults sink.old) (K.faults sink.new) result }
     ensures short { length (body_of (take count (F.frames_from frames.now start))) ≤ 8 + 4104 * count }
 {
     let mut words = no_words();
@@ -155,7 +155,7 @@ pub fn write_batch<K: Sink>(sink: &mut K, entries: &[HeldFrame]) -> Result<(), W
     requires pfns { All HasPfn entries.now }
     ensures bytes { Puts (spelled 1 (body_of (telling_frames (told_held entries.now)))) (K.written sink.old) (K.written sink.new) result }
     ensures joins { JoinsBatches (told_held entries.now) (K.written sink.old) (K.written sink.new) result }
-    ensures cause { HasCause (K.faults sink.old) (K.faults sink.new) result }
+    ensures cause { FaultHasCause (K.faults sink.old) (K.faults sink.new) result }
 {
     let frames = HeldFrames { entries };
     match write_page_data(sink, &frames, 0, entries.len() as u32) {

@@ -1,6 +1,6 @@
 ghost use Rattle.std.specs.Prelude.{◌≢◌, ◌≤◌, ◌^◌, [], length, OnErr};
 ghost use Rattle.mig_bytes.specs.Bytes.{Puts};
-ghost use Rattle.mig_bytes.specs.Faults.{HasCause};
+ghost use Rattle.mig_bytes.specs.Faults.{FaultHasCause};
 ghost use Rattle.mig_records.specs.Records.{spelled};
 ghost use Rattle.mig_records_pages.specs.Written.{JoinsRecords, LeavesPart};
 
@@ -14,7 +14,7 @@ pub fn write_plain<K: Sink>(sink: &mut K, kind: u32, body: &[u8]) -> Result<(), 
     requires no_end { kind ≢ 0 }
     ensures bytes { Puts (spelled kind body.now) (K.written sink.old) (K.written sink.new) result }
     ensures joins { JoinsRecords (kind, body.now) (K.written sink.old) (K.written sink.new) result }
-    ensures cause { HasCause (K.faults sink.old) (K.faults sink.new) result }
+    ensures cause { FaultHasCause (K.faults sink.old) (K.faults sink.new) result }
 {
     write_record(sink, kind, body)
 }
@@ -24,7 +24,7 @@ pub fn write_plain<K: Sink>(sink: &mut K, kind: u32, body: &[u8]) -> Result<(), 
 pub fn write_end<K: Sink>(sink: &mut K) -> Result<(), WriteFailed>
     ensures bytes { Puts (spelled 0 []) (K.written sink.old) (K.written sink.new) result }
     ensures unended { OnErr result (LeavesPart (K.written sink.old) (K.written sink.new)) }
-    ensures cause { HasCause (K.faults sink.old) (K.faults sink.new) result }
+    ensures cause { FaultHasCause (K.faults sink.old) (K.faults sink.new) result }
 {
     write_record(sink, END, &[])
 }

@@ -107,7 +107,7 @@ pub use Rattle.mig_restore_form.proofs.Converse.{goes, going, headers_go, image_
 pub use Rattle.mig_restore_form.proofs.Laws.{behind_kind, behind_marker, behind_version, finds, image_header, opened as stream_opened}
 unfoldable pub use Rattle.mig_restore_form.specs.Judging.{fault_of_fields}
 pub use Rattle.mig_restore_form.specs.Judging.{Before, Opening, before, fault_of_data, fault_of_head, fault_of_level, fault_of_number, fault_of_page, lists_of, most_records, next_at, type_in_word}
-pub use Rattle.mig_restore_form.specs.Mean.{meant_type, sent}
+pub use Rattle.mig_restore_form.specs.Mean.{type_in_guest, sent}
 pub use Rattle.mig_restore_form.specs.Record.{FrameEntry, StreamRecord, is_ended}
 pub use Rattle.mig_restore_form.specs.Spelled.{Accepted, Follows}
 unfoldable pub use Rattle.mig_restore_form.specs.Stream.{image_at, opening_at}
@@ -150,14 +150,14 @@ pub use Rattle.mig_image.proofs.ImageBack.{image_back}
 pub use Rattle.mig_image.proofs.ImageReads.{image_reads}
 pub use Rattle.mig_host.proofs.InOrder.{no_entries}
 pub use Rattle.mig_image.proofs.Parts.{part_entries, parts_back as parts_said, parts_valid, with_parts}
-unfoldable pub use Rattle.mig_image.specs.Image.{host_head, image}
-pub use Rattle.mig_image.specs.Image.{IsHostImageUpTo, frame_text, part_text}
-pub use Rattle.mig_image.specs.declared.version.ImageVersion.{ImageVersion}
+unfoldable pub use Rattle.mig_image.specs.GuestImage.{host_head, guest_image}
+pub use Rattle.mig_image.specs.GuestImage.{IsGuestImageUpTo, frame_text, part_text}
+pub use Rattle.mig_image.specs.declared.version.GuestImageVersion.{GuestImageVersion}
 pub use Rattle.mig_guest.specs.Hosts.{most_width}
 pub use Rattle.mig_guest.specs.Limits.{most_gdt_entries, most_pairs}
-pub use Rattle.mig_image.specs.ImageParts.{head_version, opened}
-unfoldable pub use Rattle.mig_image.specs.ImageForm.{image_file_form}
-pub use Rattle.mig_image.specs.ImageForm.{behind_frames, behind_head, count_form, frames_form, host_at, host_frame_form, host_head_causes, host_head_form, host_part_form, host_parts_form}
+pub use Rattle.mig_image.specs.GuestImageParts.{head_version, opened}
+unfoldable pub use Rattle.mig_image.specs.GuestImageForm.{guest_image_form}
+pub use Rattle.mig_image.specs.GuestImageForm.{behind_frames, behind_head, count_form, frames_form, host_at, host_frame_form, host_head_causes, host_head_form, host_part_form, host_parts_form}
 pub use Rattle.mig_refusals.specs.LegacyToolstack.{EntryWrong, FieldWrong, PhysmapsTo}
 pub use Rattle.mig_refusals.specs.Libxc.{AnswersFirstCause, Breaks, ContextHas, DomainHas, EntriesTo, EntryHas, FrontHas, GuestHas, HeadHas, HeaderHas, IsFirstCause, IsTriedBefore, LengthHas, MarkerHas, PageHas, ParamsHas, WordsHas, BodyHas, LibxcCausesStand}
 pub use Rattle.mig_refusals.specs.LibxcPv.{InfoHas, IsUsedField, P2mHas, PvGuestHas, TableHas, TakesType, VcpuHas, rank_of}

@@ -1,5 +1,5 @@
 -- Fronts of bytes are spelled as an image spells the frames and parts of a valid host.
-use Rattle.mig_refusals.proofs.Common.{◌≡◌, ℕ, ◌<◌, ◌≤◌, List, [], ◌++◌, length, refl, sym, ap, subst, ◌∙◌, arith, append-nil, append_assoc, append_cancel_right, All-append, All-from_recursion, flat_map, little_bytes, bytes_back, bytes_front, AreBytes, le32, le64, kind_of_number, HostOf, IsValid, most_width, part_cmp, PartMap, PartKey, valid_empty, no_entries, put_all, frame_entries, frames_said, frames_valid, image_back, part_entries, parts_said, parts_valid, with_parts, ImageVersion, frame_text, host_head, image, part_text, head_version, opened, said_passes, host_parts_form, host_head_causes, host_head_form, count_form, behind_frames, behind_head, image_file_form, None, most_frames}
+use Rattle.mig_refusals.proofs.Common.{◌≡◌, ℕ, ◌<◌, ◌≤◌, List, [], ◌++◌, length, refl, sym, ap, subst, ◌∙◌, arith, append-nil, append_assoc, append_cancel_right, All-append, All-from_recursion, flat_map, little_bytes, bytes_back, bytes_front, AreBytes, le32, le64, kind_of_number, HostOf, IsValid, most_width, part_cmp, PartMap, PartKey, valid_empty, no_entries, put_all, frame_entries, frames_said, frames_valid, image_back, part_entries, parts_said, parts_valid, with_parts, GuestImageVersion, frame_text, host_head, guest_image, part_text, head_version, opened, said_passes, host_parts_form, host_head_causes, host_head_form, count_form, behind_frames, behind_head, guest_image_form, None, most_frames}
 use Rattle.std.specs.FinMap as maps
 use Rattle.mig_bytes.proofs.ByteLists.{Bytes}
 use Rattle.mig_bytes_form.specs.Form.{FormOf, BeginsAs, SpelledAs, steps_form}
@@ -30,7 +30,7 @@ no_parts_begin : (framed : HostOf) → BeginsAs (host_parts_form framed 0) [] fr
 unfolding steps_form
 no_parts_begin framed = gives_begins framed []
 
-same_head : (version : ImageVersion) (h : HostOf) (m : PartMap) → host_head version (with_parts h m) ≡ host_head version h
+same_head : (version : GuestImageVersion) (h : HostOf) (m : PartMap) → host_head version (with_parts h m) ≡ host_head version h
 unfolding host_head
 same_head version h m = refl
 
@@ -71,13 +71,13 @@ module _ (widest : ℕ) (few_widths : widest ≤ most_width) where
 
   -- a head and all its frames are the front of the image of their host
   record Framed (front : List ℕ) (h : HostOf) : Type 0 where
-    pub version : ImageVersion
+    pub version : GuestImageVersion
     pub spelled : front ≡ host_head version h ++ flat_map (frame_text version) (maps.entries h.frames)
     pub no_parts : h.parts ≡ maps.empty
     pub valid : IsValid h
 
   all_framed : (front : List ℕ) (h : HostOf) → Bytes front → SpelledAs (all_frames widest) front h → Framed front h
-  unfolding image image_file_form
+  unfolding guest_image guest_image_form
   all_framed front h bytes spelled =
       let b = begins_then (placed_head widest) told_frames front h [] (whole_begins (all_frames widest) front h spelled) in
       let f = frames_begin front b.x (le64 b.x 24) h bytes (omega arith) (paired_begins (placed_head widest) (head_frames (le64 b.x 24)) front b.mid b.x h [] b.first b.then) in
@@ -85,13 +85,13 @@ module _ (widest : ℕ) (few_widths : widest ≤ most_width) where
       let behind = then_begins (told_frames b.x) behind_frames (b.mid ++ none) none h h [] (begins_more (told_frames b.x) b.mid h [] none b.then) counted in
       let begins = then_begins (placed_head widest) behind_head (front ++ none) (b.mid ++ none) b.x h [] (begins_more (placed_head widest) front b.x b.mid none b.first) behind in
       let all : AreBytes (front ++ none) = All-append (λ b. b < 256) front none (All-from_recursion (λ b. b < 256) front bytes) (All-from_recursion (λ b. b < 256) none zeros) in
-      let im = (image_back widest (front ++ none) h [] few_widths all (begins_passes (image_file_form widest) (front ++ none) h [] begins)).image in
+      let im = (image_back widest (front ++ none) h [] few_widths all (begins_passes (guest_image_form widest) (front ++ none) h [] begins)).image in
       let frames = flat_map (frame_text im.version) (maps.entries h.frames) in
       let empty : maps.entries h.parts ≡ [] = ap maps.entries f.no_parts ∙ no_entries part_cmp (List ℕ) in
       let tail = ap (λ (es : List (PartKey × List ℕ)). little_bytes 8 (length es) ++ flat_map part_text es) empty in
       record {
         version = im.version;
-        spelled = append_cancel_right front (host_head im.version h ++ frames) none (im.spelled ∙ append-nil (image im.version h) ∙ ap (λ l. host_head im.version h ++ (frames ++ l)) tail ∙ sym (append_assoc (host_head im.version h) frames none));
+        spelled = append_cancel_right front (host_head im.version h ++ frames) none (im.spelled ∙ append-nil (guest_image im.version h) ∙ ap (λ l. host_head im.version h ++ (frames ++ l)) tail ∙ sym (append_assoc (host_head im.version h) frames none));
         no_parts = f.no_parts;
         valid = f.valid;
       }

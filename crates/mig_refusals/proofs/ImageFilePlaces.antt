@@ -1,9 +1,9 @@
--- The place at which an image file is refused is that of the part that is refused.
-use Rattle.mig_refusals.proofs.Common.{inl, inr, ℕ, List, subst, le64, ImageCause, ImagePlace, HostOf, head_version, opened, behind_frames, behind_head, count_form, frames_form, host_frame_form, host_head_form, host_part_form, host_parts_form, image_file_form}
+-- The place at which a guest image is refused is that of the part that is refused.
+use Rattle.mig_refusals.proofs.Common.{inl, inr, ℕ, List, subst, le64, ImageCause, ImagePlace, HostOf, head_version, opened, behind_frames, behind_head, count_form, frames_form, host_frame_form, host_head_form, host_part_form, host_parts_form, guest_image_form}
 use Rattle.mig_bytes_form.specs.Form.{FormOf, placed_form, BeginsAs, RefusedAs}
 use Rattle.mig_bytes_form.proofs.Joined.{begins_paired, begins_then, first_refused, paired_begins, placed_refused, refused_retold, refused_steps, refused_then, steps_refused, then_begins, then_refused}
 use Rattle.mig_headers.specs.declared.image_fault.ImagePlace.TheVariants as places
-use Rattle.mig_refusals.specs.ImageFile.{all_frames, up_to_count, RefusedImageFile, RefusedInPart, PlaceIsOfPart}
+use Rattle.mig_refusals.specs.ImageFile.{all_frames, up_to_count, RefusedGuestImage, RefusedInPart, PlaceIsOfPart}
 use Rattle.mig_refusals.specs.ImageFile.RefusedInPart.{in_head, in_frame, in_count, in_part}
 
 -- one more frame behind those of a host, and one more part
@@ -49,8 +49,8 @@ module _ (widest : ℕ) (input : List ℕ) (place : ImagePlace) (cause : ImageCa
     | inr a ↦ frames_gone a.0 a.1 (then_begins (placed_head widest) told_frames input left head a.0 a.1 begins a.2) a.3
   ]
 
-  place_of : RefusedImageFile widest input place cause rest → RefusedInPart widest input cause rest place
-  unfolding image_file_form
+  place_of : RefusedGuestImage widest input place cause rest → RefusedInPart widest input cause rest place
+  unfolding guest_image_form
   place_of refused = elim (refused_then (placed_head widest) behind_head input (place, cause) rest refused) [
     | inl first ↦ at_place places.Head (host_head_form widest) input first in_head
     | inr a ↦ head_gone a.0 a.1 a.2 a.3
@@ -58,17 +58,17 @@ module _ (widest : ℕ) (input : List ℕ) (place : ImagePlace) (cause : ImageCa
 
 module _ (widest : ℕ) (input : List ℕ) (cause : ImageCause) (rest : List ℕ) where
   -- what is refused behind a head, and behind all its frames
-  behind : (place : ImagePlace) (head left : List ℕ) → BeginsAs (placed_head widest) input head left → RefusedAs (behind_head head) left (place, cause) rest → RefusedImageFile widest input place cause rest
-  unfolding image_file_form
+  behind : (place : ImagePlace) (head left : List ℕ) → BeginsAs (placed_head widest) input head left → RefusedAs (behind_head head) left (place, cause) rest → RefusedGuestImage widest input place cause rest
+  unfolding guest_image_form
   behind place head left begins refused = then_refused (placed_head widest) behind_head input left head (place, cause) rest begins refused
 
-  behind_all : (place : ImagePlace) (framed : HostOf) (left : List ℕ) → BeginsAs (all_frames widest) input framed left → RefusedAs (behind_frames framed) left (place, cause) rest → RefusedImageFile widest input place cause rest
+  behind_all : (place : ImagePlace) (framed : HostOf) (left : List ℕ) → BeginsAs (all_frames widest) input framed left → RefusedAs (behind_frames framed) left (place, cause) rest → RefusedGuestImage widest input place cause rest
   behind_all place framed left begins refused =
       let b = begins_then (placed_head widest) told_frames input framed left begins in
       behind place b.x b.mid b.first (then_refused (told_frames b.x) behind_frames b.mid left framed (place, cause) rest b.then refused)
 
-  of_place : (place : ImagePlace) → RefusedInPart widest input cause rest place → RefusedImageFile widest input place cause rest
-  unfolding image_file_form
+  of_place : (place : ImagePlace) → RefusedInPart widest input cause rest place → RefusedGuestImage widest input place cause rest
+  unfolding guest_image_form
   of_place _ (in_head refused) = first_refused (placed_head widest) behind_head input (places.Head, cause) rest (refused_retold (λ c. (places.Head, c)) (host_head_form widest) input cause rest refused)
   of_place _ (in_frame head left n h begins less refused) =
       let b = begins_paired (placed_head widest) (head_frames n) input head h left begins in

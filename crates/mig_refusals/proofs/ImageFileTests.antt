@@ -1,4 +1,4 @@
--- What the truth values in the conditions of an image file say.
+-- What the truth values in the conditions of a guest image say.
 use Rattle.mig_refusals.proofs.Common.{Bool, FinMap, HostOf, Hvm, IsAntisymmetric, IsSome, IsTotalOrder, Kind, L4Pinned, L4Tab, Less, List, None, Notab, Option, Ordering, PageType, PartCode, PartKey, PartMap, Pv, Some, [], and_from, and_parts, ap, arith, cases_lt, eq-eqb, eqb-true, false, false≢true, inl, inr, le-leb, leb-true, list_any, nat_cmp-IsAntisymmetric, nat_cmp_total, nat_eq, nat_le, none-some, not, or_cases, part_cmp, part_exact, part_total, refl, subst, sym, true, ℕ, ◌∙◌, ◌∷◌, ◌≡◌, ◌≤◌, ◌⊎◌}
 use Rattle.mig_host.proofs.HostedGuests.{some_value}
 use Rattle.mig_guest.proofs.PartCursor.{less}
@@ -10,7 +10,7 @@ use Rattle.mig_headers.proofs.PairTexts.{canonical_pairs_are_computed}
 use Rattle.mig_host.proofs.InOrder.{all_there, found_passes, some_entry}
 use Rattle.mig_host.specs.HostView.{has_machine}
 use Rattle.mig_image.proofs.KeyTests.{part_there}
-use Rattle.mig_image.specs.ImageParts.{code_fits, has_frame_from, has_part_from, head_type_number}
+use Rattle.mig_image.specs.GuestImageParts.{code_fits, has_frame_from, has_part_from, head_type_number}
 use Rattle.mig_pagetypes.specs.PageTypes.{all_types, number_of, type_of, type_or_none}
 use Rattle.mig_pagetypes.specs.declared.page_type.PageType.TheVariants.{Broken, L1Pinned, L1Tab, L2Pinned, L2Tab, L3Pinned, L3Tab, Xalloc, Xtab}
 use Rattle.std.proofs.lemmas.List.Elements.{All-head, All-tail}
@@ -20,7 +20,7 @@ use Rattle.std.specs.declared.cmp.Ordering.TheVariants.{Equal, Greater}
 use Rattle.std.specs.FinMap as maps
 use Rattle.mig_guest.proofs.PartRows.{number_found, numbered}
 use Rattle.mig_image.proofs.ImageWords.{each_zero, zero_each}
-use Rattle.mig_image.specs.ImageParts.{code_allows}
+use Rattle.mig_image.specs.GuestImageParts.{code_allows}
 use Rattle.mig_refusals.specs.ImageFile.{ImageTestsSay, IsCodeOf, IsNoType}
 
 -- an entry of a map that passes a test

@@ -1,25 +1,25 @@
--- What an image file is refused for is what judging refuses it for; and what follows.
-use Rattle.mig_refusals.proofs.Common.{◌≡◌, ℕ, ◌≤◌, List, refl, sym, ◌∙◌, AreBytes, Judged, Passes, Faulty, passes_not, ImageCause, ImagePlace, HostOf, most_width, image_back, image_reads, IsHostImageUpTo, host_at, image_file_form}
+-- What a guest image is refused for is what judging refuses it for; and what follows.
+use Rattle.mig_refusals.proofs.Common.{◌≡◌, ℕ, ◌≤◌, List, refl, sym, ◌∙◌, AreBytes, Judged, Passes, Faulty, passes_not, ImageCause, ImagePlace, HostOf, most_width, image_back, image_reads, IsGuestImageUpTo, host_at, guest_image_form}
 use Rattle.mig_bytes_form.proofs.Verdicts.{refused_so}
-use Rattle.mig_refusals.specs.ImageFile.{RefusedImageFile, ImageCausesAscend}
+use Rattle.mig_refusals.specs.ImageFile.{RefusedGuestImage, ImageCausesAscend}
 use Rattle.mig_refusals.specs.Refusals.{AreJudged, HasOneRefusal, IsAcceptedOrRefused, IsNeverBoth}
 use Rattle.mig_refusals.specs.Refusals.IsAcceptedOrRefused.{accepted, refused}
 use Rattle.mig_refusals.proofs.Laws.{one_refusal}
 
-pub agree : (widest : ℕ) → AreJudged (RefusedImageFile widest) (λ input place cause rest. host_at widest input ≡ Faulty (place, cause) rest)
-agree widest = record { agree = λ input place c rest. refused_so (image_file_form widest) input (place, c) rest }
+pub agree : (widest : ℕ) → AreJudged (RefusedGuestImage widest) (λ input place cause rest. host_at widest input ≡ Faulty (place, cause) rest)
+agree widest = record { agree = λ input place c rest. refused_so (guest_image_form widest) input (place, c) rest }
 
-pub one : (widest : ℕ) → HasOneRefusal (RefusedImageFile widest)
-one widest = one_refusal (host_at widest) (RefusedImageFile widest) (agree widest)
+pub one : (widest : ℕ) → HasOneRefusal (RefusedGuestImage widest)
+one widest = one_refusal (host_at widest) (RefusedGuestImage widest) (agree widest)
 
-pub either : (widest : ℕ) (input : List ℕ) → widest ≤ most_width → AreBytes input → IsAcceptedOrRefused (RefusedImageFile widest) (IsHostImageUpTo widest) input
+pub either : (widest : ℕ) (input : List ℕ) → widest ≤ most_width → AreBytes input → IsAcceptedOrRefused (RefusedGuestImage widest) (IsGuestImageUpTo widest) input
 either widest input few bytes = by (host_at widest input) refl
   where
-    by : (j : Judged (ImagePlace × ImageCause) HostOf) → host_at widest input ≡ j → IsAcceptedOrRefused (RefusedImageFile widest) (IsHostImageUpTo widest) input
+    by : (j : Judged (ImagePlace × ImageCause) HostOf) → host_at widest input ≡ j → IsAcceptedOrRefused (RefusedGuestImage widest) (IsGuestImageUpTo widest) input
     by (Passes h rest) is = accepted h rest (image_back widest input h rest few bytes is)
     by (Faulty (place, c) rest) is = refused place c rest (((agree widest).agree input place c rest).0 is)
 
-pub never : (widest : ℕ) → IsNeverBoth (RefusedImageFile widest) (IsHostImageUpTo widest)
+pub never : (widest : ℕ) → IsNeverBoth (RefusedGuestImage widest) (IsGuestImageUpTo widest)
 never widest = record { never = λ input h rest place c more image r. passes_not h rest (place, c) more (sym (image_reads widest input h rest image) ∙ ((agree widest).agree input place c more).1 r) }
 
 pub ascend : ImageCausesAscend

@@ -1,4 +1,4 @@
--- Refusals of an image file: what the conditions of its form say, the order of its causes, and the place of a refusal, told by
+-- Refusals of a guest image: what the conditions of its form say, the order of its causes, and the place of a refusal, told by
 -- the faultless front before it.
 use Rattle.std.specs.Prelude.{ℕ, ◌<◌, true, List, ◌≡◌, ◌↔◌, Some, length, ◌⊎◌, ◌≤◌, false, IsSome, slice_index}
 use Rattle.std.specs.FinMap as maps
@@ -20,10 +20,10 @@ use Rattle.mig_guest.specs.declared.part_code.PartCode.{PartCode}
 use Rattle.mig_guest.specs.declared.part_key.PartKey.{PartKey}
 use Rattle.mig_guest.specs.Parts.{PartMap}
 use Rattle.mig_host.specs.HostView.{has_machine}
-use Rattle.mig_image.specs.declared.version.ImageVersion.{ImageVersion}
-use Rattle.mig_image.specs.Image.{is_all_zero}
-use Rattle.mig_image.specs.ImageParts.{head_version, head_type_number, head_type, opened, has_frame_from, has_part_from, code_fits, code_allows}
-use Rattle.mig_image.specs.ImageForm.{host_head_causes, frame_causes, page_causes, part_causes, content_causes, padding_causes, host_head_form, host_frame_form, count_form, host_part_form, frames_form, host_parts_form, image_file_form}
+use Rattle.mig_image.specs.declared.version.GuestImageVersion.{GuestImageVersion}
+use Rattle.mig_image.specs.GuestImage.{is_all_zero}
+use Rattle.mig_image.specs.GuestImageParts.{head_version, head_type_number, head_type, opened, has_frame_from, has_part_from, code_fits, code_allows}
+use Rattle.mig_image.specs.GuestImageForm.{host_head_causes, frame_causes, page_causes, part_causes, content_causes, padding_causes, host_head_form, host_frame_form, count_form, host_part_form, frames_form, host_parts_form, guest_image_form}
 
 -- ---- what truth values in conditions say
 
@@ -36,7 +36,7 @@ abbrev pub IsCodeOf : ℕ → (PartCode → Type 0) → Type 0
 IsCodeOf n Allows = (code : PartCode) × (n ≡ code_number code) × Allows code
 
 pub record ImageTestsSay : Type 0 where
-  pub other_type : (version : ImageVersion) (kind : Kind) (head : List ℕ) → (is_type_of kind (head_type version head) ≡ false) ↔ IsNoType kind (head_type_number version head)
+  pub other_type : (version : GuestImageVersion) (kind : Kind) (head : List ℕ) → (is_type_of kind (head_type version head) ≡ false) ↔ IsNoType kind (head_type_number version head)
   pub frame_from : (h : HostOf) (pfn : ℕ) → (has_frame_from h pfn ≡ true) ↔ ((q : ℕ) × IsSome (maps.get h.frames q) × (pfn ≤ q))
   pub machine : (h : HostOf) (machine : ℕ) → (has_machine h machine ≡ true) ↔ ((q : ℕ) × (frame : HostFrame) × (maps.get h.frames q ≡ Some frame) × (frame.machine ≡ machine))
   pub part_from : (parts : PartMap) (key : PartKey) → (has_part_from parts key ≡ true) ↔ ((q : PartKey) × IsSome (maps.get parts q) × ((q ≡ key) ⊎ IsAbove (Some key) q))
@@ -48,18 +48,18 @@ pub record ImageTestsSay : Type 0 where
 -- every table is in the order of the causes' numbers
 pub record ImageCausesAscend : Type 0 where
   pub in_head : (widest : ℕ) (head : List ℕ) → is_ascending number_of_image_cause (host_head_causes widest head) ≡ true
-  pub in_frame : (version : ImageVersion) (h : HostOf) (head : List ℕ) → is_ascending number_of_image_cause (frame_causes version h head) ≡ true
-  pub in_page : (version : ImageVersion) (pfn : ℕ) (page : List ℕ) → is_ascending number_of_image_cause (page_causes version pfn page) ≡ true
+  pub in_frame : (version : GuestImageVersion) (h : HostOf) (head : List ℕ) → is_ascending number_of_image_cause (frame_causes version h head) ≡ true
+  pub in_page : (version : GuestImageVersion) (pfn : ℕ) (page : List ℕ) → is_ascending number_of_image_cause (page_causes version pfn page) ≡ true
   pub in_part : (h : HostOf) (head : List ℕ) → is_ascending number_of_image_cause (part_causes h head) ≡ true
   pub in_content : (code : ℕ) (bytes : List ℕ) → is_ascending number_of_image_cause (content_causes code bytes) ≡ true
   pub in_padding : (padding : List ℕ) → is_ascending number_of_image_cause (padding_causes padding) ≡ true
 
 -- ---- refusals
 
--- the input is refused as an image file of a host up to this width, at this place, for this cause, and rest follows the faulty
+-- the input is refused as a guest image of a host up to this width, at this place, for this cause, and rest follows the faulty
 -- part
-abbrev pub RefusedImageFile : ℕ → List ℕ → ImagePlace → ImageCause → List ℕ → Type 0
-RefusedImageFile widest input place cause rest = RefusedAs (image_file_form widest) input (place, cause) rest
+abbrev pub RefusedGuestImage : ℕ → List ℕ → ImagePlace → ImageCause → List ℕ → Type 0
+RefusedGuestImage widest input place cause rest = RefusedAs (guest_image_form widest) input (place, cause) rest
 
 -- ---- the place of a refusal
 
@@ -86,4 +86,4 @@ pub data RefusedInPart (widest : ℕ) (input : List ℕ) (cause : ImageCause) (r
 
 -- the place is that of the part that is refused
 pub record PlaceIsOfPart : Type 0 where
-  pub agree : (widest : ℕ) (input : List ℕ) (place : ImagePlace) (cause : ImageCause) (rest : List ℕ) → RefusedImageFile widest input place cause rest ↔ RefusedInPart widest input cause rest place
+  pub agree : (widest : ℕ) (input : List ℕ) (place : ImagePlace) (cause : ImageCause) (rest : List ℕ) → RefusedGuestImage widest input place cause rest ↔ RefusedInPart widest input cause rest place

@@ -34,7 +34,7 @@ use Rattle.mig_records.specs.Faults.{fault_of_count, fault_of_words}
 use Rattle.mig_records.specs.Words.{words}
 use Rattle.mig_order.specs.Order.{some_earlier, is_of, static_records, content_records, vcpu_records}
 use Rattle.mig_restore_form.specs.Judging.{Opening, Before, before, code_of_type, fault_at_end, fault_of_data, fault_of_head, fault_of_page, lists_of, most_records, type_in_word, with_places}
-use Rattle.mig_restore_form.specs.Mean.{sent, meant_type}
+use Rattle.mig_restore_form.specs.Mean.{sent, type_in_guest}
 use Rattle.mig_restore_form.specs.Record.{FrameEntry, StreamRecord, Content, is_ended, is_verified, placed_content}
 use Rattle.mig_restore_form.specs.Record.Content.{Nothing, Frames, Sets}
 use Rattle.mig_restore_form.specs.Spelled.{Follows}
@@ -96,7 +96,7 @@ pub data LengthHas (len : ℕ) (ws : List ℕ) : ℕ → Cause → Type 0 where
 
 -- the page of a word at this place, where the type that the word means in a stream of this kind is a table of a level; an HVM stream has no tables ("PAGE_DATA")
 pub data PageHas (kind : Kind) (top place word : ℕ) (page : List ℕ) : ℕ → Cause → Type 0 where
-  in_table : (level slot : ℕ) (cause : Cause) → level_of (meant_type kind (type_in_word word)) ≡ Some level → TableHas top place level page slot cause → PageHas kind top place word page slot cause
+  in_table : (level slot : ℕ) (cause : Cause) → level_of (type_in_guest kind (type_in_word word)) ≡ Some level → TableHas top place level page slot cause → PageHas kind top place word page slot cause
 
 -- the entries of an HVM context stand whole up to the one at this offset: the first is a header with 24 bytes, and none of them ends the chain (Xen public/arch-x86/hvm/save.h)
 pub data EntriesTo (bytes : List ℕ) : ℕ → Type 0 where

@@ -4,35 +4,35 @@ ghost use Rattle.mig_bytes.specs.Fields.{le64};
 ghost use Rattle.mig_bytes.specs.Judged.Judged.{Faulty};
 ghost use Rattle.mig_bytes_form.specs.Form.{SpelledAs};
 ghost use Rattle.mig_guest.specs.Hosts.{HostOf, most_width};
-ghost use Rattle.mig_image.specs.Image.{IsHostImageUpTo};
-ghost use Rattle.mig_image.specs.ImageForm.{host_at};
+ghost use Rattle.mig_image.specs.GuestImage.{IsGuestImageUpTo};
+ghost use Rattle.mig_image.specs.GuestImageForm.{host_at};
 ghost use Rattle.mig_refusals.specs.Refusals.{AreJudged, HasOneRefusal, IsAcceptedOrRefused, IsNeverBoth};
 ghost use Rattle.mig_refusals.specs.ImageFileFronts.{EndsInFrames, EndsInParts};
-ghost use Rattle.mig_refusals.specs.ImageFile.{ImageCausesAscend, ImageTestsSay, PlaceIsOfPart, RefusedImageFile, count_and_parts, head_and_frames};
+ghost use Rattle.mig_refusals.specs.ImageFile.{ImageCausesAscend, ImageTestsSay, PlaceIsOfPart, RefusedGuestImage, count_and_parts, head_and_frames};
 
-/// Judging refuses an input as an image file for a cause at a place exactly where its form is refused so: behind parts without
+/// Judging refuses an input as a guest image for a cause at a place exactly where its form is refused so: behind parts without
 /// fault one isn't whole, or in it the first condition of its table that holds has this cause. What is left is what follows
 /// that part. This and what follows hold for images of both versions, and for each greatest width of a host that is taken.
 #[tactic(auto, using(crate::proofs::ImageFileVerdicts::agree))]
 pub fn image_file_refusals_agree()
-    ensures { (widest : ℕ) → AreJudged (RefusedImageFile widest) (λ input place cause rest. host_at widest input ≡ Faulty (place, cause) rest) }
+    ensures { (widest : ℕ) → AreJudged (RefusedGuestImage widest) (λ input place cause rest. host_at widest input ≡ Faulty (place, cause) rest) }
 {}
 
-/// An input has at most one refusal as an image file.
+/// An input has at most one refusal as a guest image.
 #[tactic(auto, using(crate::proofs::ImageFileVerdicts::one))]
 pub fn image_file_one_refusal()
-    ensures { (widest : ℕ) → HasOneRefusal (RefusedImageFile widest) }
+    ensures { (widest : ℕ) → HasOneRefusal (RefusedGuestImage widest) }
 {}
 
 /// For every input of bytes either a front is the image of a host, a valid one, or there is a refusal.
 pub fn image_file_accepted_or_refused()
-    ensures { (widest : ℕ) (input : List ℕ) → widest ≤ most_width → AreBytes input → IsAcceptedOrRefused (RefusedImageFile widest) (IsHostImageUpTo widest) input }
+    ensures { (widest : ℕ) (input : List ℕ) → widest ≤ most_width → AreBytes input → IsAcceptedOrRefused (RefusedGuestImage widest) (IsGuestImageUpTo widest) input }
 {}
 
 /// An input that begins with the image of a host has no refusal.
 #[tactic(auto, using(crate::proofs::ImageFileVerdicts::never))]
 pub fn image_file_never_both()
-    ensures { (widest : ℕ) → IsNeverBoth (RefusedImageFile widest) (IsHostImageUpTo widest) }
+    ensures { (widest : ℕ) → IsNeverBoth (RefusedGuestImage widest) (IsGuestImageUpTo widest) }
 {}
 
 /// The tables of causes are in the order of the causes' numbers: of several causes that stand in a part the least is named.

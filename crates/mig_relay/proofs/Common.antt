@@ -13,7 +13,7 @@ pub use Rattle.mig_bytes.proofs.Said.{said_passes}
 pub use Rattle.mig_bytes.proofs.Sequences.{goes_on, over, starts}
 pub use Rattle.mig_bytes.specs.Bytes.{AppendsPart, TakesFew, padding_len}
 pub use Rattle.mig_bytes.specs.Fields.{be32, be64, le32}
-pub use Rattle.mig_bytes.specs.Judged.{Gives, Judged, part, placed, plain_at, said_at, tried, ◌>>=◌}
+pub use Rattle.mig_bytes.specs.Judged.{AgreesWithJudging, Judged, part, placed, plain_at, said_at, tried, ◌>>=◌}
 pub use Rattle.mig_bytes.specs.Judged.Judged.{Faulty, Passes}
 pub use Rattle.mig_bytes.specs.Sequences.{onward}
 pub use Rattle.mig_bytes.specs.declared.stop.Stop.{Stop}
@@ -73,7 +73,7 @@ pub use Rattle.mig_relay_bodies.specs.Bodies.{coded_content, fault_of_libxl_body
 pub use Rattle.mig_restore_form.proofs.Meaning.{ended_more, one_more_record}
 pub use Rattle.mig_restore_form.proofs.Parts.{asks, begins}
 pub use Rattle.mig_restore_form.specs.Judging.{Before, Opening, before, body_at, code_of_type, coded_at, entries_at, entry_at, fault_of_data, fault_of_fields, fault_of_head, fault_of_level, fault_of_list, fault_of_page, head_at, list_at, lists_of, opening_of, page_at, record_at, type_in_word, typed_at, with_places, words_at}
-pub use Rattle.mig_restore_form.specs.Mean.{meant_type, put_content, sent}
+pub use Rattle.mig_restore_form.specs.Mean.{type_in_guest, put_content, sent}
 pub use Rattle.mig_restore_form.specs.Record.{Content, FrameEntry, StreamRecord, is_ended, is_verified, placed_content, types_of}
 pub use Rattle.mig_restore_form.specs.Record.Content.{Frames, Lists, Nothing, Sets}
 pub use Rattle.mig_restore_form.specs.Seen.{IsSeen}

@@ -1,5 +1,5 @@
 -- What a relay keeps behind the first parts of a stream.
-use Rattle.mig_relay.proofs.Common.{◌≡◌, ℕ, ◌≤◌, Bool, List, [], ◌++◌, length, take, true, false, cond, Option, None, Some, Ok, Err, refl, sym, ap, subst, ◌∙◌, arith, ◌&&◌, leb-true, Gives, part, Stop, part_passes, fault_of_marker, Cause, Truncated, ImageHeader, Kind, image_among, before, opening_of, IsSeen, RecordsSeen, LibxlRecord, KeepsRecords, KeepsWrapper, HasNumber, AtVersion, Alone, AtLibxlHeader, InImage, spot, is_ident, fault_of_first, IsNotRefused, answer_of, Relay}
+use Rattle.mig_relay.proofs.Common.{◌≡◌, ℕ, ◌≤◌, Bool, List, [], ◌++◌, length, take, true, false, cond, Option, None, Some, Ok, Err, refl, sym, ap, subst, ◌∙◌, arith, ◌&&◌, leb-true, AgreesWithJudging, part, Stop, part_passes, fault_of_marker, Cause, Truncated, ImageHeader, Kind, image_among, before, opening_of, IsSeen, RecordsSeen, LibxlRecord, KeepsRecords, KeepsWrapper, HasNumber, AtVersion, Alone, AtLibxlHeader, InImage, spot, is_ident, fault_of_first, IsNotRefused, answer_of, Relay}
 use Rattle.std.specs.Prelude.{nat_le}
 use Rattle.std.proofs.Math.Seq.{take-append_seam}
 use Rattle.mig_restore_form.specs.Mean.{sent}
@@ -43,13 +43,13 @@ pub begun_long : (left : List ℕ) → begins_with_ident left ≡ true → 8 ≤
 begun_long left begins = leb-true 8 (length left) (true_left (nat_le 8 (length left)) (is_ident (take 8 left)) begins)
 
 -- which can be taken
-pub whole_not_short : (buf : List ℕ) (e : Stop Cause) (left : List ℕ) (new : Option (List ℕ)) → length buf ≤ length left → Gives (Buffered buf) (Some left) new (part Truncated (length buf)) (Err e) → IsNotRefused (Err (answer_of ImageHeader e))
+pub whole_not_short : (buf : List ℕ) (e : Stop Cause) (left : List ℕ) (new : Option (List ℕ)) → length buf ≤ length left → AgreesWithJudging (Buffered buf) (Some left) new (part Truncated (length buf)) (Err e) → IsNotRefused (Err (answer_of ImageHeader e))
 whole_not_short buf (stops.Refused c) left new fits (rest, is, now) = absurd (omega (arith, fits, (short_is (length buf) left c rest is).less))
 whole_not_short buf stops.ReadFault left new fits h = tt
 whole_not_short buf stops.Memory left new fits h = tt
 
 -- and have no fault
-pub ident_is_fine : (buf left : List ℕ) (new : Option (List ℕ)) (c : Cause) → length buf ≡ 8 → begins_with_ident left ≡ true → Gives (Buffered buf) (Some left) new (part Truncated (length buf)) (Ok tt) → Some c ≡ fault_of_first buf → ⊥
+pub ident_is_fine : (buf left : List ℕ) (new : Option (List ℕ)) (c : Cause) → length buf ≡ 8 → begins_with_ident left ≡ true → AgreesWithJudging (Buffered buf) (Some left) new (part Truncated (length buf)) (Ok tt) → Some c ≡ fault_of_first buf → ⊥
 ident_is_fine buf left new c size begins (bytes, rest, is, now, same) stands =
     let p = part_passes Truncated (length buf) left bytes rest is in
     let whole : left ≡ buf ++ rest = p.0 ∙ ap (λ l. l ++ rest) same in

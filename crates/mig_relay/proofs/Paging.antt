@@ -1,5 +1,5 @@
 -- A PAGE_DATA on its way: its count, its words and its pages are parts, and words without a page are passed over.
-use Rattle.mig_relay.proofs.Common.{◌≡◌, ℕ, zero, suc, ◌+◌, ◌*◌, ◌-◌, ◌<◌, ◌≤◌, ◌^◌, ◌≢◌, Bool, true, false, cond, nat_eq, nat_lt, not, List, [], ◌∷◌, ◌++◌, length, drop, slice_index, Option, Some, None, Ok, Err, refl, sym, ap, subst, ◌∙◌, arith, ltb-true, ltb-false, eqb-true, eqb-false, not-false, map-append, padding_len, TakesFew, le32, Judged, ◌>>=◌, part, Gives, Stop, GuestOf, rows_fine, Cause, Truncated, BadLength, Place, Record, Kind, image_among, word_has_data, fault_of_count, fault_of_words, count_rows, words, RecordHead, ended_more, one_more_record, Opening, before, type_in_word, fault_of_data, fault_of_level, fault_of_page, with_places, sent, put_content, meant_type, StreamRecord, FrameEntry, types_of, is_verified, placed_content, Frames, IsSeen, ImageOf, RecordsSeen, ComesBehind, ComesNext, in_hand, more, image_next, Keeps, KeepsWords, HasNumber, KeepsRecords, KeepsHead, KeepsOuter, IsPages, AtHead, AtFront, AtWords, AtPages, judged_next, record_with, fault_of_list, entry_of_word, BeginsWithPart, Outer, Alone, Behind, Spot, InImage, spot, carry, Relay, both_none}
+use Rattle.mig_relay.proofs.Common.{◌≡◌, ℕ, zero, suc, ◌+◌, ◌*◌, ◌-◌, ◌<◌, ◌≤◌, ◌^◌, ◌≢◌, Bool, true, false, cond, nat_eq, nat_lt, not, List, [], ◌∷◌, ◌++◌, length, drop, slice_index, Option, Some, None, Ok, Err, refl, sym, ap, subst, ◌∙◌, arith, ltb-true, ltb-false, eqb-true, eqb-false, not-false, map-append, padding_len, TakesFew, le32, Judged, ◌>>=◌, part, AgreesWithJudging, Stop, GuestOf, rows_fine, Cause, Truncated, BadLength, Place, Record, Kind, image_among, word_has_data, fault_of_count, fault_of_words, count_rows, words, RecordHead, ended_more, one_more_record, Opening, before, type_in_word, fault_of_data, fault_of_level, fault_of_page, with_places, sent, put_content, type_in_guest, StreamRecord, FrameEntry, types_of, is_verified, placed_content, Frames, IsSeen, ImageOf, RecordsSeen, ComesBehind, ComesNext, in_hand, more, image_next, Keeps, KeepsWords, HasNumber, KeepsRecords, KeepsHead, KeepsOuter, IsPages, AtHead, AtFront, AtWords, AtPages, judged_next, record_with, fault_of_list, entry_of_word, BeginsWithPart, Outer, Alone, Behind, Spot, InImage, spot, carry, Relay, both_none}
 use Rattle.std.proofs.Common.{replicate}
 use Rattle.std.specs.Prelude.{count_by}
 use Rattle.std.proofs.lemmas.List.FromFn.{length-map-range_with_len}
@@ -66,13 +66,13 @@ same_list_fault kind its top high len n ws bytes fault same_kind same_high same_
     is ∙ ap (fault_of_list kind top len) same_words ∙ ap (λ k. fault_of_list k top len (words n bytes)) same_kind ∙ ap (λ m. fault_of_list its m len (words n bytes)) same_high
 
 -- what is known of the opening and of the word's type tells the same cause of its page
-pub same_page_fault : (kind its : Kind) (top high place at word : ℕ) (type : PageType) (page : List ℕ) (fault : Option Cause) → kind ≡ its → top ≡ high → place ≡ at → type ≡ meant_type kind (type_in_word word) → fault ≡ fault_of_level top place (level_of type) page → fault ≡ fault_of_page its high (at, word) page
+pub same_page_fault : (kind its : Kind) (top high place at word : ℕ) (type : PageType) (page : List ℕ) (fault : Option Cause) → kind ≡ its → top ≡ high → place ≡ at → type ≡ type_in_guest kind (type_in_word word) → fault ≡ fault_of_level top place (level_of type) page → fault ≡ fault_of_page its high (at, word) page
 same_page_fault kind its top high place at word type page fault same_kind same_high same_place same_type is =
     is
     ∙ ap (λ t. fault_of_level top place (level_of t) page) same_type
-    ∙ ap (λ k. fault_of_level top place (level_of (meant_type k (type_in_word word))) page) same_kind
-    ∙ ap (λ m. fault_of_level m place (level_of (meant_type its (type_in_word word))) page) same_high
-    ∙ ap (λ n. fault_of_level high n (level_of (meant_type its (type_in_word word))) page) same_place
+    ∙ ap (λ k. fault_of_level top place (level_of (type_in_guest k (type_in_word word))) page) same_kind
+    ∙ ap (λ m. fault_of_level m place (level_of (type_in_guest its (type_in_word word))) page) same_high
+    ∙ ap (λ n. fault_of_level high n (level_of (type_in_guest its (type_in_word word))) page) same_place
 
 -- words and pages without fault need no padding
 pub whole_list : (kind : Kind) (top len n : ℕ) (bytes : List ℕ) → None ≡ fault_of_list kind top len (words n bytes) → padding_len len ≡ 0
@@ -93,14 +93,14 @@ pub few_bytes : (n m : ℕ) (old new : Option (List ℕ)) → n ≡ m → TakesF
 few_bytes n m old new same few = record { taken = few.taken; few = omega (arith, few.few, same); gone = few.gone }
 
 -- a list that was taken whole is a buffer that was
-pub buffered : {X : Type 0} (items : X → List ℕ) (x : X) (n : ℕ) (old new : Option (List ℕ)) → n ≡ length (items x) → Gives (λ y bytes. bytes ≡ items y) old new (part Truncated n) (Ok x) → Gives (Buffered (items x)) old new (part Truncated (length (items x))) (Ok tt)
+pub buffered : {X : Type 0} (items : X → List ℕ) (x : X) (n : ℕ) (old new : Option (List ℕ)) → n ≡ length (items x) → AgreesWithJudging (λ y bytes. bytes ≡ items y) old new (part Truncated n) (Ok x) → AgreesWithJudging (Buffered (items x)) old new (part Truncated (length (items x))) (Ok tt)
 buffered items x n None new size h = tt
-buffered items x n (Some left) new size h = subst (λ m. Gives (Buffered (items x)) (Some left) new (part Truncated m) (Ok tt)) size h
+buffered items x n (Some left) new size h = subst (λ m. AgreesWithJudging (Buffered (items x)) (Some left) new (part Truncated m) (Ok tt)) size h
 
 -- a list that couldn't be taken is a buffer that couldn't
-pub unbuffered : {X : Type 0} (items : X → List ℕ) (buf : List ℕ) (n : ℕ) (e : Stop Cause) (old new : Option (List ℕ)) → n ≡ length buf → Gives {X = X} (λ y bytes. bytes ≡ items y) old new (part Truncated n) (Err e) → Gives (Buffered buf) old new (part Truncated (length buf)) (Err e)
+pub unbuffered : {X : Type 0} (items : X → List ℕ) (buf : List ℕ) (n : ℕ) (e : Stop Cause) (old new : Option (List ℕ)) → n ≡ length buf → AgreesWithJudging {X = X} (λ y bytes. bytes ≡ items y) old new (part Truncated n) (Err e) → AgreesWithJudging (Buffered buf) old new (part Truncated (length buf)) (Err e)
 unbuffered items buf n e None new size h = tt
-unbuffered items buf n e (Some left) new size h = subst (λ m. Gives (Buffered buf) (Some left) new (part Truncated m) (Err e)) size (any_stop (λ y bytes. bytes ≡ items y) (Buffered buf) (Some left) new (part Truncated n) e h)
+unbuffered items buf n e (Some left) new size h = subst (λ m. AgreesWithJudging (Buffered buf) (Some left) new (part Truncated m) (Err e)) size (any_stop (λ y bytes. bytes ≡ items y) (Buffered buf) (Some left) new (part Truncated n) e h)
 
 -- ---- what is kept
 

@@ -52,7 +52,7 @@ fn top_behind(top: u64, head: RecordHead, taken: u32, piece: &[u8]) -> u64
 
 impl Relay {
     /// Passes on the next piece of the body of an image's record, and judges the body where it is whole.
-    pub(crate) fn body<S: Source, K: Sink>(
+    pub(crate) fn pass_body<S: Source, K: Sink>(
         &mut self,
         src: &mut S,
         sink: &mut K,
@@ -91,7 +91,7 @@ impl Relay {
     }
 
     /// Passes on the padding of an image's record.
-    pub(crate) fn padding<S: Source, K: Sink>(
+    pub(crate) fn pass_padding<S: Source, K: Sink>(
         &mut self,
         src: &mut S,
         sink: &mut K,
@@ -116,7 +116,7 @@ impl Relay {
     }
 
     /// Passes on the next piece of the body of a libxl record, and judges the body where it is whole.
-    pub(crate) fn libxl_body<S: Source, K: Sink>(
+    pub(crate) fn pass_libxl_body<S: Source, K: Sink>(
         &mut self,
         src: &mut S,
         sink: &mut K,
@@ -169,7 +169,7 @@ impl Relay {
     }
 
     /// Passes on the padding of a libxl record.
-    pub(crate) fn libxl_padding<S: Source, K: Sink>(
+    pub(crate) fn pass_libxl_padding<S: Source, K: Sink>(
         &mut self,
         src: &mut S,
         sink: &mut K,

@@ -93,7 +93,7 @@ impl Relay {
     }
 
     /// Passes on the head of an image's record. A record whose body is empty and wrong is refused with its head.
-    pub(crate) fn head<S: Source, K: Sink>(
+    pub(crate) fn pass_head<S: Source, K: Sink>(
         &mut self,
         src: &mut S,
         sink: &mut K,
@@ -167,7 +167,7 @@ impl Relay {
     }
 
     /// Passes on the head of a record of a libxl stream.
-    pub(crate) fn libxl_head<S: Source, K: Sink>(
+    pub(crate) fn pass_libxl_head<S: Source, K: Sink>(
         &mut self,
         src: &mut S,
         sink: &mut K,

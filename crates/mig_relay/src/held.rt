@@ -2,7 +2,7 @@ ghost use Rattle.std.specs.Prelude.{◌≡◌, ◌<◌, [], length, Some, OnOk, 
 ghost use Rattle.std.specs.Io.{WritesAtMost};
 ghost use Rattle.std.specs.Io.KnownBytes.{WriteAppends};
 ghost use Rattle.mig_bytes.specs.Bytes.{Puts};
-ghost use Rattle.mig_bytes.specs.Faults.{HasCause};
+ghost use Rattle.mig_bytes.specs.Faults.{FaultHasCause};
 
 use mig_bytes::{Failed, Sink, WriteFailed, put_all};
 use std::alloc::Global;
@@ -45,7 +45,7 @@ impl Held {
     /// Writes all that waits, and nothing waits then. After `WriteFailed` some first bytes of it are written, but not all.
     pub(crate) fn flush<K: Sink>(&mut self, sink: &mut K) -> Result<(), WriteFailed>
         ensures bytes { Puts self.old.bytes (K.written sink.old) (K.written sink.new) result }
-        ensures cause { HasCause (K.faults sink.old) (K.faults sink.new) result }
+        ensures cause { FaultHasCause (K.faults sink.old) (K.faults sink.new) result }
         ensures none { OnOk result (self.new.bytes ≡ []) }
     {
         put_all(sink, self.bytes.as_slice())?;
@@ -64,7 +64,7 @@ impl Sink for Held {
         ensures bound { WritesAtMost result piece.now }
         ensures some { IfOk result (λ n. 0 < length piece.now → 0 < n) }
         ensures bytes { WriteAppends (Some self.old.bytes) (Some self.new.bytes) result piece.now }
-        ensures cause { HasCause self.old.faults self.new.faults result }
+        ensures cause { FaultHasCause self.old.faults self.new.faults result }
         ensures whole { IfOk result (λ n. n ≡ length piece.now) }
     {
         match self.bytes.extend_from_slice(piece) {

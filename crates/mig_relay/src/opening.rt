@@ -32,7 +32,7 @@ fn start_fault(bytes: &[u8; 8]) -> Option<Cause>
 
 impl Relay {
     /// Passes on the first 8 bytes: the ident of a libxl stream, or an image's marker.
-    pub(crate) fn start<S: Source, K: Sink>(
+    pub(crate) fn pass_start<S: Source, K: Sink>(
         &mut self,
         src: &mut S,
         sink: &mut K,
@@ -63,7 +63,7 @@ impl Relay {
     }
 
     /// Passes on the header behind the ident of a libxl stream.
-    pub(crate) fn libxl_header<S: Source, K: Sink>(
+    pub(crate) fn pass_libxl_header<S: Source, K: Sink>(
         &mut self,
         src: &mut S,
         sink: &mut K,
@@ -89,7 +89,7 @@ impl Relay {
     }
 
     /// Passes on the marker of an image inside a wrapper.
-    pub(crate) fn marker<S: Source, K: Sink>(
+    pub(crate) fn pass_marker<S: Source, K: Sink>(
         &mut self,
         src: &mut S,
         sink: &mut K,
@@ -112,7 +112,7 @@ impl Relay {
     }
 
     /// Passes on the rest of an image header.
-    pub(crate) fn version<S: Source, K: Sink>(
+    pub(crate) fn pass_version<S: Source, K: Sink>(
         &mut self,
         src: &mut S,
         sink: &mut K,
@@ -137,7 +137,7 @@ impl Relay {
     }
 
     /// Passes on a domain header.
-    pub(crate) fn kind<S: Source, K: Sink>(
+    pub(crate) fn pass_kind<S: Source, K: Sink>(
         &mut self,
         src: &mut S,
         sink: &mut K,

@@ -15,7 +15,7 @@ use crate::state::{Coming, Relay, answer};
 use mig_bytes::{Sink, Source, take_long, take_part, u32_le};
 use mig_headers::{Cause, Place};
 use mig_records::{RecordHead, count_fault};
-use mig_restore_form::{list_fault, meant, page_fault, type_in, words_of};
+use mig_restore_form::{list_fault, page_fault, type_in, type_in_guest, words_of};
 
 /// The place of the next word with a page, from this one on, or how many words there are.
 fn next_page(words: &[u64], from: usize) -> usize
@@ -33,7 +33,7 @@ fn next_page(words: &[u64], from: usize) -> usize
 
 impl Relay {
     /// Passes on the count of a PAGE_DATA's words.
-    pub(crate) fn front<S: Source, K: Sink>(
+    pub(crate) fn pass_front<S: Source, K: Sink>(
         &mut self,
         src: &mut S,
         sink: &mut K,
@@ -78,7 +78,7 @@ impl Relay {
     }
 
     /// Passes on the words of a PAGE_DATA, once they and the length that they ask for are judged, and keeps them.
-    pub(crate) fn take_words<S: Source, K: Sink>(
+    pub(crate) fn pass_words<S: Source, K: Sink>(
         &mut self,
         src: &mut S,
         sink: &mut K,
@@ -114,7 +114,7 @@ impl Relay {
     }
 
     /// Passes on the next page; a table of a PV guest is judged before it is written.
-    pub(crate) fn page<S: Source, K: Sink>(
+    pub(crate) fn pass_page<S: Source, K: Sink>(
         &mut self,
         src: &mut S,
         sink: &mut K,
@@ -128,7 +128,7 @@ impl Relay {
         ensures faults { RisesOnFault (S.faults src.old) (S.faults src.new) (K.faults sink.old) (K.faults sink.new) result }
     {
         let place = Place::Record(u64::from(self.seen.records - 1));
-        let kind = meant(self.seen.kind, type_in(self.words[self.page]));
+        let kind = type_in_guest(self.seen.kind, type_in(self.words[self.page]));
         let mut page = [0; 4096];
         if let Err(stop) = take_part(src, &mut page, Cause::Truncated) {
             return Err(answer(stop, place));

@@ -1,6 +1,6 @@
 ghost use Rattle.std.specs.Prelude.{true, false, ◌≡◌, ◌*◌, ◌+◌, ◌-◌, ◌^◌, min, [], List, ℕ, length, is_ok, is_some, Some, if◌then◌else◌, Ok};
 ghost use Rattle.mig_bytes.specs.Bytes.{Puts};
-ghost use Rattle.mig_bytes.specs.Faults.{HasCause};
+ghost use Rattle.mig_bytes.specs.Faults.{FaultHasCause};
 ghost use Rattle.mig_libxl_form.specs.Stream.{StreamOf};
 ghost use Rattle.mig_relay.specs.Streams.{IsPassable};
 ghost use Rattle.mig_relay.specs.Following.{in_hand};
@@ -181,7 +181,7 @@ impl Relay {
     /// Writes a piece, and counts its bytes.
     pub(crate) fn put<K: Sink>(&mut self, sink: &mut K, piece: &[u8]) -> Result<(), WriteFailed>
         ensures bytes { Puts piece.now (K.written sink.old) (K.written sink.new) result }
-        ensures cause { HasCause (K.faults sink.old) (K.faults sink.new) result }
+        ensures cause { FaultHasCause (K.faults sink.old) (K.faults sink.new) result }
         ensures kept { self.new ≡ record self.old { passed = if is_ok result then counted self.old.passed (length piece.now) else self.old.passed } }
     {
         put_all(sink, piece)?;
@@ -203,20 +203,20 @@ impl Relay {
         ensures faults { RisesOnFault (S.faults src.old) (S.faults src.new) (K.faults sink.old) (K.faults sink.new) result }
     {
         match self.coming {
-            Coming::Start => self.start(src, sink),
-            Coming::LibxlHeader => self.libxl_header(src, sink),
-            Coming::LibxlHead => self.libxl_head(src, sink),
-            Coming::LibxlBody(head) => self.libxl_body(src, sink, head),
-            Coming::LibxlPadding(head) => self.libxl_padding(src, sink, head),
-            Coming::Marker => self.marker(src, sink),
-            Coming::Version => self.version(src, sink),
-            Coming::Kind(version) => self.kind(src, sink, version),
-            Coming::Head => self.head(src, sink),
-            Coming::Body(head) => self.body(src, sink, head),
-            Coming::Front(head) => self.front(src, sink, head),
-            Coming::Words(head, count) => self.take_words(src, sink, head, count),
-            Coming::Page(head) => self.page(src, sink, head),
-            Coming::Padding(head) => self.padding(src, sink, head),
+            Coming::Start => self.pass_start(src, sink),
+            Coming::LibxlHeader => self.pass_libxl_header(src, sink),
+            Coming::LibxlHead => self.pass_libxl_head(src, sink),
+            Coming::LibxlBody(head) => self.pass_libxl_body(src, sink, head),
+            Coming::LibxlPadding(head) => self.pass_libxl_padding(src, sink, head),
+            Coming::Marker => self.pass_marker(src, sink),
+            Coming::Version => self.pass_version(src, sink),
+            Coming::Kind(version) => self.pass_kind(src, sink, version),
+            Coming::Head => self.pass_head(src, sink),
+            Coming::Body(head) => self.pass_body(src, sink, head),
+            Coming::Front(head) => self.pass_front(src, sink, head),
+            Coming::Words(head, count) => self.pass_words(src, sink, head, count),
+            Coming::Page(head) => self.pass_page(src, sink, head),
+            Coming::Padding(head) => self.pass_padding(src, sink, head),
             Coming::End => Ok(Step::Done),
             Coming::Over => unreachable!(),
         }

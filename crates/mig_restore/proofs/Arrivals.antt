@@ -1,5 +1,5 @@
 -- The front of a stream that the reader has behind it.
-use Rattle.mig_restore.proofs.Common.{◌≡◌, ℕ, List, [], ◌∷◌, ◌++◌, length, Bool, true, false, nat_eq, Option, None, is_some, Result, Ok, Err, refl, sym, ap, ◌∙◌, length-map, Stop, stop_at, Gives, Passes, Cause, Record, GuestOf, RecordsSeen, put_record, empty_guest, StreamRecord, types_of, is_ended, is_verified, Opening, differs_behind, IsSeen, image_of, records_at, IsReading, Follows}
+use Rattle.mig_restore.proofs.Common.{◌≡◌, ℕ, List, [], ◌∷◌, ◌++◌, length, Bool, true, false, nat_eq, Option, None, is_some, Result, Ok, Err, refl, sym, ap, ◌∙◌, length-map, Stop, stop_at, AgreesWithJudging, Passes, Cause, Record, GuestOf, RecordsSeen, put_record, empty_guest, StreamRecord, types_of, is_ended, is_verified, Opening, differs_behind, IsSeen, image_of, records_at, IsReading, Follows}
 use Rattle.mig_bytes.proofs.Arrivals as fronts
 use Rattle.mig_bytes.proofs.Joins.{any_stop, mapped, stop}
 use Rattle.mig_bytes.proofs.Placed.{placed_fine, placed_stops}
@@ -44,7 +44,7 @@ module _ (o : Opening) where
 
   -- the clause of the reader of a record
   abbrev pub Tells : State → State → Option (List ℕ) → Option (List ℕ) → Result Bool (Stop Cause) → Type 0
-  Tells old new b c r = (records : List StreamRecord) → IsSeen old.seen o (types_of records) → old.guest ≡ sent o.kind records → is_some old.differs ≡ is_verified (types_of records) → Gives (Told old new records) b c (next_at o records) r
+  Tells old new b c r = (records : List StreamRecord) → IsSeen old.seen o (types_of records) → old.guest ≡ sent o.kind records → is_some old.differs ≡ is_verified (types_of records) → AgreesWithJudging (Told old new records) b c (next_at o records) r
 
   -- what is kept behind one more record
   kept : (old new : State) (records : List StreamRecord) (over : Bool) (r : StreamRecord) (i rest : List ℕ) → Keeps o old records → next_at o records i ≡ Passes r rest → Told old new records over r → Keeps o new (records ++ r ∷ [])
@@ -74,7 +74,7 @@ module _ (o : Opening) where
   arrived_next a b c old new over still h told = fronts.arrived_next is_ended (placed_next o) (Keeps o) is_last ended_more a b c old new over still h (tells_on b c old new over told)
 
   pub arrived_end : (a b c : Option (List ℕ)) (old new : State) (reading : Reading) (over : Bool) → over ≡ true → reading.guest ≡ blank new.guest → reading.version ≡ o.version → reading.records ≡ new.seen.records → reading.differs ≡ new.differs
-      → fronts.Arrived is_ended (placed_next o) (Keeps o) a b old → Tells old new b c (Ok over) → Gives IsReading a c (records_at o) (Ok reading)
+      → fronts.Arrived is_ended (placed_next o) (Keeps o) a b old → Tells old new b c (Ok over) → AgreesWithJudging IsReading a c (records_at o) (Ok reading)
   arrived_end a b c old new reading over is_over rg rv rs rd h told =
       mapped (Keeps o) IsReading a c (sequence_at is_ended (placed_next o)) (records_at o) (image_of o) new reading (λ i. refl)
       (fronts.arrived_end is_ended (placed_next o) (Keeps o) is_last ended_more (Follows o) (finds o) a b c old new over is_over h (tells_on b c old new over told))
@@ -85,7 +85,7 @@ module _ (o : Opening) where
         differs = rd ∙ keeps.differs;
       })
 
-  pub arrived_stopped : (a b c : Option (List ℕ)) (old new : State) (e : Stop Cause) (n : ℕ) → n ≡ old.seen.records → fronts.Arrived is_ended (placed_next o) (Keeps o) a b old → Tells old new b c (Err e) → Gives {X = Reading} IsReading a c (records_at o) (Err (stop_at (Record n) e))
+  pub arrived_stopped : (a b c : Option (List ℕ)) (old new : State) (e : Stop Cause) (n : ℕ) → n ≡ old.seen.records → fronts.Arrived is_ended (placed_next o) (Keeps o) a b old → Tells old new b c (Err e) → AgreesWithJudging {X = Reading} IsReading a c (records_at o) (Err (stop_at (Record n) e))
   arrived_stopped a b c old new e n count h told =
       stop (Keeps o) IsReading a c (sequence_at is_ended (placed_next o)) (λ rs. Passes (image_of o rs.0) rs.1) (stop_at (Record n) e)
       (fronts.arrived_stopped is_ended (placed_next o) (Keeps o) is_last ended_more (Follows o) (finds o) a b c old new (stop_at (Record n) e) h

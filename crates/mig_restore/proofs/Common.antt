@@ -5,7 +5,7 @@ pub use Rattle.mig_records.specs.Shapes.{HasBodyLength, fault_of_body, parts_of_
 pub use Rattle.mig_bytes.proofs.Joins.{done, each_ends, each_step, mapped, refused, stopped, then_reads}
 pub use Rattle.mig_bytes.specs.Bytes.{AreBytes, padding_len}
 pub use Rattle.mig_bytes.specs.Fields.{le32}
-pub use Rattle.mig_bytes.specs.Judged.{Gives, Judged, part, placed, stop_at, ◌>>=◌}
+pub use Rattle.mig_bytes.specs.Judged.{AgreesWithJudging, Judged, part, placed, stop_at, ◌>>=◌}
 pub use Rattle.mig_bytes.specs.Judged.Judged.{Passes}
 pub use Rattle.mig_bytes.specs.declared.stop.Stop.{Stop}
 pub use Rattle.mig_headers.specs.declared.fault.Cause.{Cause}
@@ -20,7 +20,7 @@ pub use Rattle.mig_guest.specs.declared.part_code.PartCode.{PartCode}
 pub use Rattle.mig_headers.specs.declared.kind.Kind.{Kind}
 pub use Rattle.mig_headers.specs.declared.record_type.RecordType.{RecordType}
 pub use Rattle.mig_restore_form.specs.Judging.{Opening, before, body_at, code_of_type, entry_at, fault_of_level, fault_of_page, head_at, lists_of, opening_of, type_in_word, with_places}
-pub use Rattle.mig_restore_form.specs.Mean.{Grows, IsBegun, agrees, checked_in, checked_of, differing, empty_guest, entries_in, meant_type, put_content, put_entries, put_entry, put_record}
+pub use Rattle.mig_restore_form.specs.Mean.{GrewByRecord, IsBegun, agrees, checked_in, checked_of, differing, empty_guest, entries_in, type_in_guest, put_content, put_entries, put_entry, put_record}
 pub use Rattle.mig_restore_form.specs.Record.{Content, FrameEntry, StreamRecord, is_ended, is_verified, placed_content, types_of}
 pub use Rattle.mig_restore_form.specs.Record.Content.{Checks, Frames, Lists, Nothing, Sets}
 pub use Rattle.mig_restore_form.specs.Seen.{IsSeen}

@@ -1,5 +1,5 @@
 -- What the reader makes of a record where frames are compared.
-use Rattle.mig_restore.proofs.Common.{◌≡◌, ◌≢◌, ℕ, ◌+◌, List, [], ◌∷◌, ◌++◌, Bool, true, false, cond, not, nat_eq, ◌||◌, Option, Some, None, refl, sym, ap, ◌∙◌, Judged, Gives, Passes, Ok, Kind, GuestOf, FrameEntry, StreamRecord, Content, Nothing, Frames, Sets, Lists, Checks, types_of, is_verified, placed_content, before, put_entries, put_content, put_record, entries_in, checked_in, checked_of, differing, agrees, differs_behind, differs_with, IsPut}
+use Rattle.mig_restore.proofs.Common.{◌≡◌, ◌≢◌, ℕ, ◌+◌, List, [], ◌∷◌, ◌++◌, Bool, true, false, cond, not, nat_eq, ◌||◌, Option, Some, None, refl, sym, ap, ◌∙◌, Judged, AgreesWithJudging, Passes, Ok, Kind, GuestOf, FrameEntry, StreamRecord, Content, Nothing, Frames, Sets, Lists, Checks, types_of, is_verified, placed_content, before, put_entries, put_content, put_record, entries_in, checked_in, checked_of, differing, agrees, differs_behind, differs_with, IsPut}
 use Rattle.mig_guest.specs.Frames.{FrameMap}
 use Rattle.mig_restore_form.specs.Mean.{sent, differs_of}
 use Rattle.mig_restore_form.proofs.Meaning.{one_more_record, sent_kind}
@@ -8,7 +8,7 @@ use Rattle.mig_restore_form.proofs.Compared.{IsSaid, IsPlaced, IsUnchecked, veri
 -- ---- the body that the reader takes
 
 -- what a reader gives is told of in another way, by what was judged too
-pub judged_too : {C V W X : Type 0} (R : V → X → Type 0) (Q : W → X → Type 0) (a b : Option (List ℕ)) (f : List ℕ → Judged C X) (v : V) (w : W) → ((i rest : List ℕ) (x : X) → f i ≡ Passes x rest → R v x → Q w x) → Gives R a b f (Ok v) → Gives Q a b f (Ok w)
+pub judged_too : {C V W X : Type 0} (R : V → X → Type 0) (Q : W → X → Type 0) (a b : Option (List ℕ)) (f : List ℕ → Judged C X) (v : V) (w : W) → ((i rest : List ℕ) (x : X) → f i ≡ Passes x rest → R v x → Q w x) → AgreesWithJudging R a b f (Ok v) → AgreesWithJudging Q a b f (Ok w)
 judged_too R Q None b f v w turn h = tt
 judged_too R Q (Some i) b f v w turn (x, rest, is, left, r) = (x, rest, is, left, turn i rest x is r)
 

@@ -1,5 +1,5 @@
 -- A frame of a guest whose page is taken into its place: what it says of the entry, whatever the answer is.
-use Rattle.mig_restore.proofs.Common.{◌≡◌, ◌<◌, ℕ, List, [], ◌∷◌, Option, Some, None, Result, Ok, Err, true, length, sym, ap, subst, ◌∙◌, Gives, Judged, AreBytes, GuestOf, Stop, Cause, PageType, word_pfn, word_has_data, type_in_word, level_of, meant_type, entry_at, entry, pfn_limit, put_entry, Grows, IsInside, IsWithin, IsGoodWord, same_Some}
+use Rattle.mig_restore.proofs.Common.{◌≡◌, ◌<◌, ℕ, List, [], ◌∷◌, Option, Some, None, Result, Ok, Err, true, length, sym, ap, subst, ◌∙◌, AgreesWithJudging, Judged, AreBytes, GuestOf, Stop, Cause, PageType, word_pfn, word_has_data, type_in_word, level_of, type_in_guest, entry_at, entry, pfn_limit, put_entry, GrewByRecord, IsInside, IsWithin, IsGoodWord, same_Some}
 use Rattle.std.proofs.Common.{◌⊎◌, inl, inr}
 use Rattle.std.specs.Prelude.{OnOk, OnErr}
 use Rattle.mig_bytes.specs.declared.stop.Stop.TheVariants.{Memory}
@@ -14,13 +14,13 @@ use Rattle.mig_restore.proofs.Begun.{one_set}
 use Rattle.mig_restore.proofs.Entries.{with_page, bad_page}
 
 -- want of memory says nothing of what would be given
-out_of_memory : {X Y : Type 0} (R : X → Y → Type 0) (a b : Option (List ℕ)) (f : List ℕ → Rattle.mig_bytes.specs.Judged.Judged Cause Y) (e : Stop Cause) → e ≡ Memory → Gives R a b f (Err e)
+out_of_memory : {X Y : Type 0} (R : X → Y → Type 0) (a b : Option (List ℕ)) (f : List ℕ → Rattle.mig_bytes.specs.Judged.Judged Cause Y) (e : Stop Cause) → e ≡ Memory → AgreesWithJudging R a b f (Err e)
 out_of_memory R None b f e is = tt
-out_of_memory R (Some i) b f e is = subst (λ s. Gives R (Some i) b f (Err s)) (sym is) tt
+out_of_memory R (Some i) b f e is = subst (λ s. AgreesWithJudging R (Some i) b f (Err s)) (sym is) tt
 
-module _ (g h : GuestOf) (place w pfn : ℕ) (in_stream type : PageType) (told : in_stream ≡ type_in_word w) (is : type ≡ meant_type g.kind in_stream) (at : pfn ≡ word_pfn w) where
-  kind_is : type ≡ meant_type g.kind (type_in_word w)
-  kind_is = is ∙ ap (meant_type g.kind) told
+module _ (g h : GuestOf) (place w pfn : ℕ) (in_stream type : PageType) (told : in_stream ≡ type_in_word w) (is : type ≡ type_in_guest g.kind in_stream) (at : pfn ≡ word_pfn w) where
+  kind_is : type ≡ type_in_guest g.kind (type_in_word w)
+  kind_is = is ∙ ap (type_in_guest g.kind) told
 
   abbrev Sets : List ℕ → Type 0
   Sets page = h ≡ record g { frames = framed g.frames pfn type (Some page) }
@@ -39,7 +39,7 @@ module _ (g h : GuestOf) (place w pfn : ℕ) (in_stream type : PageType) (told :
     Stops r = OnErr r (((page : List ℕ) × Reads page r) ⊎ ((r ≡ Err Memory) × (b ≡ a) × (f' ≡ f)))
 
     pub filled_read : (r : Result (Unit {0}) (Stop Cause)) → word_has_data w ≡ true → Fills r → Stops r
-        → Gives {X = Unit {0}} (λ _ e. h ≡ record g { frames = put_entry g.kind g.frames e }) a b (entry_at g.kind g.top (place, w)) r
+        → AgreesWithJudging {X = Unit {0}} (λ _ e. h ≡ record g { frames = put_entry g.kind g.frames e }) a b (entry_at g.kind g.top (place, w)) r
     filled_read (Ok u) some (page, reads, now) stops = with_page _ g.kind g.top place w type kind_is some a b page u u reads.read (entry_put page now)
     filled_read (Err e) some fills (inl (page, reads)) = bad_page _ g.kind g.top place w type kind_is some a b page e reads.read
     filled_read (Err e) some fills (inr (is, left, faults)) = out_of_memory _ a b (entry_at g.kind g.top (place, w)) e (let same : e ≡ Memory = cc in same)
@@ -48,7 +48,7 @@ module _ (g h : GuestOf) (place w pfn : ℕ) (in_stream type : PageType) (told :
     filled_set (Ok u) (page, reads, now) = one_set g h w (Some page) (entry_put page now)
     filled_set (Err e) fills = tt
 
-    pub filled_grown : (r : Result (Unit {0}) (Stop Cause)) → IsGoodWord g.kind g.top w → type_has_data type ≡ true → Fills r → OnOk r (Grows g h)
+    pub filled_grown : (r : Result (Unit {0}) (Stop Cause)) → IsGoodWord g.kind g.top w → type_has_data type ≡ true → Fills r → OnOk r (GrewByRecord g h)
     filled_grown (Ok u) good some (page, reads, now) =
         let inside = word_inside g.kind g.top w good.1 in
         grows_frame g h in_stream type pfn (Some page) is (record {

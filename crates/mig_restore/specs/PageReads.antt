@@ -2,7 +2,7 @@
 use Rattle.std.specs.Prelude.{◌≡◌, ℕ, List, length, Option, None, Result, OnOk}
 use Rattle.mig_bytes.specs.Bytes.{AreBytes}
 use Rattle.mig_bytes.specs.Faults.{RisesOnReadFault}
-use Rattle.mig_bytes.specs.Judged.{Gives, said_at}
+use Rattle.mig_bytes.specs.Judged.{AgreesWithJudging, said_at}
 use Rattle.mig_bytes.specs.declared.stop.Stop.{Stop}
 use Rattle.mig_headers.specs.declared.fault.Cause.{Cause}
 use Rattle.mig_headers.specs.declared.fault.Cause.TheVariants.{Truncated}
@@ -12,7 +12,7 @@ use Rattle.mig_restore_form.specs.Judging.{fault_of_level}
 
 -- a page is taken, whole and without fault, or it is told why not
 pub record ReadsPage (type : PageType) (place top : ℕ) (left left' : Option (List ℕ)) (count count' : ℕ) (page : List ℕ) (result : Result (Unit {0}) (Stop Cause)) : Type 0 where
-  pub read : Gives {X = Unit {0}} (λ _ bytes. bytes ≡ page) left left' (said_at Truncated (fault_of_level top place (level_of type)) (λ bytes. bytes) 4096) result
+  pub read : AgreesWithJudging {X = Unit {0}} (λ _ bytes. bytes ≡ page) left left' (said_at Truncated (fault_of_level top place (level_of type)) (λ bytes. bytes) 4096) result
   pub faults : RisesOnReadFault count count' result
   pub fine : OnOk result (fault_of_level top place (level_of type) page ≡ None)
   pub whole : OnOk result (length page ≡ 4096)

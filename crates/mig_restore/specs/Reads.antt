@@ -1,7 +1,7 @@
 -- What a reader of images answers.
 use Rattle.std.specs.Prelude.{◌≡◌, ℕ, List, length, Option, Result}
 use Rattle.mig_bytes.specs.Answers.{or_stop}
-use Rattle.mig_bytes.specs.Judged.{Gives}
+use Rattle.mig_bytes.specs.Judged.{AgreesWithJudging}
 use Rattle.mig_bytes.specs.declared.answer.Answer.{Answer}
 use Rattle.mig_headers.specs.declared.fault.Cause.{Cause}
 use Rattle.mig_headers.specs.declared.fault.Place.{Place}
@@ -19,8 +19,8 @@ pub record IsReading (reading : Reading) (image : ImageOf) : Type 0 where
 
 -- what a reader of images answered, and what it left in the source, is what judging gives
 abbrev pub ReadsImage : Option (List ℕ) → Option (List ℕ) → Result Reading (Answer Place Cause) → Type 0
-ReadsImage old new result = Gives IsReading old new image_at (or_stop result)
+ReadsImage old new result = AgreesWithJudging IsReading old new image_at (or_stop result)
 
 -- the same where the marker was taken before
 abbrev pub ReadsRest : Option (List ℕ) → Option (List ℕ) → Result Reading (Answer Place Cause) → Type 0
-ReadsRest old new result = Gives IsReading old new image_behind (or_stop result)
+ReadsRest old new result = AgreesWithJudging IsReading old new image_behind (or_stop result)

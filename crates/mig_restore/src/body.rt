@@ -1,7 +1,7 @@
 ghost use Rattle.std.specs.Prelude.{◌≡◌, ◌≤◌, ◌^◌, ◌*◌, IfOk, OnOk, OnErr, [], ◌∷◌, IsErrOf, length, vec_len, true, false, None, Some};
 ghost use Rattle.std.specs.List.{All, AllByRecursion};
 ghost use Rattle.mig_bytes.specs.Faults.{RisesOnReadFault};
-ghost use Rattle.mig_bytes.specs.Judged.{Gives, each, plain_at};
+ghost use Rattle.mig_bytes.specs.Judged.{AgreesWithJudging, each, plain_at};
 ghost use Rattle.mig_headers.specs.declared.fault.Cause.TheVariants.{Truncated};
 ghost use Rattle.mig_bytes.specs.declared.stop.Stop.TheVariants.{Memory};
 ghost use Rattle.mig_headers.specs.RecordTypes.{record_row_of, type_of_number, most_body};
@@ -13,7 +13,7 @@ ghost use Rattle.mig_records.specs.Shapes.{fault_of_body, parts_of_body, set_par
 ghost use Rattle.mig_records.specs.Faults.{fault_of_length};
 ghost use Rattle.mig_headers.specs.declared.kind.Kind.TheVariants.{Pv};
 ghost use Rattle.mig_restore.specs.Begun.{AreEntriesBegun, AreEntriesSet};
-ghost use Rattle.mig_restore_form.specs.Mean.{put_entry, put_entries, put_content, Grows};
+ghost use Rattle.mig_restore_form.specs.Mean.{put_entry, put_entries, put_content, GrewByRecord};
 ghost use Rattle.mig_restore_form.specs.Judging.{sets_at, info_at, p2m_at, words_at, with_places, entry_at, list_at, pages_at, typed_at, body_at};
 ghost use Rattle.mig_restore_form.specs.Record.Content.{Nothing};
 ghost use Rattle.mig_restore_form.specs.Spelled.{IsGoodWord};
@@ -26,7 +26,7 @@ use mig_hvm::{read_context, scan_context};
 use mig_records::{
     RecordHead, body_fault, count_fault, p2m_fault, pv_info_fault, read_body, read_p2m,
 };
-use mig_restore_form::{list_fault, meant, pfn_in, type_in, words_of};
+use mig_restore_form::{list_fault, pfn_in, type_in, type_in_guest, words_of};
 use std::alloc::Global;
 
 // ---- parts
@@ -68,8 +68,8 @@ fn take_sets<S: Source>(
     requires allowed { HasBodyLength code len }
     requires of_kind { (row_of code).of_kind guest.old.kind ≡ true }
     requires no_emulator { is_emulator_code (code_number code) ≡ false }
-    ensures read { Gives (λ _ c. guest.new ≡ put_content guest.old c) (S.left src.old) (S.left src.new) (sets_at code len) result }
-    ensures grown { OnOk result (Grows guest.old guest.new) }
+    ensures read { AgreesWithJudging (λ _ c. guest.new ≡ put_content guest.old c) (S.left src.old) (S.left src.new) (sets_at code len) result }
+    ensures grown { OnOk result (GrewByRecord guest.old guest.new) }
     ensures faults { RisesOnReadFault (S.faults src.old) (S.faults src.new) result }
 {
     let body = take_long(alloc, src, len, Cause::Truncated)?;
@@ -86,7 +86,7 @@ fn take_sets<S: Source>(
 /// Takes the body of an X86_PV_INFO, of which nothing is kept.
 fn take_info<S: Source>(src: &mut S, len: u32) -> Result<(), Stop<Cause>>
     requires { len ≡ 8 }
-    ensures read { Gives (λ _ c. c ≡ Nothing) (S.left src.old) (S.left src.new) (info_at len) result }
+    ensures read { AgreesWithJudging (λ _ c. c ≡ Nothing) (S.left src.old) (S.left src.new) (info_at len) result }
     ensures faults { RisesOnReadFault (S.faults src.old) (S.faults src.new) result }
     ensures takes_no_memory { ¬ IsErrOf result Memory }
 {
@@ -108,8 +108,8 @@ fn take_p2m<S: Source>(
     requires small { len ≤ most_body }
     requires front { 8 ≤ len }
     requires kind { guest.old.kind ≡ Pv }
-    ensures read { Gives (λ _ c. guest.new ≡ put_content guest.old c) (S.left src.old) (S.left src.new) (p2m_at len) result }
-    ensures grown { OnOk result (Grows guest.old guest.new) }
+    ensures read { AgreesWithJudging (λ _ c. guest.new ≡ put_content guest.old c) (S.left src.old) (S.left src.new) (p2m_at len) result }
+    ensures grown { OnOk result (GrewByRecord guest.old guest.new) }
     ensures faults { RisesOnReadFault (S.faults src.old) (S.faults src.new) result }
 {
     let body = take_long(alloc, src, len, Cause::Truncated)?;
@@ -125,7 +125,7 @@ fn take_p2m<S: Source>(
 
 /// Takes the body of an optional record, and keeps nothing of it.
 pub fn skip_body<S: Source>(src: &mut S, len: u32) -> Result<(), Stop<Cause>>
-    ensures read { Gives (λ _ c. c ≡ Nothing) (S.left src.old) (S.left src.new) (plain_at Truncated (λ _. Nothing) len) result }
+    ensures read { AgreesWithJudging (λ _ c. c ≡ Nothing) (S.left src.old) (S.left src.new) (plain_at Truncated (λ _. Nothing) len) result }
     ensures faults { RisesOnReadFault (S.faults src.old) (S.faults src.new) result }
     ensures takes_no_memory { ¬ IsErrOf result Memory }
 {
@@ -141,7 +141,7 @@ pub fn skip_body<S: Source>(src: &mut S, len: u32) -> Result<(), Stop<Cause>>
 /// Takes so many words.
 fn take_words<S: Source>(alloc: Global, src: &mut S, count: u32) -> Result<Vec<u64>, Stop<Cause>>
     requires { 8 * count ≤ most_body }
-    ensures read { Gives (λ v list. list ≡ v.items) (S.left src.old) (S.left src.new) (words_at count) result }
+    ensures read { AgreesWithJudging (λ v list. list ≡ v.items) (S.left src.old) (S.left src.new) (words_at count) result }
     ensures len { IfOk result (λ v. vec_len v ≡ count) }
     ensures faults { RisesOnReadFault (S.faults src.old) (S.faults src.new) result }
 {
@@ -161,16 +161,16 @@ pub fn take_entry<S: Source>(
     guest: &mut Guest,
 ) -> Result<(), Stop<Cause>>
     requires { IsGoodWord guest.old.kind guest.old.top word }
-    ensures read { Gives (λ _ e. guest.new ≡ record guest.old { frames = put_entry guest.old.kind guest.old.frames e })
+    ensures read { AgreesWithJudging (λ _ e. guest.new ≡ record guest.old { frames = put_entry guest.old.kind guest.old.frames e })
         (S.left src.old) (S.left src.new) (entry_at guest.old.kind guest.old.top (place, word)) result }
-    ensures grown { OnOk result (Grows guest.old guest.new) }
+    ensures grown { OnOk result (GrewByRecord guest.old guest.new) }
     ensures top { OnOk result (guest.new.top ≡ guest.old.top) }
     ensures faults { RisesOnReadFault (S.faults src.old) (S.faults src.new) result }
     ensures set { OnOk result (AreEntriesSet guest.old guest.new (word ∷ [])) }
     ensures err { OnErr result (guest.new ≡ guest.old) }
 {
     let in_stream = type_in(word);
-    let kind = meant(guest.kind(), in_stream);
+    let kind = type_in_guest(guest.kind(), in_stream);
     if !in_stream.has_data() {
         return match guest.set_frame(pfn_in(word), kind, None) {
             Ok(()) => Ok(()),
@@ -195,9 +195,9 @@ pub fn take_entries<S: Source>(
 ) -> Result<(), Stop<Cause>>
     requires good { All (IsGoodWord guest.old.kind guest.old.top) list.now }
     requires few { length list.now ≤ 2 ^ 24 }
-    ensures read { Gives (λ _ es. guest.new ≡ record guest.old { frames = put_entries guest.old.kind guest.old.frames es })
+    ensures read { AgreesWithJudging (λ _ es. guest.new ≡ record guest.old { frames = put_entries guest.old.kind guest.old.frames es })
         (S.left src.old) (S.left src.new) (each (entry_at guest.old.kind guest.old.top) (with_places 0 list.now)) result }
-    ensures grown { OnOk result (Grows guest.old guest.new) }
+    ensures grown { OnOk result (GrewByRecord guest.old guest.new) }
     ensures faults { RisesOnReadFault (S.faults src.old) (S.faults src.new) result }
     ensures err { OnErr result (AreEntriesBegun guest.old guest.new list.now) }
 {
@@ -216,7 +216,7 @@ pub fn take_list<S: Source>(
     top: u64,
 ) -> Result<Vec<u64>, Stop<Cause>>
     requires { len ≤ most_body }
-    ensures read { Gives (λ v list. list ≡ v.items) (S.left src.old) (S.left src.new) (list_at kind top len) result }
+    ensures read { AgreesWithJudging (λ v list. list ≡ v.items) (S.left src.old) (S.left src.new) (list_at kind top len) result }
     ensures good { IfOk result (λ v. All (IsGoodWord kind top) v.items) }
     ensures few { IfOk result (λ v. length v.items ≤ 2 ^ 24) }
     ensures faults { RisesOnReadFault (S.faults src.old) (S.faults src.new) result }
@@ -242,8 +242,8 @@ fn take_pages<S: Source>(
     guest: &mut Guest,
 ) -> Result<(), Stop<Cause>>
     requires { len ≤ most_body }
-    ensures read { Gives (λ _ c. guest.new ≡ put_content guest.old c) (S.left src.old) (S.left src.new) (pages_at guest.old.kind guest.old.top len) result }
-    ensures grown { OnOk result (Grows guest.old guest.new) }
+    ensures read { AgreesWithJudging (λ _ c. guest.new ≡ put_content guest.old c) (S.left src.old) (S.left src.new) (pages_at guest.old.kind guest.old.top len) result }
+    ensures grown { OnOk result (GrewByRecord guest.old guest.new) }
     ensures faults { RisesOnReadFault (S.faults src.old) (S.faults src.new) result }
 {
     let list = take_list(alloc, src, len, guest.kind(), guest.top())?;
@@ -263,8 +263,8 @@ fn take_typed<S: Source>(
     requires small { len ≤ most_body }
     requires allowed { (record_row_of this).allows len ≡ true }
     requires of_kind { (record_row_of this).of_kind guest.old.kind ≡ true }
-    ensures read { Gives (λ _ c. guest.new ≡ put_content guest.old c) (S.left src.old) (S.left src.new) (typed_at guest.old.kind guest.old.top (Some this) len) result }
-    ensures grown { OnOk result (Grows guest.old guest.new) }
+    ensures read { AgreesWithJudging (λ _ c. guest.new ≡ put_content guest.old c) (S.left src.old) (S.left src.new) (typed_at guest.old.kind guest.old.top (Some this) len) result }
+    ensures grown { OnOk result (GrewByRecord guest.old guest.new) }
     ensures faults { RisesOnReadFault (S.faults src.old) (S.faults src.new) result }
 {
     match this {
@@ -288,8 +288,8 @@ pub(crate) fn take_body<S: Source>(
     requires small { head.len ≤ most_body }
     requires allowed { fault_of_length head.kind head.len ≡ None }
     requires of_kind { (this : RecordType) → type_of_number head.kind ≡ Some this → (record_row_of this).of_kind guest.old.kind ≡ true }
-    ensures read { Gives (λ _ c. guest.new ≡ put_content guest.old c) (S.left src.old) (S.left src.new) (body_at guest.old.kind guest.old.top head.kind head.len) result }
-    ensures grown { OnOk result (Grows guest.old guest.new) }
+    ensures read { AgreesWithJudging (λ _ c. guest.new ≡ put_content guest.old c) (S.left src.old) (S.left src.new) (body_at guest.old.kind guest.old.top head.kind head.len) result }
+    ensures grown { OnOk result (GrewByRecord guest.old guest.new) }
     ensures faults { RisesOnReadFault (S.faults src.old) (S.faults src.new) result }
 {
     if is_optional(head.kind) {

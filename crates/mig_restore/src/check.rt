@@ -2,13 +2,13 @@ ghost use Rattle.std.specs.Prelude.{◌≡◌, ◌≤◌, ◌<◌, ◌+◌, ◌^
 ghost use Rattle.std.specs.FinMap as maps;
 ghost use Rattle.std.specs.Option.{option_copied};
 ghost use Rattle.mig_bytes.specs.Faults.{RisesOnReadFault};
-ghost use Rattle.mig_bytes.specs.Judged.{Gives, each};
+ghost use Rattle.mig_bytes.specs.Judged.{AgreesWithJudging, each};
 ghost use Rattle.mig_headers.specs.RecordTypes.{record_row_of, type_of_number, most_body};
 ghost use Rattle.mig_headers.specs.declared.record_type.RecordType.{RecordType};
 ghost use Rattle.mig_records.specs.Faults.{fault_of_length};
 ghost use Rattle.mig_restore.specs.Compared.{IsPut, differs_with};
 ghost use Rattle.mig_restore_form.specs.Judging.{with_places, entry_at, pages_at, body_at};
-ghost use Rattle.mig_restore_form.specs.Mean.{some_frame, is_same_page as same_page, is_same_frame as same_frame, agrees, differing, checked_in, Grows};
+ghost use Rattle.mig_restore_form.specs.Mean.{some_frame, is_same_page as same_page, is_same_frame as same_frame, agrees, differing, checked_in, GrewByRecord};
 ghost use Rattle.mig_restore_form.specs.Record.{placed_content};
 
 use crate::body::{take_body, take_list};
@@ -18,7 +18,7 @@ use mig_guest::{Fill, Guest};
 use mig_headers::{Cause, PAGE_DATA, VERIFY};
 use mig_pagetypes::PageType;
 use mig_records::RecordHead;
-use mig_restore_form::{meant, pfn_in, type_in};
+use mig_restore_form::{pfn_in, type_in, type_in_guest};
 use std::alloc::Global;
 
 /// Whether both are no page, or the same one.
@@ -54,11 +54,11 @@ fn check_entry<S: Source>(
     word: u64,
     guest: &Guest,
 ) -> Result<bool, Stop<Cause>>
-    ensures read { Gives (λ same e. same ≡ agrees guest.now.kind guest.now.frames e) (S.left src.old) (S.left src.new) (entry_at guest.now.kind guest.now.top (place, word)) result }
+    ensures read { AgreesWithJudging (λ same e. same ≡ agrees guest.now.kind guest.now.frames e) (S.left src.old) (S.left src.new) (entry_at guest.now.kind guest.now.top (place, word)) result }
     ensures faults { RisesOnReadFault (S.faults src.old) (S.faults src.new) result }
 {
     let in_stream = type_in(word);
-    let kind = meant(guest.kind(), in_stream);
+    let kind = type_in_guest(guest.kind(), in_stream);
     if !in_stream.has_data() {
         return Ok(has_frame(guest, pfn_in(word), kind, None));
     }
@@ -76,7 +76,7 @@ fn check_entry<S: Source>(
 /// guest has.
 fn check_entries<S: Source>(src: &mut S, list: &[u64], guest: &Guest) -> Result<u64, Stop<Cause>>
     requires { length list.now ≤ 2 ^ 24 }
-    ensures read { Gives (λ n es. n ≡ differing guest.now.kind guest.now.frames es)
+    ensures read { AgreesWithJudging (λ n es. n ≡ differing guest.now.kind guest.now.frames es)
         (S.left src.old) (S.left src.new) (each (entry_at guest.now.kind guest.now.top) (with_places 0 list.now)) result }
     ensures few { IfOk result (λ n. n ≤ 2 ^ 24) }
     ensures faults { RisesOnReadFault (S.faults src.old) (S.faults src.new) result }
@@ -99,7 +99,7 @@ fn check_pages<S: Source>(
     guest: &Guest,
 ) -> Result<u64, Stop<Cause>>
     requires { len ≤ most_body }
-    ensures read { Gives (λ n c. n ≡ differing guest.now.kind guest.now.frames (checked_in (placed_content true c))) (S.left src.old) (S.left src.new) (pages_at guest.now.kind guest.now.top len) result }
+    ensures read { AgreesWithJudging (λ n c. n ≡ differing guest.now.kind guest.now.frames (checked_in (placed_content true c))) (S.left src.old) (S.left src.new) (pages_at guest.now.kind guest.now.top len) result }
     ensures few { IfOk result (λ n. n ≤ 2 ^ 24) }
     ensures faults { RisesOnReadFault (S.faults src.old) (S.faults src.new) result }
 {
@@ -119,9 +119,9 @@ pub fn take_placed<S: Source>(
     requires small { head.len ≤ most_body }
     requires allowed { fault_of_length head.kind head.len ≡ None }
     requires of_kind { (this : RecordType) → type_of_number head.kind ≡ Some this → (record_row_of this).of_kind guest.old.kind ≡ true }
-    ensures read { Gives (IsPut verified guest.old guest.new) (S.left src.old) (S.left src.new) (body_at guest.old.kind guest.old.top head.kind head.len) result }
+    ensures read { AgreesWithJudging (IsPut verified guest.old guest.new) (S.left src.old) (S.left src.new) (body_at guest.old.kind guest.old.top head.kind head.len) result }
     ensures few { IfOk result (λ n. n ≤ 2 ^ 24) }
-    ensures grown { OnOk result (Grows guest.old guest.new) }
+    ensures grown { OnOk result (GrewByRecord guest.old guest.new) }
     ensures faults { RisesOnReadFault (S.faults src.old) (S.faults src.new) result }
 {
     if verified && head.kind == PAGE_DATA {

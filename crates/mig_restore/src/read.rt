@@ -1,7 +1,7 @@
 ghost use Rattle.std.specs.Prelude.{◌≡◌, ℕ, ◌≤◌, ◌<◌, ◌+◌, ◌==◌, ◌∷◌, [], ◌++◌, List, ⊤, true, None, Some, is_some, IfOk, OnOk, IsErrOf};
 ghost use Rattle.mig_bytes.specs.Answers.{or_stop};
 ghost use Rattle.mig_bytes.specs.Faults.{RisesOnReadFault};
-ghost use Rattle.mig_bytes.specs.Judged.{Gives};
+ghost use Rattle.mig_bytes.specs.Judged.{AgreesWithJudging};
 ghost use Rattle.mig_bytes.specs.declared.stop.Stop.TheVariants.{Memory};
 ghost use Rattle.mig_headers.specs.RecordTypes.{record_row_of, type_of_number, most_body};
 ghost use Rattle.mig_headers.specs.declared.record_type.RecordType.{RecordType};
@@ -9,7 +9,7 @@ ghost use Rattle.mig_records.specs.Faults.{fault_of_length};
 ghost use Rattle.mig_records.specs.Heads.{head_in};
 ghost use Rattle.mig_pvtables.specs.Faults.{fault_of_guest};
 ghost use Rattle.mig_pvtables.specs.Whole.{IsStreamedBare};
-ghost use Rattle.mig_restore_form.specs.Mean.{sent, put_record, IsBegun, Grows};
+ghost use Rattle.mig_restore_form.specs.Mean.{sent, put_record, IsBegun, GrewByRecord};
 ghost use Rattle.mig_restore.specs.Compared.{differs_behind, IsWithinRecords};
 ghost use Rattle.mig_restore_form.specs.Record.{StreamRecord, types_of, is_verified};
 ghost use Rattle.mig_restore_form.specs.Judging.{Opening, Before, most_records, opening_of, head_at, record_at, next_at};
@@ -43,7 +43,7 @@ pub struct Reading {
 /// Takes the next record's head.
 pub fn read_head<S: Source>(src: &mut S, seen: &mut RecordsSeen) -> Result<RecordHead, Stop<Cause>>
     ensures read { (b : Before) → IsSeen seen.old b.opening b.types →
-        Gives (λ h head. h ≡ head_in head) (S.left src.old) (S.left src.new) (head_at b) result }
+        AgreesWithJudging (λ h head. h ≡ head_in head) (S.left src.old) (S.left src.new) (head_at b) result }
     ensures seen { IfOk result (λ h. (o : Opening) (types : List ℕ) → IsSeen seen.old o types → IsSeen seen.new o (types ++ h.kind ∷ [])) }
     ensures len { IfOk result (λ h. h.len ≤ most_body) }
     ensures allowed { IfOk result (λ h. fault_of_length h.kind h.len ≡ None) }
@@ -71,10 +71,10 @@ fn take_record<S: Source>(
     requires kind { seen.old.kind ≡ guest.old.kind }
     requires few { IsWithinRecords seen.old.records differs.old }
     ensures read { (b : Before) → IsSeen seen.old b.opening b.types → guest.old.kind ≡ b.opening.kind → guest.old.top ≡ b.top → is_some differs.old ≡ is_verified b.types →
-        Gives (λ type r. (guest.new ≡ put_record guest.old r) × (type ≡ r.type) × (differs.new ≡ differs_behind guest.old differs.old r)) (S.left src.old) (S.left src.new) (record_at b) result }
+        AgreesWithJudging (λ type r. (guest.new ≡ put_record guest.old r) × (type ≡ r.type) × (differs.new ≡ differs_behind guest.old differs.old r)) (S.left src.old) (S.left src.new) (record_at b) result }
     ensures few { OnOk result (IsWithinRecords seen.new.records differs.new) }
     ensures seen { IfOk result (λ type. (o : Opening) (types : List ℕ) → IsSeen seen.old o types → IsSeen seen.new o (types ++ type ∷ [])) }
-    ensures grown { OnOk result (Grows guest.old guest.new) }
+    ensures grown { OnOk result (GrewByRecord guest.old guest.new) }
     ensures counted { OnOk result ((seen.new.records ≡ seen.old.records + 1) × (seen.old.records < most_records)) }
     ensures kind { seen.new.kind ≡ seen.old.kind }
     ensures faults { RisesOnReadFault (S.faults src.old) (S.faults src.new) result }
@@ -98,10 +98,10 @@ pub(crate) fn read_next<S: Source>(
     requires begun { IsBegun guest.old }
     requires few { IsWithinRecords seen.old.records differs.old }
     ensures read { (o : Opening) (records : List StreamRecord) → IsSeen seen.old o (types_of records) → guest.old ≡ sent o.kind records → is_some differs.old ≡ is_verified (types_of records) →
-        Gives (λ over r. (guest.new ≡ put_record guest.old r) × IsSeen seen.new o (types_of (records ++ r ∷ [])) × (over ≡ (r.type == 0)) × (differs.new ≡ differs_behind guest.old differs.old r))
+        AgreesWithJudging (λ over r. (guest.new ≡ put_record guest.old r) × IsSeen seen.new o (types_of (records ++ r ∷ [])) × (over ≡ (r.type == 0)) × (differs.new ≡ differs_behind guest.old differs.old r))
         (S.left src.old) (S.left src.new) (next_at o records) result }
     ensures few { OnOk result (IsWithinRecords seen.new.records differs.new) }
-    ensures grown { OnOk result (Grows guest.old guest.new) }
+    ensures grown { OnOk result (GrewByRecord guest.old guest.new) }
     ensures faultless { IfOk result (λ over. over ≡ true → fault_of_guest guest.new ≡ None) }
     ensures counted { OnOk result ((seen.new.records ≡ seen.old.records + 1) × (seen.old.records < most_records)) }
     ensures kind { seen.new.kind ≡ seen.old.kind }
@@ -124,7 +124,7 @@ fn read_records<S: Source>(
     version: u32,
     kind: Kind,
 ) -> Result<Reading, Stop<(Place, Cause)>>
-    ensures read { Gives IsReading (S.left src.old) (S.left src.new) (records_at (opening_of version kind)) result }
+    ensures read { AgreesWithJudging IsReading (S.left src.old) (S.left src.new) (records_at (opening_of version kind)) result }
     ensures streamed { IfOk result (λ reading. IsStreamedBare reading.guest) }
     ensures faults { RisesOnReadFault (S.faults src.old) (S.faults src.new) result }
 {
@@ -153,7 +153,7 @@ fn read_records<S: Source>(
 
 /// Takes the marker.
 fn read_marker<S: Source>(src: &mut S) -> Result<(), Stop<Cause>>
-    ensures read { Gives (λ _ _. ⊤) (S.left src.old) (S.left src.new) marker_at result }
+    ensures read { AgreesWithJudging (λ _ _. ⊤) (S.left src.old) (S.left src.new) marker_at result }
     ensures faults { RisesOnReadFault (S.faults src.old) (S.faults src.new) result }
     ensures takes_no_memory { ¬ IsErrOf result Memory }
 {
@@ -167,7 +167,7 @@ fn read_marker<S: Source>(src: &mut S) -> Result<(), Stop<Cause>>
 
 /// Takes the image header behind its marker: the version.
 fn read_version<S: Source>(src: &mut S) -> Result<u32, Stop<Cause>>
-    ensures read { Gives (λ v version. version ≡ v) (S.left src.old) (S.left src.new) version_at result }
+    ensures read { AgreesWithJudging (λ v version. version ≡ v) (S.left src.old) (S.left src.new) version_at result }
     ensures faults { RisesOnReadFault (S.faults src.old) (S.faults src.new) result }
     ensures takes_no_memory { ¬ IsErrOf result Memory }
 {
@@ -181,7 +181,7 @@ fn read_version<S: Source>(src: &mut S) -> Result<u32, Stop<Cause>>
 
 /// Takes the domain header: the kind of guest.
 fn read_kind<S: Source>(src: &mut S) -> Result<Kind, Stop<Cause>>
-    ensures read { Gives (λ k kind. kind ≡ k) (S.left src.old) (S.left src.new) kind_at result }
+    ensures read { AgreesWithJudging (λ k kind. kind ≡ k) (S.left src.old) (S.left src.new) kind_at result }
     ensures faults { RisesOnReadFault (S.faults src.old) (S.faults src.new) result }
     ensures takes_no_memory { ¬ IsErrOf result Memory }
 {
@@ -195,7 +195,7 @@ fn read_kind<S: Source>(src: &mut S) -> Result<Kind, Stop<Cause>>
 
 /// Takes both headers behind the marker: the version and the kind.
 pub fn read_headers<S: Source>(src: &mut S) -> Result<(u32, Kind), Stop<(Place, Cause)>>
-    ensures read { Gives (λ read opening. opening ≡ opening_of read.0 read.1) (S.left src.old) (S.left src.new) opening_behind result }
+    ensures read { AgreesWithJudging (λ read opening. opening ≡ opening_of read.0 read.1) (S.left src.old) (S.left src.new) opening_behind result }
     ensures faults { RisesOnReadFault (S.faults src.old) (S.faults src.new) result }
     ensures takes_no_memory { ¬ IsErrOf result Memory }
 {
@@ -211,7 +211,7 @@ pub fn read_headers<S: Source>(src: &mut S) -> Result<(u32, Kind), Stop<(Place, 
 
 /// Takes both headers: the version and the kind.
 pub fn read_opening<S: Source>(src: &mut S) -> Result<(u32, Kind), Stop<(Place, Cause)>>
-    ensures read { Gives (λ read opening. opening ≡ opening_of read.0 read.1) (S.left src.old) (S.left src.new) opening_at result }
+    ensures read { AgreesWithJudging (λ read opening. opening ≡ opening_of read.0 read.1) (S.left src.old) (S.left src.new) opening_at result }
     ensures faults { RisesOnReadFault (S.faults src.old) (S.faults src.new) result }
     ensures takes_no_memory { ¬ IsErrOf result Memory }
 {
@@ -223,7 +223,7 @@ pub fn read_opening<S: Source>(src: &mut S) -> Result<(u32, Kind), Stop<(Place, 
 
 /// Takes the headers and the records.
 fn read_parts<S: Source>(alloc: Global, src: &mut S) -> Result<Reading, Stop<(Place, Cause)>>
-    ensures read { Gives IsReading (S.left src.old) (S.left src.new) image_at result }
+    ensures read { AgreesWithJudging IsReading (S.left src.old) (S.left src.new) image_at result }
     ensures streamed { IfOk result (λ reading. IsStreamedBare reading.guest) }
     ensures faults { RisesOnReadFault (S.faults src.old) (S.faults src.new) result }
 {
@@ -233,7 +233,7 @@ fn read_parts<S: Source>(alloc: Global, src: &mut S) -> Result<Reading, Stop<(Pl
 
 /// Takes the headers behind the marker, and the records.
 fn read_rest<S: Source>(alloc: Global, src: &mut S) -> Result<Reading, Stop<(Place, Cause)>>
-    ensures read { Gives IsReading (S.left src.old) (S.left src.new) image_behind result }
+    ensures read { AgreesWithJudging IsReading (S.left src.old) (S.left src.new) image_behind result }
     ensures streamed { IfOk result (λ reading. IsStreamedBare reading.guest) }
     ensures faults { RisesOnReadFault (S.faults src.old) (S.faults src.new) result }
 {

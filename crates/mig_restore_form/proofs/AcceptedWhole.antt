@@ -1,5 +1,5 @@
 -- An accepted guest is whole: each content that is spelled keeps it well formed, and its END asks for the rest.
-use Rattle.mig_restore_form.proofs.Common.{◌≡◌, ℕ, zero, suc, ◌<◌, ◌≤◌, Bool, true, false, List, [], ◌∷◌, ◌++◌, length, Option, Some, is_some, refl, sym, ap, subst, ◌∙◌, arith, eqb-true, none-some, same_Some, All, common_steps, AreBytes, le32, record_row_of, type_number, type_of_number, Kind, Pv, Hvm, RecordType, numbers_are_inverse, pfn_limit, word_has_data, type_has_data, PageType, IsInside, GuestOf, words, IsInOrder, shape_of, bodies_are_spelled, is_shaped, Opening, meant_type, put_entry, put_entries, put_content, IsBegun, Grows, FrameEntry, Content, StreamRecord, types_of, is_verified, is_ended, Sets, Lists, IsPage, IsEntry, AreEntries, HasContent, IsComplete, Follows, Accepted, Spells, All-head, All-tail, X86PvP2mFrames, Notab, bytes_back, blank, optional, ends, pages, sets, info, p2m_frames, static_end, verify, no_part, one_more, most_body}
+use Rattle.mig_restore_form.proofs.Common.{◌≡◌, ℕ, zero, suc, ◌<◌, ◌≤◌, Bool, true, false, List, [], ◌∷◌, ◌++◌, length, Option, Some, is_some, refl, sym, ap, subst, ◌∙◌, arith, eqb-true, none-some, same_Some, All, common_steps, AreBytes, le32, record_row_of, type_number, type_of_number, Kind, Pv, Hvm, RecordType, numbers_are_inverse, pfn_limit, word_has_data, type_has_data, PageType, IsInside, GuestOf, words, IsInOrder, shape_of, bodies_are_spelled, is_shaped, Opening, type_in_guest, put_entry, put_entries, put_content, IsBegun, GrewByRecord, FrameEntry, Content, StreamRecord, types_of, is_verified, is_ended, Sets, Lists, IsPage, IsEntry, AreEntries, HasContent, IsComplete, Follows, Accepted, Spells, All-head, All-tail, X86PvP2mFrames, Notab, bytes_back, blank, optional, ends, pages, sets, info, p2m_frames, static_end, verify, no_part, one_more, most_body}
 use Rattle.mig_guest.specs.Formed.{HasNoEmulators}
 use Rattle.mig_restore_form.specs.Spelled.{IsGoodWord}
 use Rattle.mig_order.specs.Order.IsInOrder.{optional as is_optional, ordered as is_ordered}
@@ -31,7 +31,7 @@ octets (x ∷ xs) h (suc k) = octets xs (All-tail IsByte x xs h) k
 
 -- ---- frames
 
-data_kept : (kind : Kind) (t : PageType) → type_has_data (meant_type kind t) ≡ type_has_data t
+data_kept : (kind : Kind) (t : PageType) → type_has_data (type_in_guest kind t) ≡ type_has_data t
 data_kept Pv t = refl
 data_kept Hvm Notab = refl
 data_kept Hvm _ = refl
@@ -46,10 +46,10 @@ page_bytes : (b : Bool) (bytes : List ℕ) (page : Option (List ℕ)) → IsPage
 page_bytes true bytes page h all l is = subst AreBytes (same_Some bytes l (sym h.1 ∙ is)) all
 page_bytes false bytes page h all l is = absurd (none-some l (sym h.1 ∙ is))
 
-entry_grows : (g : GuestOf) (w : ℕ) (bytes : List ℕ) (e : FrameEntry) → AreBytes bytes → IsGoodWord g.kind g.top w → IsEntry g.kind g.top w bytes e → Grows g (record g { frames = put_entry g.kind g.frames e })
+entry_grows : (g : GuestOf) (w : ℕ) (bytes : List ℕ) (e : FrameEntry) → AreBytes bytes → IsGoodWord g.kind g.top w → IsEntry g.kind g.top w bytes e → GrewByRecord g (record g { frames = put_entry g.kind g.frames e })
 entry_grows g w bytes e all good is =
     let (small, inside) = word_inside g.kind g.top w good.1 in
-    grows_frame g (record g { frames = put_entry g.kind g.frames e }) e.type (meant_type g.kind e.type) e.pfn e.page refl (record {
+    grows_frame g (record g { frames = put_entry g.kind g.frames e }) e.type (type_in_guest g.kind e.type) e.pfn e.page refl (record {
       small = subst (λ n. n < pfn_limit) (sym is.pfn) small;
       inside = subst (IsInside g.kind g.top) (sym is.pfn) inside;
       in_step = page_there (word_has_data w) bytes e.page is.page ∙ carries w ∙ ap type_has_data (sym is.type) ∙ sym (data_kept g.kind e.type);
@@ -59,14 +59,14 @@ entry_grows g w bytes e all good is =
     }) refl
 
 -- the entries of a PAGE_DATA leave a guest on its way
-pub entries_grow : (kind : Kind) (top : ℕ) (ws bytes : List ℕ) (es : List FrameEntry) → AreBytes bytes → All (IsGoodWord kind top) ws → AreEntries kind top ws bytes es → (g : GuestOf) → kind ≡ g.kind → top ≡ g.top → Grows g (record g { frames = put_entries g.kind g.frames es })
-entries_grow kind top [] bytes es all good (_, is) g k t = subst (λ l. Grows g (record g { frames = put_entries g.kind g.frames l })) (sym is) (grows_not g)
+pub entries_grow : (kind : Kind) (top : ℕ) (ws bytes : List ℕ) (es : List FrameEntry) → AreBytes bytes → All (IsGoodWord kind top) ws → AreEntries kind top ws bytes es → (g : GuestOf) → kind ≡ g.kind → top ≡ g.top → GrewByRecord g (record g { frames = put_entries g.kind g.frames es })
+entries_grow kind top [] bytes es all good (_, is) g k t = subst (λ l. GrewByRecord g (record g { frames = put_entries g.kind g.frames l })) (sym is) (grows_not g)
 entries_grow kind top (w ∷ ws) bytes es all good (page, rest, e, others, cut, is, first, more) g k t =
     let h : GuestOf = record g { frames = put_entry g.kind g.frames e } in
     let bytes_of : AreBytes (page ++ rest) = subst AreBytes cut all in
     let word : IsGoodWord g.kind g.top w = subst (λ n. IsGoodWord g.kind n w) t (subst (λ x. IsGoodWord x top w) k (All-head (IsGoodWord kind top) w ws good)) in
     let entry : IsEntry g.kind g.top w page e = subst (λ n. IsEntry g.kind n w page e) t (subst (λ x. IsEntry x top w page e) k first) in
-    subst (λ l. Grows g (record g { frames = put_entries g.kind g.frames l })) (sym is)
+    subst (λ l. GrewByRecord g (record g { frames = put_entries g.kind g.frames l })) (sym is)
     (grows_on g h (record h { frames = put_entries h.kind h.frames others }) (entry_grows g w page e (bytes_front page rest bytes_of) word entry)
     (entries_grow kind top ws rest others (bytes_back page rest bytes_of) (All-tail (IsGoodWord kind top) w ws good) more h k t))
 
@@ -81,7 +81,7 @@ of_this_kind o types this (is_optional above) = absurd (none-some this (sym (no_
 of_this_kind o types this (is_ordered other is supported of_kind keeps) = subst (λ (t : RecordType). (record_row_of t).of_kind o.kind ≡ true) (sym (one_type this other is)) of_kind
 
 content_grows : (g : GuestOf) (kind : Kind) (top type : ℕ) (body : List ℕ) (c : Content) → kind ≡ g.kind → top ≡ g.top → AreBytes body → length body ≤ most_body
-    → ((this : RecordType) → type ≡ type_number this → (record_row_of this).of_kind g.kind ≡ true) → HasContent kind top type body c → Grows g (put_content g c)
+    → ((this : RecordType) → type ≡ type_number this → (record_row_of this).of_kind g.kind ≡ true) → HasContent kind top type body c → GrewByRecord g (put_content g c)
 content_grows g kind top type body c k t bytes short of_kind (optional n b many) = grows_not g
 content_grows g kind top type body c k t bytes short of_kind ends = grows_not g
 content_grows g kind top type body c k t bytes short of_kind static_end = grows_not g
@@ -115,7 +115,7 @@ spelled_begun o bytes records all (one_more front rs r text before f) =
     let all_body = bytes_front f.body f.is.padding (bytes_back f.is.head (f.body ++ f.is.padding) all_text) in
     let said = content_grows g o.kind g.top r.type f.body f.said kind refl all_body f.small
     (λ this is. subst (λ k. (record_row_of this).of_kind k ≡ true) kind (of_this_kind o (types_of rs) this (subst (IsInOrder o.version o.kind (types_of rs)) is f.ordered))) f.says in
-    let grown = subst (λ (c : Content). Grows g (put_content g c)) (sym f.placed) (placed_is (λ c. Grows g (put_content g c)) (is_verified (types_of rs)) f.said (λ es. grows_not g) said) in
+    let grown = subst (λ (c : Content). GrewByRecord g (put_content g c)) (sym f.placed) (placed_is (λ c. GrewByRecord g (put_content g c)) (is_verified (types_of rs)) f.said (λ es. grows_not g) said) in
     subst IsBegun (sym (one_more_record o.kind rs r)) (grown.kept was)
 
 -- the last record ends the image

@@ -1,10 +1,10 @@
 -- The body of a PAGE_DATA record: what judging lets pass is spelled as the format says, and what is spelled so passes.
-use Rattle.mig_restore_form.proofs.Common.{zero, suc, ◌≡◌, ℕ, ◌+◌, ◌*◌, ◌<◌, ◌↔◌, List, [], ◌∷◌, ◌++◌, length, Bool, true, false, cond, nat_eq, not, Option, Some, None, refl, sym, ap, subst, ◌∙◌, arith, append_assoc, length-append, Result, Ok, Err, eqb-true, eqb-false, eq-eqb, ne_eqb, le-ltb, not-false, common_steps, le32, le64, ◌>>=◌, part, tried, Judged, Passes, Faulty, part_whole, both_pass, same_passes, then_passes, tried_none, Truncated, Kind, word_pfn, word_has_data, words, FrameEntry, Content, type_in_word, entries_at, pages_at, IsPage, Pv, Hvm, PageType, meant_type, EachEntry, IsWithin, FrameOf, IsEntry, AreEntries, IsBatch, rows_fine, no_fault, type_of, type_has_data, Cause, Frames, Notab}
+use Rattle.mig_restore_form.proofs.Common.{zero, suc, ◌≡◌, ℕ, ◌+◌, ◌*◌, ◌<◌, ◌↔◌, List, [], ◌∷◌, ◌++◌, length, Bool, true, false, cond, nat_eq, not, Option, Some, None, refl, sym, ap, subst, ◌∙◌, arith, append_assoc, length-append, Result, Ok, Err, eqb-true, eqb-false, eq-eqb, ne_eqb, le-ltb, not-false, common_steps, le32, le64, ◌>>=◌, part, tried, Judged, Passes, Faulty, part_whole, both_pass, same_passes, then_passes, tried_none, Truncated, Kind, word_pfn, word_has_data, words, FrameEntry, Content, type_in_word, entries_at, pages_at, IsPage, Pv, Hvm, PageType, type_in_guest, EachEntry, IsWithin, FrameOf, IsEntry, AreEntries, IsBatch, rows_fine, no_fault, type_of, type_has_data, Cause, Frames, Notab}
 use Rattle.std.proofs.Common.{get_or}
 use Rattle.std.specs.List.{count_by}
 use Rattle.std.specs.Option.{option_or}
 use Rattle.mig_headers.proofs.FirstFaults.{both_none}
-use Rattle.mig_bytes.specs.Judged.{Matches, Gives, each}
+use Rattle.mig_bytes.specs.Judged.{Matches, AgreesWithJudging, each}
 use Rattle.mig_headers.specs.declared.fault.Cause.TheVariants.{BadLength}
 use Rattle.mig_pagetypes.specs.FrameWords.{word_type, some_has_data}
 use Rattle.mig_records.specs.Faults.{fault_of_count, fault_of_words, count_rows}
@@ -39,7 +39,7 @@ place_at place (w ∷ ws) (suc k) lt = place_at (place + 1) ws k (omega (arith, 
 -- ---- the page of a word
 
 -- types without data are no tables
-no_level : (kind : Kind) (t : PageType) → type_has_data t ≡ false → level_of (meant_type kind t) ≡ None
+no_level : (kind : Kind) (t : PageType) → type_has_data t ≡ false → level_of (type_in_guest kind t) ≡ None
 no_level Pv Notab none = cc
 no_level Pv _ none = cc
 no_level Hvm Notab none = cc
@@ -60,28 +60,28 @@ same_page false bytes page is = cc
 
 -- the frame of a word, with these bytes
 abbrev frame_said : Kind → ℕ → List ℕ → FrameOf
-frame_said kind w bytes = record { type = meant_type kind (type_in_word w); page = cond (word_has_data w) (Some bytes) None }
+frame_said kind w bytes = record { type = type_in_guest kind (type_in_word w); page = cond (word_has_data w) (Some bytes) None }
 
 -- the entries of a page without fault
 page_within : (kind : Kind) (top place w : ℕ) (bytes : List ℕ) → fault_of_page kind top (place, w) bytes ≡ None → EachEntry (IsWithin top) (frame_said kind w bytes)
 page_within kind top place w bytes fine level page lev has slot lt =
-    subst (λ b. IsWithin top (entry level b slot)) (same_page (word_has_data w) bytes page has) ((level_within top place (level_of (meant_type kind (type_in_word w))) bytes).0 fine level lev slot lt)
+    subst (λ b. IsWithin top (entry level b slot)) (same_page (word_has_data w) bytes page has) ((level_within top place (level_of (type_in_guest kind (type_in_word w))) bytes).0 fine level lev slot lt)
 
 within_page : (kind : Kind) (top place w : ℕ) (bytes : List ℕ) → EachEntry (IsWithin top) (frame_said kind w bytes) → fault_of_page kind top (place, w) bytes ≡ None
 within_page kind top place w bytes within = by (word_has_data w) refl
   where
     by : (b : Bool) → word_has_data w ≡ b → fault_of_page kind top (place, w) bytes ≡ None
-    by true some = (level_within top place (level_of (meant_type kind (type_in_word w))) bytes).1 (λ level lev. within level bytes lev (ap (λ b. cond b (Some bytes) None) some))
+    by true some = (level_within top place (level_of (type_in_guest kind (type_in_word w))) bytes).1 (λ level lev. within level bytes lev (ap (λ b. cond b (Some bytes) None) some))
     by false none = ap (λ o. fault_of_level top place o bytes) (no_level kind (type_in_word w) (sym (carries w) ∙ none))
 
 -- the entry of the word at this place, judged by the kind and the top of the guest before the loop
 pub entry_here : {X : Type 0} (R : X → FrameEntry → Type 0) (a b : Option (List ℕ)) (r : Result X (Stop Cause)) (kind now : Kind) (top high place : ℕ) (list : List ℕ) → now ≡ kind → high ≡ top → place < length list
-    → Gives R a b (entry_at now high (place, get_or list place 0)) r → Gives R a b (entry_at kind top (get_or (with_places 0 list) place (0, 0))) r
+    → AgreesWithJudging R a b (entry_at now high (place, get_or list place 0)) r → AgreesWithJudging R a b (entry_at kind top (get_or (with_places 0 list) place (0, 0))) r
 entry_here R a b r kind now top high place list k t lt read =
     let same : entry_at now high (place, get_or list place 0) ≡ entry_at kind top (get_or (with_places 0 list) place (0, 0)) =
     ap (λ x. entry_at x high (place, get_or list place 0)) k ∙ ap (λ n. entry_at kind n (place, get_or list place 0)) t
     ∙ ap (λ n. entry_at kind top (n, get_or list place 0)) (let e : place ≡ 0 + place = omega arith in e) ∙ ap (entry_at kind top) (sym (place_at 0 list place lt)) in
-    subst (λ (f : List ℕ → Judged Cause FrameEntry). Gives R a b f r) same read
+    subst (λ (f : List ℕ → Judged Cause FrameEntry). AgreesWithJudging R a b f r) same read
 
 -- a place of the list is one of the words with their places
 pub place_within : (place : ℕ) (list : List ℕ) → place < length list → place < length (with_places 0 list)
@@ -162,33 +162,33 @@ module _ {X V : Type 0} (items : V → List ℕ) (Q : X → List FrameEntry → 
   as_frames e j (Err ReadFault) h = tt
   as_frames e j (Err Memory) h = tt
 
-  frames_given : (d e : Option (List ℕ)) (f : List ℕ → Judged Cause (List FrameEntry)) (r : Result X (Stop Cause)) → Gives Q d e f r → Gives P d e (λ i. f i >>= as_content) r
+  frames_given : (d e : Option (List ℕ)) (f : List ℕ → Judged Cause (List FrameEntry)) (r : Result X (Stop Cause)) → AgreesWithJudging Q d e f r → AgreesWithJudging P d e (λ i. f i >>= as_content) r
   frames_given None e f r h = tt
   frames_given (Some i) e f r h = as_frames e (f i) r h
 
   module _ (kind k : Kind) (top t len : ℕ) (same_kind : k ≡ kind) (same_top : t ≡ top) where
-    here : (a d : Option (List ℕ)) (r : Result V (Stop Cause)) → Gives (λ v ws. ws ≡ items v) a d (list_at k t len) r → Gives (λ v ws. ws ≡ items v) a d (list_at kind top len) r
-    here a d r read = subst (λ x. Gives (λ v ws. ws ≡ items v) a d (list_at x top len) r) same_kind (subst (λ n. Gives (λ v ws. ws ≡ items v) a d (list_at k n len) r) same_top read)
+    here : (a d : Option (List ℕ)) (r : Result V (Stop Cause)) → AgreesWithJudging (λ v ws. ws ≡ items v) a d (list_at k t len) r → AgreesWithJudging (λ v ws. ws ≡ items v) a d (list_at kind top len) r
+    here a d r read = subst (λ x. AgreesWithJudging (λ v ws. ws ≡ items v) a d (list_at x top len) r) same_kind (subst (λ n. AgreesWithJudging (λ v ws. ws ≡ items v) a d (list_at k n len) r) same_top read)
 
     -- the words were taken, and then the pages
-    pub pages_read : (a d e : Option (List ℕ)) (list : V) (r : Result X (Stop Cause)) → Gives (λ v ws. ws ≡ items v) a d (list_at k t len) (Ok list) → Gives Q d e (entries_in_place kind top 0 (items list)) r → Gives P a e (pages_at kind top len) r
+    pub pages_read : (a d e : Option (List ℕ)) (list : V) (r : Result X (Stop Cause)) → AgreesWithJudging (λ v ws. ws ≡ items v) a d (list_at k t len) (Ok list) → AgreesWithJudging Q d e (entries_in_place kind top 0 (items list)) r → AgreesWithJudging P a e (pages_at kind top len) r
     pages_read a d e list r read told =
         then_reads (λ v ws. ws ≡ items v) P a d e (list_at kind top len) (pages_at kind top len) (behind_list kind top) list r (list_stage kind top len) (here a d (Ok list) read)
-        (λ ws same. subst (λ l. Gives P d e (λ i. entries_in_place kind top 0 l i >>= as_content) r) (sym same) (frames_given d e (entries_in_place kind top 0 (items list)) r told))
+        (λ ws same. subst (λ l. AgreesWithJudging P d e (λ i. entries_in_place kind top 0 l i >>= as_content) r) (sym same) (frames_given d e (entries_in_place kind top 0 (items list)) r told))
 
     -- the reader of the words stopped
-    pub pages_stopped : (a d : Option (List ℕ)) (e : Stop Cause) (r : Result X (Stop Cause)) → IsErrAnd r (λ s. s ≡ e) → Gives {X = V} (λ v ws. ws ≡ items v) a d (list_at k t len) (Err e) → Gives P a d (pages_at kind top len) r
+    pub pages_stopped : (a d : Option (List ℕ)) (e : Stop Cause) (r : Result X (Stop Cause)) → IsErrAnd r (λ s. s ≡ e) → AgreesWithJudging {X = V} (λ v ws. ws ≡ items v) a d (list_at k t len) (Err e) → AgreesWithJudging P a d (pages_at kind top len) r
     pages_stopped a d e r is read = stopped (λ v ws. ws ≡ items v) P a d (list_at kind top len) (pages_at kind top len) (behind_list kind top) e r (list_stage kind top len) is (here a d (Err e) read)
 
 -- the words were taken, and there is a fault in them
 module _ {V : Type 0} (items : V → List ℕ) where
   pub list_refused : (a b d : Option (List ℕ)) (kind : Kind) (top len n m : ℕ) (buf : List ℕ) (list : V) (c : Cause) → m ≡ 8
-      → Gives {X = Unit {0}} (λ _ bytes. bytes ≡ buf) a b (part Truncated m) (Ok tt) → n ≡ le32 buf 0 → fault_of_count len n ≡ None
-      → Gives (λ v ws. ws ≡ items v) b d (words_at n) (Ok list) → fault_of_list kind top len (items list) ≡ Some c → Gives {X = V} (λ v ws. ws ≡ items v) a d (list_at kind top len) (Err (Refused c))
+      → AgreesWithJudging {X = Unit {0}} (λ _ bytes. bytes ≡ buf) a b (part Truncated m) (Ok tt) → n ≡ le32 buf 0 → fault_of_count len n ≡ None
+      → AgreesWithJudging (λ v ws. ws ≡ items v) b d (words_at n) (Ok list) → fault_of_list kind top len (items list) ≡ Some c → AgreesWithJudging {X = V} (λ v ws. ws ≡ items v) a d (list_at kind top len) (Err (Refused c))
   list_refused None b d kind top len n m buf list c size front at counted read bad = tt
   list_refused (Some i) b d kind top len n m buf list c size (bytes, rest, is, left, same) at counted read bad =
       let number : le32 bytes 0 ≡ n = ap (λ l. le32 l 0) same ∙ sym at in
-      let (ws, after, is_words, left_words, words_same) = subst (λ o. Gives (λ v l. l ≡ items v) o d (words_at n) (Ok list)) left read in
+      let (ws, after, is_words, left_words, words_same) = subst (λ o. AgreesWithJudging (λ v l. l ≡ items v) o d (words_at n) (Ok list)) left read in
       let judged : list_at kind top len i ≡ Faulty c after =
       ap (λ j. j >>= front_list kind top len) (ap (λ q. part Truncated q i) (sym size) ∙ is)
       ∙ ap (λ q. tried (fault_of_count len q) rest >>= λ _. words_at q rest >>= good_list kind top len) number
@@ -294,7 +294,7 @@ module _ (kind : Kind) (top : ℕ) where
 
   entry_fine : (place w : ℕ) (bytes : List ℕ) (e : FrameEntry) → IsEntry kind top w bytes e → fault_of_page kind top (place, w) bytes ≡ None
   entry_fine place w bytes e is =
-      within_page kind top place w bytes (subst (λ (x : FrameEntry). EachEntry (IsWithin top) (record { type = meant_type kind x.type; page = x.page })) (sym (same_entry w bytes e is)) is.within)
+      within_page kind top place w bytes (subst (λ (x : FrameEntry). EachEntry (IsWithin top) (record { type = type_in_guest kind x.type; page = x.page })) (sym (same_entry w bytes e is)) is.within)
 
   pub entries_go : (place : ℕ) (ws bytes rest : List ℕ) (es : List FrameEntry) → AreEntries kind top ws bytes es → entries_in_place kind top place ws (bytes ++ rest) ≡ Passes es rest
   unfolding each

@@ -60,7 +60,7 @@ pub use Rattle.mig_records.specs.PvBodies.{IsP2m, fault_of_p2m, fault_of_pv_info
 pub use Rattle.mig_records.specs.Shapes.{IsBody, fault_of_body, has_shape, parts_of_body, shape_of}
 pub use Rattle.mig_records.specs.Words.{words}
 pub use Rattle.mig_restore_form.specs.Judging.{Before, Opening, before, body_at, code_of_type, coded_at, entries_at, fault_at_end, fault_of_head, fault_of_number, head_at, lists_of, next_at, opening_of, pages_at, record_at, type_in_word, typed_at, most_records}
-pub use Rattle.mig_restore_form.specs.Mean.{Grows, IsBegun, agrees, checked_in, checked_of, differing, empty_guest, entries_in, entries_of, frame_in, last_bytes, meant_type, parts_say_of_part, policy_says_of_part, put_content, put_entries, put_entry, says_of_part, sent}
+pub use Rattle.mig_restore_form.specs.Mean.{GrewByRecord, IsBegun, agrees, checked_in, checked_of, differing, empty_guest, entries_in, entries_of, frame_in, last_bytes, type_in_guest, parts_say_of_part, policy_says_of_part, put_content, put_entries, put_entry, says_of_part, sent}
 pub use Rattle.mig_restore_form.specs.Record.{Content, FrameEntry, StreamRecord, is_ended, is_verified, placed_content, types_of}
 pub use Rattle.mig_restore_form.specs.Record.Content.{Checks, Frames, Lists, Nothing, Sets}
 pub use Rattle.mig_restore_form.specs.Spelled.{Accepted, AreEntries, Follows, HasContent, IsBatch, IsComplete, IsEntry, IsImage, IsPage}

@@ -1,5 +1,5 @@
 -- What reading keeps of a guest: each frame, part or list of P2M frames that is set leaves it on its way.
-use Rattle.mig_restore_form.proofs.Common.{◌≡◌, ◌≢◌, ℕ, ◌≤◌, ◌<◌, List, [], ◌∷◌, length, Bool, true, false, cond, nat_eq, Option, Some, None, is_some, refl, sym, ap, subst, ◌∙◌, AllByRecursion, same_Some, none-some, ltb-false, arith, ne_eqb, unwrap_or, AreBytes, Kind, Pv, Hvm, pfn_limit, type_has_data, PageType, IsInside, EachEntry, IsWithin, GuestOf, Part, PartMap, p2m_key, part_cmp, record_row_of, type_number, type_of_number, RecordType, numbers_are_inverse, PartCode, code_number, shape_of, has_shape, fault_of_body, parts_of_body, set_p2m, IsP2m, IsBody, bodies_are_spelled, code_of_type, meant_type, Sets, says_of_part, last_bytes, parts_say_of_part, policy_says_of_part, empty_guest, IsBegun, Grows, word_pfn, option_map, option_or, eq_by_cmp, nat_cmp, nat_cmp_total, is_policy, FrameMap, FrameOf, framed, PartKey, tied, part_total, part_exact, End, listed_over, bytes_back, most_body}
+use Rattle.mig_restore_form.proofs.Common.{◌≡◌, ◌≢◌, ℕ, ◌≤◌, ◌<◌, List, [], ◌∷◌, length, Bool, true, false, cond, nat_eq, Option, Some, None, is_some, refl, sym, ap, subst, ◌∙◌, AllByRecursion, same_Some, none-some, ltb-false, arith, ne_eqb, unwrap_or, AreBytes, Kind, Pv, Hvm, pfn_limit, type_has_data, PageType, IsInside, EachEntry, IsWithin, GuestOf, Part, PartMap, p2m_key, part_cmp, record_row_of, type_number, type_of_number, RecordType, numbers_are_inverse, PartCode, code_number, shape_of, has_shape, fault_of_body, parts_of_body, set_p2m, IsP2m, IsBody, bodies_are_spelled, code_of_type, type_in_guest, Sets, says_of_part, last_bytes, parts_say_of_part, policy_says_of_part, empty_guest, IsBegun, GrewByRecord, word_pfn, option_map, option_or, eq_by_cmp, nat_cmp, nat_cmp_total, is_policy, FrameMap, FrameOf, framed, PartKey, tied, part_total, part_exact, End, listed_over, bytes_back, most_body}
 use Rattle.mig_guest.specs.Formed.{AreParts, is_emulator_code, width_of}
 use Rattle.mig_guest.proofs.Kept.{empty_formed, frames_keep}
 use Rattle.mig_guest.specs.PartCodes.{row_of}
@@ -19,14 +19,14 @@ use Rattle.std.specs.FinMap as fin
 
 -- ---- steps
 
-pub grows_not : (g : GuestOf) → Grows g g
+pub grows_not : (g : GuestOf) → GrewByRecord g g
 grows_not g = record { kind = refl; kept = λ begun. begun }
 
-pub grows_on : (g h k : GuestOf) → Grows g h → Grows h k → Grows g k
+pub grows_on : (g h k : GuestOf) → GrewByRecord g h → GrewByRecord h k → GrewByRecord g k
 grows_on g h k a b = record { kind = b.kind ∙ a.kind; kept = λ begun. b.kept (a.kept begun) }
 
-moved : (g h k : GuestOf) → k ≡ h → Grows g h → Grows g k
-moved g h k is grows = subst (Grows g) (sym is) grows
+moved : (g h k : GuestOf) → k ≡ h → GrewByRecord g h → GrewByRecord g k
+moved g h k is grows = subst (GrewByRecord g) (sym is) grows
 
 -- a guest without frames and parts is on its way
 pub empty_begun : (kind : Kind) → IsBegun (empty_guest kind)
@@ -42,7 +42,7 @@ empty_begun kind = record {
 
 -- ---- frames
 
-meant_is : (kind : Kind) (t : PageType) → meant_type kind t ≢ Xtab → is_type_of kind (meant_type kind t) ≡ true
+meant_is : (kind : Kind) (t : PageType) → type_in_guest kind t ≢ Xtab → is_type_of kind (type_in_guest kind t) ≡ true
 meant_is Pv Xtab there = absurd (there refl)
 meant_is Pv _ there = refl
 meant_is Hvm Xtab there = absurd (there refl)
@@ -68,7 +68,7 @@ pub record CanBeSet (g : GuestOf) (pfn : ℕ) (meant : PageType) (page : Option 
   pub all : (bytes : List ℕ) → page ≡ Some bytes → AreBytes bytes
   pub entries : EachEntry (IsWithin g.top) (record { type = meant; page = page })
 
-pub grows_frame : (g h : GuestOf) (t meant : PageType) (pfn : ℕ) (page : Option (List ℕ)) → meant ≡ meant_type g.kind t → CanBeSet g pfn meant page → h ≡ record g { frames = framed g.frames pfn meant page } → Grows g h
+pub grows_frame : (g h : GuestOf) (t meant : PageType) (pfn : ℕ) (page : Option (List ℕ)) → meant ≡ type_in_guest g.kind t → CanBeSet g pfn meant page → h ≡ record g { frames = framed g.frames pfn meant page } → GrewByRecord g h
 grows_frame g h t meant pfn page is can now = moved g (record g { frames = framed g.frames pfn meant page }) h now (record {
   kind = refl;
   kept = λ begun. record {
@@ -149,10 +149,10 @@ list_before g code ps none = by (is_policy (code_number code)) refl (sym (said g
 
 -- a body that sets parts of a code that is no emulator's
 pub grows_sets : (code : PartCode) (g h : GuestOf) (body : List ℕ) → (row_of code).of_kind g.kind ≡ true → is_emulator_code (code_number code) ≡ false → HasBodyLength code (length body) → length body ≤ most_body → AreBytes body
-    → fault_of_body code body ≡ None → AllByRecursion (λ p. IsSmallKey p.0) (parts_of_body code body) → h ≡ record g { parts = set_parts code g.parts (parts_of_body code body) } → Grows g h
+    → fault_of_body code body ≡ None → AllByRecursion (λ p. IsSmallKey p.0) (parts_of_body code body) → h ≡ record g { parts = set_parts code g.parts (parts_of_body code body) } → GrewByRecord g h
 grows_sets code g h body of_kind no_emulator has short all fine small now = by (has_shape (shape_of code)) refl
   where
-    by : (b : Bool) → has_shape (shape_of code) ≡ b → Grows g h
+    by : (b : Bool) → has_shape (shape_of code) ≡ b → GrewByRecord g h
     by true shaped =
         let ps = parts_of_body code body in
         let says : IsBody code body ps = (bodies_are_spelled code body ps shaped).0 (fine, refl) in
@@ -170,7 +170,7 @@ grows_sets code g h body of_kind no_emulator has short all fine small now = by (
 
 -- ---- the list of P2M frames
 
-pub grows_list : (g h : GuestOf) (last : ℕ) (frames body : List ℕ) → g.kind ≡ Pv → AreBytes body → IsP2m last frames body → h ≡ set_p2m last frames g → Grows g h
+pub grows_list : (g h : GuestOf) (last : ℕ) (frames body : List ℕ) → g.kind ≡ Pv → AreBytes body → IsP2m last frames body → h ≡ set_p2m last frames g → GrewByRecord g h
 grows_list g h last frames body pv all is now = moved g (set_p2m last frames g) h now (record {
   kind = refl;
   kept = λ begun. record {

@@ -1,5 +1,5 @@
 -- What one more entry, or one more record, means; and that of each frame number and of each part the last decides.
-use Rattle.mig_restore_form.proofs.Common.{is_ended, types_of, map-append, ◌||◌, ◌≡◌, ℕ, List, [], ◌∷◌, ◌++◌, Bool, true, false, cond, not, nat_eq, Option, Some, None, refl, sym, ap, ◌∙◌, arith, unwrap_or, common_steps, Kind, PageType, GuestOf, part_cmp, Part, PartMap, put_part, put_parts, leb-false, nat_le, ◌≤◌, ◌≢◌, ◌⊎◌, inl, inr, subst, All, p2m_key, set_p2m, word_pfn, type_in_word, FrameEntry, StreamRecord, Content, Nothing, Frames, Sets, Lists, Checks, code_number, meant_type, put_entry, put_entries, put_content, empty_guest, entries_in, entries_of, frame_in, last_bytes, parts_say_of_part, policy_says_of_part, says_of_part, leb-true, All-nil, All-cons, option_or, nat_cmp, eq_by_cmp, nat_cmp_total, PartKey, listed_over, is_policy, FrameMap, FrameOf, framed, tied, part_total, part_exact, blank, list_any-append}
+use Rattle.mig_restore_form.proofs.Common.{is_ended, types_of, map-append, ◌||◌, ◌≡◌, ℕ, List, [], ◌∷◌, ◌++◌, Bool, true, false, cond, not, nat_eq, Option, Some, None, refl, sym, ap, ◌∙◌, arith, unwrap_or, common_steps, Kind, PageType, GuestOf, part_cmp, Part, PartMap, put_part, put_parts, leb-false, nat_le, ◌≤◌, ◌≢◌, ◌⊎◌, inl, inr, subst, All, p2m_key, set_p2m, word_pfn, type_in_word, FrameEntry, StreamRecord, Content, Nothing, Frames, Sets, Lists, Checks, code_number, type_in_guest, put_entry, put_entries, put_content, empty_guest, entries_in, entries_of, frame_in, last_bytes, parts_say_of_part, policy_says_of_part, says_of_part, leb-true, All-nil, All-cons, option_or, nat_cmp, eq_by_cmp, nat_cmp_total, PartKey, listed_over, is_policy, FrameMap, FrameOf, framed, tied, part_total, part_exact, blank, list_any-append}
 use Rattle.std.specs.Prelude.{option_and_then}
 use Rattle.std.specs.List.{fold, Contains, list_any}
 use Rattle.mig_guest.specs.Parts.{replace_code}
@@ -17,7 +17,7 @@ one_more_entry g h k es e before now =
     ∙ ap (λ (f : FrameMap). record g { frames = f }) (sym (fold-append (put_entry g.kind) g.frames es (e ∷ [])))
 
 -- a frame that is set as a word says
-pub entry_set : (g n : GuestOf) (w pfn : ℕ) (meant : PageType) (page : Option (List ℕ)) → pfn ≡ word_pfn w → meant ≡ meant_type g.kind (type_in_word w) → n ≡ record g { frames = framed g.frames pfn meant page }
+pub entry_set : (g n : GuestOf) (w pfn : ℕ) (meant : PageType) (page : Option (List ℕ)) → pfn ≡ word_pfn w → meant ≡ type_in_guest g.kind (type_in_word w) → n ≡ record g { frames = framed g.frames pfn meant page }
     → n ≡ record g { frames = put_entry g.kind g.frames (record { pfn = word_pfn w; type = type_in_word w; page = page }) }
 entry_set g n w pfn meant page at is now =
     now ∙ ap (λ p. record g { frames = framed g.frames p meant page }) at ∙ ap (λ (t : PageType). record g { frames = framed g.frames (word_pfn w) t page }) is
@@ -51,7 +51,7 @@ pub ties : (p q : ℕ) → eq_by_cmp nat_cmp p q ≡ nat_eq q p
 ties p q = grind (arith, common_steps)
 
 pub got : (kind : Kind) (m : FrameMap) (p : ℕ) (e : FrameEntry) → fin.get (put_entry kind m e) p ≡ cond (nat_eq e.pfn p) (frame_in kind e) (fin.get m p)
-got kind m p e = grind (arith, common_steps, ties p e.pfn, fin.get-remove nat_cmp_total m e.pfn p, fin.get-insert nat_cmp_total m e.pfn (record { type = meant_type kind e.type; page = e.page }) p)
+got kind m p e = grind (arith, common_steps, ties p e.pfn, fin.get-remove nat_cmp_total m e.pfn p, fin.get-insert nat_cmp_total m e.pfn (record { type = type_in_guest kind e.type; page = e.page }) p)
 
 abbrev otherwise : Kind → Option FrameEntry → Option FrameOf → Option FrameOf
 otherwise kind None before = before

@@ -25,7 +25,7 @@ use Rattle.mig_records.specs.PvBodies.{fault_of_pv_info, fault_of_p2m}
 use Rattle.mig_records.specs.Shapes.{fault_of_body, parts_of_body}
 use Rattle.mig_pvtables.specs.Faults.{fault_of_guest}
 use Rattle.mig_pvtables.specs.Tables.{fault_of_page_table}
-use Rattle.mig_restore_form.specs.Mean.{sent, meant_type}
+use Rattle.mig_restore_form.specs.Mean.{sent, type_in_guest}
 use Rattle.mig_restore_form.specs.Record.{FrameEntry, StreamRecord, Content, types_of, is_verified, placed_content}
 use Rattle.mig_restore_form.specs.Record.Content.{Nothing, Frames, Sets, Lists}
 
@@ -110,7 +110,7 @@ fault_of_level top place (Some level) page = fault_of_page_table place top level
 
 -- what is wrong with the page of a word at its place: in a PV stream that of a table is judged
 abbrev pub fault_of_page : Kind → ℕ → ℕ × ℕ → List ℕ → Option Cause
-fault_of_page kind top at page = fault_of_level top at.0 (level_of (meant_type kind (type_in_word at.1))) page
+fault_of_page kind top at page = fault_of_level top at.0 (level_of (type_in_guest kind (type_in_word at.1))) page
 
 abbrev pub page_at : Kind → ℕ → ℕ × ℕ → List ℕ → Judged Cause (Option (List ℕ))
 page_at kind top at input = if word_has_data at.1 then (do

@@ -24,13 +24,13 @@ use Rattle.mig_restore_form.specs.Record.{FrameEntry, StreamRecord, Content, typ
 use Rattle.mig_restore_form.specs.Record.Content.{Nothing, Frames, Sets, Lists, Checks}
 
 -- the type that a frame has in a guest of this kind: in an HVM guest every type with data is NOTAB
-abbrev pub meant_type : Kind → PageType → PageType
-meant_type Pv t = t
-meant_type Hvm t = if type_has_data t then Notab else t
+abbrev pub type_in_guest : Kind → PageType → PageType
+type_in_guest Pv t = t
+type_in_guest Hvm t = if type_has_data t then Notab else t
 
 -- an entry sets its frame, or takes it away where its type is XTAB
 abbrev pub put_entry : Kind → FrameMap → FrameEntry → FrameMap
-put_entry kind frames e = framed frames e.pfn (meant_type kind e.type) e.page
+put_entry kind frames e = framed frames e.pfn (type_in_guest kind e.type) e.page
 
 abbrev pub put_entries : Kind → FrameMap → List FrameEntry → FrameMap
 put_entries kind frames es = fold (put_entry kind) frames es
@@ -82,7 +82,7 @@ some_frame Xtab page = None
 some_frame t page = Some (record { type = t; page = page })
 
 abbrev pub frame_in : Kind → FrameEntry → Option FrameOf
-frame_in kind e = some_frame (meant_type kind e.type) e.page
+frame_in kind e = some_frame (type_in_guest kind e.type) e.page
 
 -- ---- frames that are compared
 
@@ -182,6 +182,6 @@ pub record IsBegun (g : GuestOf) : Type 0 where
   pub bytes : IsOfBytes g
 
 -- reading leads from one guest to another: the kind stays, and a guest that is on its way stays so
-pub record Grows (g h : GuestOf) : Type 0 where
+pub record GrewByRecord (g h : GuestOf) : Type 0 where
   pub kind : h.kind ≡ g.kind
   pub kept : IsBegun g → IsBegun h

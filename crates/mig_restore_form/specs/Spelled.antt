@@ -23,7 +23,7 @@ use Rattle.mig_guest.specs.Frames.{IsFew}
 use Rattle.mig_guest.specs.Parts.{Part}
 use Rattle.mig_guest.specs.Tables.{EachEntry, IsWithin}
 use Rattle.mig_restore_form.specs.Judging.{Opening, most_records, type_in_word, code_of_type}
-use Rattle.mig_restore_form.specs.Mean.{sent, mean, meant_type}
+use Rattle.mig_restore_form.specs.Mean.{sent, mean, type_in_guest}
 use Rattle.mig_restore_form.specs.Record.{StreamRecord, FrameEntry, Content, types_of, is_ended, is_verified, placed_content}
 use Rattle.mig_restore_form.specs.Record.Content.{Nothing, Frames, Sets, Lists}
 
@@ -39,7 +39,7 @@ pub record IsEntry (kind : Kind) (top word : ℕ) (bytes : List ℕ) (e : FrameE
   pub pfn : e.pfn ≡ word_pfn word
   pub type : e.type ≡ type_in_word word
   pub page : IsPage (word_has_data word) bytes e.page
-  pub within : EachEntry (IsWithin top) (record { type = meant_type kind e.type; page = e.page })
+  pub within : EachEntry (IsWithin top) (record { type = type_in_guest kind e.type; page = e.page })
 
 -- the entries of these words, in order
 abbrev pub AreEntries : Kind → ℕ → List ℕ → List ℕ → List FrameEntry → Type 0

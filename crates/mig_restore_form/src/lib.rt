@@ -22,4 +22,4 @@ pub use law::{
     last_entry_decides, last_listing_decides, never_both, one_front, only_verify_is_counted,
     page_data_is_sent_or_compared, verify_parts_entries,
 };
-pub use word::{list_fault, meant, page_fault, pfn_in, type_in, words_of};
+pub use word::{list_fault, page_fault, pfn_in, type_in, type_in_guest, words_of};

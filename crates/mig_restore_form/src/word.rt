@@ -3,7 +3,7 @@ ghost use Rattle.std.specs.List.{All};
 ghost use Rattle.mig_records.specs.Words.{words as words_in};
 ghost use Rattle.mig_pagetypes.specs.FrameWords.{word_pfn};
 ghost use Rattle.mig_pagetypes.specs.PageTypes.{level_of};
-ghost use Rattle.mig_restore_form.specs.Mean.{meant_type};
+ghost use Rattle.mig_restore_form.specs.Mean.{type_in_guest};
 ghost use Rattle.mig_restore_form.specs.Judging.{type_in_word, fault_of_level, fault_of_list};
 ghost use Rattle.mig_restore_form.specs.Spelled.{IsGoodWord};
 
@@ -60,8 +60,8 @@ pub fn pfn_in(word: u64) -> u64
 }
 
 /// The type that a frame has in a guest of this kind.
-pub fn meant(kind: Kind, in_stream: PageType) -> PageType
-    ensures { result ≡ meant_type kind in_stream }
+pub fn type_in_guest(kind: Kind, in_stream: PageType) -> PageType
+    ensures { result ≡ type_in_guest kind in_stream }
 {
     match kind {
         Kind::Pv => in_stream,

@@ -196,11 +196,11 @@ is_at _ _ _ (image_end bytes text front shown n before whole zero) =
     at_behind (bytes ++ text) (with_shown front shown) (libxl_number front) front.wrapper (omega (arith, number_more front shown false whole.layer)) (is_at bytes front _ before).0
 
 -- no less is shown of the libxl stream, nor of the image
-abbrev Grows : ShownFront → ShownFront → Type 0
-Grows front more = (libxl_number front ≤ libxl_number more) × (image_parts front ≤ image_parts more)
+abbrev ShowsNoLess : ShownFront → ShownFront → Type 0
+ShowsNoLess front more = (libxl_number front ≤ libxl_number more) × (image_parts front ≤ image_parts more)
 
 -- by a step
-step_grows : (here next : Stand) (text : List ℕ) → Adds here text next → Grows here.0 next.0
+step_grows : (here next : Stand) (text : List ℕ) → Adds here text next → ShowsNoLess here.0 next.0
 step_grows (front, None) next text adds = absurd adds
 step_grows (front, Some LibxlHeader) next text (size, is) = rw is (omega arith, omega arith)
 step_grows (front, Some (LibxlRecord n)) next text (shown, whole, is) = let more = number_more front shown true whole.layer in rw is (omega arith, omega arith)
@@ -209,7 +209,7 @@ step_grows (front, Some DomainHeader) next text (size, is) = rw is (omega arith,
 step_grows (front, Some (Record n)) next text (shown, whole, is) = let more = number_more front shown false whole.layer in rw is (omega arith, omega arith)
 
 -- by all the steps from one place to another
-grows : (here there : Stand) (bytes left : List ℕ) → Leads here bytes there left → Grows here.0 there.0
+grows : (here there : Stand) (bytes left : List ℕ) → Leads here bytes there left → ShowsNoLess here.0 there.0
 grows here _ bytes _ (nowhere _ _) = (omega arith, omega arith)
 grows here there bytes left (onward _ next _ _ text rest _ whole adds leads) =
     let first = step_grows here next text adds in
@@ -217,7 +217,7 @@ grows here there bytes left (onward _ next _ _ text rest _ whole adds leads) =
     (omega arith, omega arith)
 
 -- behind a step from a place no front stands in front of that place again
-passed : (place : Option Place) (front also : ShownFront) (bytes other text : List ℕ) (next : Stand) → place ≢ Some LibxlHeader → Adds (front, place) text next → Grows next.0 also → IsAt bytes front place → IsAt other also place → ⊥
+passed : (place : Option Place) (front also : ShownFront) (bytes other text : List ℕ) (next : Stand) → place ≢ Some LibxlHeader → Adds (front, place) text next → ShowsNoLess next.0 also → IsAt bytes front place → IsAt other also place → ⊥
 passed None front also bytes other text next begun adds grown known again = adds
 passed (Some LibxlHeader) front also bytes other text next begun adds grown known again = begun refl
 passed (Some (LibxlRecord n)) front also bytes other text next begun (shown, whole, is) grown known again =

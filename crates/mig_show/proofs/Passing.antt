@@ -319,11 +319,11 @@ record Grown (here : Spot) (begun piece part : List ℕ) (head : RecordHead) (se
   pub words_are : HasSome NothingDue inner head shown
 
 -- what else was seen stays
-record Grows (here : Spot) (begun piece part : List ℕ) (head : RecordHead) (seen later : SeenState) : Type 0 where
+record ShowsNoLess (here : Spot) (begun piece part : List ℕ) (head : RecordHead) (seen later : SeenState) : Type 0 where
   pub front : later.front ≡ seen.front
   pub grown : Grown here begun piece part head later
 
-grows : (here : Spot) (begun bytes piece : List ℕ) (head : RecordHead) (seen : SeenState) (t : Relay) → in_hand here ≡ Some head → due here ≢ CountDue → FillsBody (due here) piece head → (h : Has here begun bytes seen) → (step : Step) → IsStep here piece t step → Grows here begun piece h.part head seen (with_step seen step (words_in_hand t))
+grows : (here : Spot) (begun bytes piece : List ℕ) (head : RecordHead) (seen : SeenState) (t : Relay) → in_hand here ≡ Some head → due here ≢ CountDue → FillsBody (due here) piece head → (h : Has here begun bytes seen) → (step : Step) → IsStep here piece t step → ShowsNoLess here begun piece h.part head seen (with_step seen step (words_in_hand t))
 grows here begun bytes piece head seen t hand counted full h step e = by (held_step here head piece t step hand e)
   where
     held : HandOf (Some head) (due here) (to_come here) (is_libxl here) (opened here) begun h.part seen.hand
@@ -333,7 +333,7 @@ grows here begun bytes piece head seen t hand counted full h step e = by (held_s
     i = held.2
 
     grown_by : (step : Step) (shown : Seen1) → (with_step seen step (words_in_hand t)).front ≡ seen.front → (with_step seen step (words_in_hand t)).hand ≡ Some shown → shown.kind ≡ held.0.kind → shown.len ≡ held.0.len → shown.wrapped ≡ held.0.wrapped → HasSome NothingDue (i.inner ++ piece) head shown
-        → Grows here begun piece h.part head seen (with_step seen step (words_in_hand t))
+        → ShowsNoLess here begun piece h.part head seen (with_step seen step (words_in_hand t))
     grown_by step shown front is same_kind same_len same_layer told = record {
       front = front;
       grown = record {
@@ -352,10 +352,10 @@ grows here begun bytes piece head seen t hand counted full h step e = by (held_s
       };
     }
 
-    piece_more : due here ≡ NothingDue → Grows here begun piece h.part head seen (with_step seen steps.Piece (words_in_hand t))
+    piece_more : due here ≡ NothingDue → ShowsNoLess here begun piece h.part head seen (with_step seen steps.Piece (words_in_hand t))
     piece_more nothing = grown_by steps.Piece held.0 refl held.1 refl refl refl (more_some i.inner piece head held.0 (subst (λ (d : Due). HasSome d i.inner head held.0) nothing i.words))
 
-    words_more : (n : ℕ) → due here ≡ WordsDue n → words_in_hand t ≡ words n piece → length piece ≡ 8 * n → Grows here begun piece h.part head seen (with_step seen steps.Words (words_in_hand t))
+    words_more : (n : ℕ) → due here ≡ WordsDue n → words_in_hand t ≡ words n piece → length piece ≡ 8 * n → ShowsNoLess here begun piece h.part head seen (with_step seen steps.Words (words_in_hand t))
     words_more n are ws size =
         let d : HasSome (WordsDue n) i.inner head held.0 = subst (λ (d : Due). HasSome d i.inner head held.0) are i.words in
         let number : length (words_in_hand t) ≡ n = ap length ws ∙ words_number n piece in
@@ -377,9 +377,9 @@ grows here begun bytes piece head seen t hand counted full h step e = by (held_s
           λ plain. absurd (apart (sym d.2 ∙ plain)),
         )
 
-    by : ((step ≡ steps.Piece) × (due here ≢ CountDue → due here ≡ NothingDue)) ⊎ ((step ≡ steps.Words) × (n : ℕ) × (due here ≡ WordsDue n) × (words_in_hand t ≡ words n piece) × (length piece ≡ 8 * n)) → Grows here begun piece h.part head seen (with_step seen step (words_in_hand t))
-    by (inl (is, nothing)) = subst (λ (s : Step). Grows here begun piece h.part head seen (with_step seen s (words_in_hand t))) (sym is) (piece_more (nothing counted))
-    by (inr (is, n, are, ws, size)) = subst (λ (s : Step). Grows here begun piece h.part head seen (with_step seen s (words_in_hand t))) (sym is) (words_more n are ws size)
+    by : ((step ≡ steps.Piece) × (due here ≢ CountDue → due here ≡ NothingDue)) ⊎ ((step ≡ steps.Words) × (n : ℕ) × (due here ≡ WordsDue n) × (words_in_hand t ≡ words n piece) × (length piece ≡ 8 * n)) → ShowsNoLess here begun piece h.part head seen (with_step seen step (words_in_hand t))
+    by (inl (is, nothing)) = subst (λ (s : Step). ShowsNoLess here begun piece h.part head seen (with_step seen s (words_in_hand t))) (sym is) (piece_more (nothing counted))
+    by (inr (is, n, are, ws, size)) = subst (λ (s : Step). ShowsNoLess here begun piece h.part head seen (with_step seen s (words_in_hand t))) (sym is) (words_more n are ws size)
 
 more_passed : (here next : Spot) (begun bytes piece front : List ℕ) (head : RecordHead) (seen : SeenState) (t : Relay) → in_hand here ≡ Some head → in_hand next ≡ Some head → head_spot next ≡ head_spot here → due here ≢ CountDue → due next ≡ NothingDue → FillsBody (due here) piece head → length begun + length piece + to_come next ≡ to_come here + length front
     → Has here begun bytes seen → (step : Step) → IsStep here piece t step → Has next front (bytes ++ piece) (with_end (is_some (in_hand next)) (with_step seen step (words_in_hand t)))

@@ -1,7 +1,7 @@
 ghost use Rattle.std.specs.Prelude.{◌≡◌, ◌<◌, length, None, IfOk};
 ghost use Rattle.std.specs.Io.{WritesAtMost};
 ghost use Rattle.std.specs.Io.KnownBytes.{WriteAppends};
-ghost use Rattle.mig_bytes.specs.Faults.{HasCause};
+ghost use Rattle.mig_bytes.specs.Faults.{FaultHasCause};
 
 use mig_bytes::{Failed, Sink};
 
@@ -19,7 +19,7 @@ impl Sink for Nowhere {
         ensures bound { WritesAtMost result piece.now }
         ensures some { IfOk result (λ n. 0 < length piece.now → 0 < n) }
         ensures bytes { WriteAppends None None result piece.now }
-        ensures cause { HasCause 0 0 result }
+        ensures cause { FaultHasCause 0 0 result }
         ensures whole { IfOk result (λ n. n ≡ length piece.now) }
     {
         Ok(piece.len())

@@ -1,6 +1,6 @@
 ghost use Rattle.std.specs.Prelude.{refl, ◌≡◌, [], ◌∷◌, ◌++◌, ℕ, ◌≤◌, OnOk, OnErr};
 ghost use Rattle.std.proofs.Common.{◌∙◌};
-ghost use Rattle.mig_bytes.specs.Faults.{HasCause};
+ghost use Rattle.mig_bytes.specs.Faults.{FaultHasCause};
 ghost use Rattle.mig_guest.specs.Hosts.{IsValid, most_saved_width};
 ghost use Rattle.mig_guest.specs.Pfns.{pfns_of_words, no_pfns};
 ghost use Rattle.mig_test_machine.specs.Standing.{asked, standing};
@@ -58,7 +58,7 @@ impl StandingMachine {
         ensures valid { IsValid self.new.host.host }
         ensures ok { OnOk result (self.new.calls.items ≡ self.old.calls.items ++ call ∷ []) }
         ensures err { OnErr result (self.new.calls.items ≡ self.old.calls.items) }
-        ensures cause { HasCause self.old.faults self.new.faults result }
+        ensures cause { FaultHasCause self.old.faults self.new.faults result }
     {
         let _width = self.host.width();
         match self.calls.push(call) {

@@ -11,7 +11,7 @@ use Rattle.mig_headers.specs.declared.legacy_fault.LegacyPlace.{LegacyPlace}
 use Rattle.mig_host.proofs.HostedGuests.{whole_valid, whole_sound, whole_seen}
 use Rattle.mig_host.specs.Hosted.{hosted, IsBaseOutside}
 use Rattle.mig_image.proofs.ImageReads.{held, image_reads}
-use Rattle.mig_image.specs.declared.version.ImageVersion.TheVariants.{Two}
+use Rattle.mig_image.specs.declared.version.GuestImageVersion.TheVariants.{Two}
 use Rattle.mig_legacy.proofs.Laws.{accepted_is_legacy}
 use Rattle.mig_legacy.specs.Legacy.{LegacyStream, mean_legacy}
 use Rattle.mig_legacy.specs.Stream.{ReadsLegacy, legacy_at}

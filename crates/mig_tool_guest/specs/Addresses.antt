@@ -11,7 +11,7 @@ use Rattle.mig_guest.specs.Guests.{GuestOf}
 use Rattle.mig_guest.specs.Hosts.{HostOf, most_width}
 use Rattle.mig_host_view.specs.Sound.{IsSound, unsoundness}
 use Rattle.mig_host_view.specs.View.{view}
-use Rattle.mig_image.specs.ImageForm.{host_at}
+use Rattle.mig_image.specs.GuestImageForm.{host_at}
 use Rattle.mig_libxl_form.specs.Spelled.{AcceptedStream}
 use Rattle.mig_tool_report.specs.Report.{walked_line}
 use Rattle.mig_tool_report.specs.declared.outcome.WalkEnd.{WalkEnd}

@@ -7,9 +7,9 @@ use Rattle.mig_bytes.specs.Judged.Judged.{Passes}
 use Rattle.mig_guest.specs.Guests.{GuestOf}
 use Rattle.mig_guest.specs.Hosts.{IsValid}
 use Rattle.mig_host.specs.Hosted.{hosted}
-use Rattle.mig_image.specs.declared.version.ImageVersion.TheVariants.{Two}
-use Rattle.mig_image.specs.Image.{image}
-use Rattle.mig_image.specs.ImageForm.{host_at}
+use Rattle.mig_image.specs.declared.version.GuestImageVersion.TheVariants.{Two}
+use Rattle.mig_image.specs.GuestImage.{guest_image}
+use Rattle.mig_image.specs.GuestImageForm.{host_at}
 use Rattle.mig_host_view.specs.Sound.{IsSound}
 use Rattle.mig_host_view.specs.View.{view}
 use Rattle.mig_libxl_form.specs.Carried.{IsCarried}
@@ -37,7 +37,7 @@ pub record Normalised (Accepts : Accepting) (input : List ℕ) (left old new : O
 
 -- the image of the guest, of version 2, restored with machine frames from the base on
 abbrev pub restored_text : ℕ → GuestOf → List ℕ
-restored_text base guest = image Two (hosted guest base)
+restored_text base guest = guest_image Two (hosted guest base)
 
 -- a front of the input is an accepted stream, the rest is left, and the image of its guest was written: that of a valid and
 -- sound host that is seen as the guest, as which it is read again where hosts of its width are

@@ -1,6 +1,6 @@
 ghost use Rattle.std.specs.Prelude.{◌≡◌, ◌≤◌, ◌++◌, codes, decimal};
 ghost use Rattle.mig_bytes.specs.Bytes.{Puts};
-ghost use Rattle.mig_bytes.specs.Faults.{HasCause};
+ghost use Rattle.mig_bytes.specs.Faults.{FaultHasCause};
 ghost use Rattle.mig_tool_report.specs.Outcome.{status_of, line_of};
 ghost use Rattle.mig_tool_report.specs.Report.{Reports, refusal_line, refusal_place, refusal_cause, text_of_walk_end, kind_name, differs_text, ok_line, saved_line, exercised_line, walked_line, relayed_line};
 ghost use Rattle.mig_tool_report.specs.declared.outcome.Outcome.TheVariants as outcomes;
@@ -129,7 +129,7 @@ fn status(outcome: Outcome) -> Status
 /// Puts a text and a number behind it.
 fn put_field<R: Sink>(report: &mut R, text: &[u8], number: u64) -> Result<(), WriteFailed>
     ensures bytes { Puts (text.now ++ decimal number) (R.written report.old) (R.written report.new) result }
-    ensures cause { HasCause (R.faults report.old) (R.faults report.new) result }
+    ensures cause { FaultHasCause (R.faults report.old) (R.faults report.new) result }
 {
     put_all(report, text)?;
     put_number(report, number)
@@ -138,7 +138,7 @@ fn put_field<R: Sink>(report: &mut R, text: &[u8], number: u64) -> Result<(), Wr
 /// Puts why an address means no frame.
 fn put_walk_end<R: Sink>(report: &mut R, end: WalkEnd) -> Result<(), WriteFailed>
     ensures bytes { Puts (text_of_walk_end end) (R.written report.old) (R.written report.new) result }
-    ensures cause { HasCause (R.faults report.old) (R.faults report.new) result }
+    ensures cause { FaultHasCause (R.faults report.old) (R.faults report.new) result }
 {
     match end {
         WalkEnd::NoVcpu(id) => put_field(report, b"1 NoVcpu ", id),
@@ -151,7 +151,7 @@ fn put_walk_end<R: Sink>(report: &mut R, end: WalkEnd) -> Result<(), WriteFailed
 /// Puts the place of a refusal.
 fn put_refusal_place<R: Sink>(report: &mut R, refusal: Refusal) -> Result<(), WriteFailed>
     ensures bytes { Puts (refusal_place refusal) (R.written report.old) (R.written report.new) result }
-    ensures cause { HasCause (R.faults report.old) (R.faults report.new) result }
+    ensures cause { FaultHasCause (R.faults report.old) (R.faults report.new) result }
 {
     match refusal {
         Refusal::Stream(place, _) => put_place(report, place),
@@ -168,7 +168,7 @@ fn put_refusal_place<R: Sink>(report: &mut R, refusal: Refusal) -> Result<(), Wr
 /// Puts the cause of a refusal.
 fn put_refusal_cause<R: Sink>(report: &mut R, refusal: Refusal) -> Result<(), WriteFailed>
     ensures bytes { Puts (refusal_cause refusal) (R.written report.old) (R.written report.new) result }
-    ensures cause { HasCause (R.faults report.old) (R.faults report.new) result }
+    ensures cause { FaultHasCause (R.faults report.old) (R.faults report.new) result }
 {
     match refusal {
         Refusal::Stream(_, cause) => put_cause(report, cause),
@@ -184,7 +184,7 @@ fn put_refusal_cause<R: Sink>(report: &mut R, refusal: Refusal) -> Result<(), Wr
 /// Puts the line of a refusal on the report.
 fn put_refusal<R: Sink>(report: &mut R, refusal: Refusal) -> Result<(), WriteFailed>
     ensures bytes { Puts (refusal_line refusal) (R.written report.old) (R.written report.new) result }
-    ensures cause { HasCause (R.faults report.old) (R.faults report.new) result }
+    ensures cause { FaultHasCause (R.faults report.old) (R.faults report.new) result }
 {
     put_all(report, b"refused: ")?;
     put_refusal_place(report, refusal)?;
@@ -196,7 +196,7 @@ fn put_refusal<R: Sink>(report: &mut R, refusal: Refusal) -> Result<(), WriteFai
 /// Puts the line of an outcome on the report. It takes no memory.
 pub fn put_line<R: Sink>(report: &mut R, outcome: Outcome) -> Result<(), WriteFailed>
     ensures bytes { Puts (line_of outcome) (R.written report.old) (R.written report.new) result }
-    ensures cause { HasCause (R.faults report.old) (R.faults report.new) result }
+    ensures cause { FaultHasCause (R.faults report.old) (R.faults report.new) result }
 {
     match outcome {
         Outcome::Done => put_all(report, b""),
@@ -225,7 +225,7 @@ pub fn finish<R: Sink>(report: &mut R, outcome: Outcome) -> Status
 /// Puts the name of a kind of guest.
 fn put_kind<R: Sink>(report: &mut R, kind: Kind) -> Result<(), WriteFailed>
     ensures bytes { Puts (kind_name kind) (R.written report.old) (R.written report.new) result }
-    ensures cause { HasCause (R.faults report.old) (R.faults report.new) result }
+    ensures cause { FaultHasCause (R.faults report.old) (R.faults report.new) result }
 {
     match kind {
         Kind::Pv => put_all(report, b"pv"),
@@ -236,7 +236,7 @@ fn put_kind<R: Sink>(report: &mut R, kind: Kind) -> Result<(), WriteFailed>
 /// Puts how many entries behind a VERIFY differ, where there is one.
 fn put_differs<R: Sink>(report: &mut R, differs: Option<u64>) -> Result<(), WriteFailed>
     ensures bytes { Puts (differs_text differs) (R.written report.old) (R.written report.new) result }
-    ensures cause { HasCause (R.faults report.old) (R.faults report.new) result }
+    ensures cause { FaultHasCause (R.faults report.old) (R.faults report.new) result }
 {
     match differs {
         Some(count) => put_field(report, b" differs ", count),
@@ -247,7 +247,7 @@ fn put_differs<R: Sink>(report: &mut R, differs: Option<u64>) -> Result<(), Writ
 /// Puts what an accepted stream is on the report.
 pub fn put_ok<R: Sink>(report: &mut R, summary: Summary) -> Result<(), WriteFailed>
     ensures bytes { Puts (ok_line summary) (R.written report.old) (R.written report.new) result }
-    ensures cause { HasCause (R.faults report.old) (R.faults report.new) result }
+    ensures cause { FaultHasCause (R.faults report.old) (R.faults report.new) result }
 {
     put_field(report, b"ok version ", summary.version)?;
     put_all(report, b" kind ")?;
@@ -267,7 +267,7 @@ fn put_two_fields<R: Sink>(
     two: u64,
 ) -> Result<(), WriteFailed>
     ensures bytes { Puts ((first.now ++ decimal one) ++ ((second.now ++ decimal two) ++ codes "\n")) (R.written report.old) (R.written report.new) result }
-    ensures cause { HasCause (R.faults report.old) (R.faults report.new) result }
+    ensures cause { FaultHasCause (R.faults report.old) (R.faults report.new) result }
 {
     put_field(report, first, one)?;
     put_field(report, second, two)?;
@@ -277,7 +277,7 @@ fn put_two_fields<R: Sink>(
 /// Puts how a host was saved on the report.
 pub fn put_saved<R: Sink>(report: &mut R, summary: SaveSummary) -> Result<(), WriteFailed>
     ensures bytes { Puts (saved_line summary) (R.written report.old) (R.written report.new) result }
-    ensures cause { HasCause (R.faults report.old) (R.faults report.new) result }
+    ensures cause { FaultHasCause (R.faults report.old) (R.faults report.new) result }
 {
     put_two_fields(
         report,
@@ -291,7 +291,7 @@ pub fn put_saved<R: Sink>(report: &mut R, summary: SaveSummary) -> Result<(), Wr
 /// Puts how the host of `exercise` was saved on the report.
 pub fn put_exercised<R: Sink>(report: &mut R, summary: ExerciseSummary) -> Result<(), WriteFailed>
     ensures bytes { Puts (exercised_line summary) (R.written report.old) (R.written report.new) result }
-    ensures cause { HasCause (R.faults report.old) (R.faults report.new) result }
+    ensures cause { FaultHasCause (R.faults report.old) (R.faults report.new) result }
 {
     put_field(report, b"ok frames ", summary.frames)?;
     put_field(report, b" rounds ", summary.rounds)?;
@@ -303,7 +303,7 @@ pub fn put_exercised<R: Sink>(report: &mut R, summary: ExerciseSummary) -> Resul
 /// Puts which frame an address means on the report.
 pub fn put_walked<R: Sink>(report: &mut R, summary: WalkSummary) -> Result<(), WriteFailed>
     ensures bytes { Puts (walked_line summary) (R.written report.old) (R.written report.new) result }
-    ensures cause { HasCause (R.faults report.old) (R.faults report.new) result }
+    ensures cause { FaultHasCause (R.faults report.old) (R.faults report.new) result }
 {
     put_two_fields(report, b"ok frame ", summary.frame, b" type ", summary.kind)
 }
@@ -311,7 +311,7 @@ pub fn put_walked<R: Sink>(report: &mut R, summary: WalkSummary) -> Result<(), W
 /// Puts how many records and bytes of a stream were passed on on the report.
 pub fn put_relayed<R: Sink>(report: &mut R, summary: RelaySummary) -> Result<(), WriteFailed>
     ensures bytes { Puts (relayed_line summary) (R.written report.old) (R.written report.new) result }
-    ensures cause { HasCause (R.faults report.old) (R.faults report.new) result }
+    ensures cause { FaultHasCause (R.faults report.old) (R.faults report.new) result }
 {
     put_two_fields(
         report,

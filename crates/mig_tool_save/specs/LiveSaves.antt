@@ -13,7 +13,7 @@ use Rattle.mig_canon.specs.Canon.{headers}
 use Rattle.mig_records_pages.specs.Told.{FrameTold, telling_record, all_told}
 use Rattle.mig_host_view.specs.Sound.{unsoundness}
 use Rattle.mig_host_view.specs.View.{view}
-use Rattle.mig_image.specs.ImageForm.{host_at}
+use Rattle.mig_image.specs.GuestImageForm.{host_at}
 use Rattle.mig_canon.specs.CanonStream.{wrapper_opening, wrapper_closing}
 use Rattle.mig_libxl_form.specs.Spelled.{AcceptedStream}
 use Rattle.mig_dirtysave_rounds.specs.Entries.{pfns_sent}

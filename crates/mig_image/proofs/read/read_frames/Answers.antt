@@ -1,4 +1,4 @@
-use Rattle.mig_image.proofs.Common.{◌≡◌, ◌∙◌, ◌+◌, ap, subst, rules, refl, Ok, Gives, takes_none, takes_more, told, one_more, one_stops, Frame, HostOf, judged_as, host_frame_form, steps_at, steps_read}
+use Rattle.mig_image.proofs.Common.{◌≡◌, ◌∙◌, ◌+◌, ap, subst, rules, refl, Ok, AgreesWithJudging, takes_none, takes_more, told, one_more, one_stops, Frame, HostOf, judged_as, host_frame_form, steps_at, steps_read}
 use Rattle.mig_bytes.proofs.Placed.{known}
 use Rattle.mig_bytes.proofs.Steps.{begins}
 use Rattle.mig_image.proofs.Frames.{ends_at_none}
@@ -36,4 +36,4 @@ returns-clause-read g c =
     let all : c.loop-i.i ≡ c.args.count = search rules in
     let frames = steps_at Frame (host_frame_form c.args.version) in
     steps_read _ Frame (host_frame_form c.args.version) _ _ c.args.count c.args.host.now.host _
-    (told _ _ (frames c.args.count c.args.host.now.host) c.loop-i.host.host tt (subst (λ n. Gives {X = HostOf} (λ v h. v ≡ h) (g.S.Source.left c.args.src.now) (g.S.Source.left c.loop-i.src) (frames n c.args.host.now.host) (Ok c.loop-i.host.host)) all c.loop-i.invariant.read))
+    (told _ _ (frames c.args.count c.args.host.now.host) c.loop-i.host.host tt (subst (λ n. AgreesWithJudging {X = HostOf} (λ v h. v ≡ h) (g.S.Source.left c.args.src.now) (g.S.Source.left c.loop-i.src) (frames n c.args.host.now.host) (Ok c.loop-i.host.host)) all c.loop-i.invariant.read))

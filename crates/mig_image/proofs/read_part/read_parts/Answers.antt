@@ -1,4 +1,4 @@
-use Rattle.mig_image.proofs.Common.{◌≡◌, ◌∙◌, subst, rules, refl, Ok, Gives, takes_none, takes_more, told, one_more, one_stops, Part, HostOf, judged_as, host_part_form, steps_at, steps_read}
+use Rattle.mig_image.proofs.Common.{◌≡◌, ◌∙◌, subst, rules, refl, Ok, AgreesWithJudging, takes_none, takes_more, told, one_more, one_stops, Part, HostOf, judged_as, host_part_form, steps_at, steps_read}
 use Rattle.mig_bytes.proofs.Steps.{begins}
 use Rattle.mig_image.proofs.Parts.{counts_none}
 use Rattle.mig_image.proofs.read_part.read_parts.Goals as goal
@@ -31,4 +31,4 @@ returns-clause-read g c =
     let all : c.loop-i.i ≡ c.args.count = search rules in
     let parts = steps_at Part host_part_form in
     steps_read _ Part host_part_form _ _ c.args.count c.args.host.now.host _
-    (told _ _ (parts c.args.count c.args.host.now.host) c.loop-i.host.host tt (subst (λ n. Gives {X = HostOf} (λ v h. v ≡ h) (g.S.Source.left c.args.src.now) (g.S.Source.left c.loop-i.src) (parts n c.args.host.now.host) (Ok c.loop-i.host.host)) all c.loop-i.invariant.read))
+    (told _ _ (parts c.args.count c.args.host.now.host) c.loop-i.host.host tt (subst (λ n. AgreesWithJudging {X = HostOf} (λ v h. v ≡ h) (g.S.Source.left c.args.src.now) (g.S.Source.left c.loop-i.src) (parts n c.args.host.now.host) (Ok c.loop-i.host.host)) all c.loop-i.invariant.read))

@@ -1,4 +1,4 @@
-use Rattle.mig_legacy.proofs.Common.{arith, refl, rules, subst, sym, Err, Gives, IsLegacySeen, placed_chunk, chunks_at, is_legacy_ended, ChunksSeen}
+use Rattle.mig_legacy.proofs.Common.{arith, refl, rules, subst, sym, Err, AgreesWithJudging, IsLegacySeen, placed_chunk, chunks_at, is_legacy_ended, ChunksSeen}
 use Rattle.mig_bytes.proofs.Arrivals.{arrived_first}
 use Rattle.mig_legacy.proofs.Arrivals.{arrived_next, arrived_end, arrived_stopped}
 use Rattle.mig_legacy.proofs.read.take_chunks.Goals as goal
@@ -24,5 +24,5 @@ returns-in-Ok-true-clause-read g c = arrived_end _ _ _ c.chunks.seen c.take_chun
 
 pub returns-in-Err-clause-read : goal.returns-in-Err-clause-read
 returns-in-Err-clause-read g c =
-    subst (λ s. Gives {X = ChunksSeen} IsLegacySeen (g.S.Source.left c.args.src.now) (g.S.Source.left c.take_chunk.new.src) chunks_at (Err s)) (sym c.at.ensures)
+    subst (λ s. AgreesWithJudging {X = ChunksSeen} IsLegacySeen (g.S.Source.left c.args.src.now) (g.S.Source.left c.take_chunk.new.src) chunks_at (Err s)) (sym c.at.ensures)
     (arrived_stopped _ _ _ c.chunks.seen c.take_chunk.new.self c.chunks.invariant.arrived c.in-Err.stop _ (search rules) c.in-Err.ensures.read)

@@ -1,4 +1,4 @@
-use Rattle.mig_restore.proofs.Common.{ℕ, List, refl, sym, subst, rules, Judged, Gives, then_reads, stopped, Cause, Place, Opening, ImageOf, records_at}
+use Rattle.mig_restore.proofs.Common.{ℕ, List, refl, sym, subst, rules, Judged, AgreesWithJudging, then_reads, stopped, Cause, Place, Opening, ImageOf, records_at}
 use Rattle.mig_outline.specs.Judges.{IsTally}
 use Rattle.mig_restore_form.specs.Stream.{image_at, opening_at}
 use Rattle.mig_outline.proofs.judge.judge_parts.Goals as goal
@@ -15,4 +15,4 @@ pub returns-clause-read : goal.returns-clause-read
 unfolding image_at behind_opening
 returns-clause-read g c =
     then_reads _ _ _ _ _ opening_at image_at behind_opening (c.in_ok-version.version, c.in_ok-version.kind) c.judge_records.result (λ i. refl) c.in_ok-version.ensures.read
-    (λ opening is. subst (λ (o : Opening). Gives IsTally (g.S.Source.left c.read_opening.new.src) (g.S.Source.left c.judge_records.new.src) (records_at o) c.judge_records.result) (sym is) c.judge_records.ensures.read)
+    (λ opening is. subst (λ (o : Opening). AgreesWithJudging IsTally (g.S.Source.left c.read_opening.new.src) (g.S.Source.left c.judge_records.new.src) (records_at o) c.judge_records.result) (sym is) c.judge_records.ensures.read)

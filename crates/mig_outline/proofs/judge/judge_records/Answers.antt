@@ -1,4 +1,4 @@
-use Rattle.mig_restore.proofs.Common.{refl, rules, subst, sym, ◌∙◌, Err, Gives, records_at, opening_of, IsBegun}
+use Rattle.mig_restore.proofs.Common.{refl, rules, subst, sym, ◌∙◌, Err, AgreesWithJudging, records_at, opening_of, IsBegun}
 use Rattle.mig_outline.proofs.Arrivals.{state, arrived_first, arrived_next, arrived_end, arrived_stopped}
 use Rattle.mig_outline.proofs.Outline.{empty_outline}
 use Rattle.mig_outline.specs.Judges.{IsTally}
@@ -30,5 +30,5 @@ returns-then-over-clause-read g c =
 
 pub returns-in-Err-clause-read : goal.returns-in-Err-clause-read
 returns-in-Err-clause-read g c =
-    subst (λ s. Gives {X = Tally} IsTally (g.S.Source.left c.args.src.now) (g.S.Source.left c.outline_next.new.src) (records_at (opening_of c.args.version c.args.kind)) (Err s)) (sym c.at.ensures)
+    subst (λ s. AgreesWithJudging {X = Tally} IsTally (g.S.Source.left c.args.src.now) (g.S.Source.left c.outline_next.new.src) (records_at (opening_of c.args.version c.args.kind)) (Err s)) (sym c.at.ensures)
     (arrived_stopped (opening_of c.args.version c.args.kind) _ _ _ (state c.records.seen c.records.guest c.records.verified) (state c.outline_next.new.seen c.outline_next.new.guest c.outline_next.new.verified) c.in-Err.stop _ (search rules) c.records.invariant.arrived (c.in-Err.ensures.read (opening_of c.args.version c.args.kind)))

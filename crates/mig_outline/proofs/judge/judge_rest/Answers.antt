@@ -1,4 +1,4 @@
-use Rattle.mig_restore.proofs.Common.{sym, subst, rules, Gives, then_reads, stopped, Opening, records_at}
+use Rattle.mig_restore.proofs.Common.{sym, subst, rules, AgreesWithJudging, then_reads, stopped, Opening, records_at}
 use Rattle.mig_outline.specs.Judges.{IsTally}
 use Rattle.mig_restore_form.specs.Stream.{opening_behind, image_behind}
 use Rattle.mig_restore.proofs.Behind.{behind_opening, behind_is}
@@ -11,4 +11,4 @@ returns-in_err-version-clause-read g c =
 pub returns-clause-read : goal.returns-clause-read
 returns-clause-read g c =
     then_reads _ _ _ _ _ opening_behind image_behind behind_opening (c.in_ok-version.version, c.in_ok-version.kind) c.judge_records.result behind_is c.in_ok-version.ensures.read
-    (λ opening is. subst (λ (o : Opening). Gives IsTally (g.S.Source.left c.read_headers.new.src) (g.S.Source.left c.judge_records.new.src) (records_at o) c.judge_records.result) (sym is) c.judge_records.ensures.read)
+    (λ opening is. subst (λ (o : Opening). AgreesWithJudging IsTally (g.S.Source.left c.read_headers.new.src) (g.S.Source.left c.judge_records.new.src) (records_at o) c.judge_records.result) (sym is) c.judge_records.ensures.read)

@@ -1,4 +1,4 @@
-use Rattle.mig_restore.proofs.Common.{◌≡◌, ◌≤◌, get_or, [], refl, rules, subst, sym, length, take, Ok, put_entries, done, each_step, each_ends, with_places, entry_at, IsGoodWord, Gives}
+use Rattle.mig_restore.proofs.Common.{◌≡◌, ◌≤◌, get_or, [], refl, rules, subst, sym, length, take, Ok, put_entries, done, each_step, each_ends, with_places, entry_at, IsGoodWord, AgreesWithJudging}
 use Rattle.std.proofs.lemmas.List.Elements.{All-get_or}
 use Rattle.std.proofs.lemmas.List.{take_all}
 use Rattle.mig_bytes.specs.Judged.{each}
@@ -41,4 +41,4 @@ pub returns-clause-read : goal.returns-clause-read
 returns-clause-read g c =
     let at_end : length c.args.list.now ≤ c.loop-place.place = search rules in
     let whole : take c.loop-place.place (with_places 0 c.args.list.now) ≡ with_places 0 c.args.list.now = take_all c.loop-place.place (with_places 0 c.args.list.now) (subst (λ n. n ≤ c.loop-place.place) (sym (places_len 0 c.args.list.now)) at_end) in
-    subst (λ ats. Gives {X = Unit {0}} (λ _ es. c.loop-place.guest ≡ record c.args.guest.now { frames = put_entries c.args.guest.now.kind c.args.guest.now.frames es }) (g.S.Source.left c.args.src.now) (g.S.Source.left c.loop-place.src) (each (entry_at c.args.guest.now.kind c.args.guest.now.top) ats) (Ok tt)) whole c.loop-place.invariant.read
+    subst (λ ats. AgreesWithJudging {X = Unit {0}} (λ _ es. c.loop-place.guest ≡ record c.args.guest.now { frames = put_entries c.args.guest.now.kind c.args.guest.now.frames es }) (g.S.Source.left c.args.src.now) (g.S.Source.left c.loop-place.src) (each (entry_at c.args.guest.now.kind c.args.guest.now.top) ats) (Ok tt)) whole c.loop-place.invariant.read

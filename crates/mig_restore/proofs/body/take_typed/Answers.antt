@@ -1,4 +1,4 @@
-use Rattle.mig_restore.proofs.Common.{◌≡◌, ◌∙◌, List, ℕ, Option, Some, Result, ap, sym, subst, Judged, Gives, Stop, Cause, RecordType, code_of_number, PartCode, Content, code_of_type}
+use Rattle.mig_restore.proofs.Common.{◌≡◌, ◌∙◌, List, ℕ, Option, Some, Result, ap, sym, subst, Judged, AgreesWithJudging, Stop, Cause, RecordType, code_of_number, PartCode, Content, code_of_type}
 use Rattle.mig_restore_form.proofs.Bodies.{coded_is, shaped_code}
 use Rattle.mig_restore_form.proofs.Growth.{has_length, same_kinds, sets_no_emulator}
 use Rattle.mig_restore.proofs.body.take_typed.Goals as goal
@@ -7,8 +7,8 @@ found : (this : RecordType) (code : PartCode) (number : ℕ) (r : Option PartCod
 found this code number r a b is = a ∙ sym b ∙ is
 
 -- what is read as one says is read as the other
-as_coded : {X : Type 0} (R : X → Content → Type 0) (a b : Option (List ℕ)) (f h : List ℕ → Judged Cause Content) (r : Result X (Stop Cause)) → ((i : List ℕ) → h i ≡ f i) → Gives R a b f r → Gives R a b h r
-as_coded R a b f h r same given = subst (λ (k : List ℕ → Judged Cause Content). Gives R a b k r) (λ j i. sym (same i) j) given
+as_coded : {X : Type 0} (R : X → Content → Type 0) (a b : Option (List ℕ)) (f h : List ℕ → Judged Cause Content) (r : Result X (Stop Cause)) → ((i : List ℕ) → h i ≡ f i) → AgreesWithJudging R a b f r → AgreesWithJudging R a b h r
+as_coded R a b f h r same given = subst (λ (k : List ℕ → Judged Cause Content). AgreesWithJudging R a b k r) (λ j i. sym (same i) j) given
 
 pub take_sets-requires : goal.take_sets-requires
 take_sets-requires g c =

@@ -1,4 +1,4 @@
-use Rattle.mig_restore.proofs.Common.{◌≡◌, ◌+◌, ◌≤◌, ℕ, [], refl, rules, sym, subst, arith, length, take, cond, Ok, done, each_step, each_ends, with_places, entry_at, differing, Gives}
+use Rattle.mig_restore.proofs.Common.{◌≡◌, ◌+◌, ◌≤◌, ℕ, [], refl, rules, sym, subst, arith, length, take, cond, Ok, done, each_step, each_ends, with_places, entry_at, differing, AgreesWithJudging}
 use Rattle.std.proofs.lemmas.List.{take_all}
 use Rattle.mig_bytes.specs.Judged.{each}
 use Rattle.mig_restore_form.proofs.Batches.{places_len, entry_here, place_within}
@@ -30,4 +30,4 @@ pub returns-clause-read : goal.returns-clause-read
 returns-clause-read g c =
     let at_end : length c.args.list.now ≤ c.loop-place.place = search rules in
     let whole : take c.loop-place.place (with_places 0 c.args.list.now) ≡ with_places 0 c.args.list.now = take_all c.loop-place.place (with_places 0 c.args.list.now) (subst (λ n. n ≤ c.loop-place.place) (sym (places_len 0 c.args.list.now)) at_end) in
-    subst (λ ats. Gives {X = ℕ} (λ n es. n ≡ differing c.args.guest.now.kind c.args.guest.now.frames es) (g.S.Source.left c.args.src.now) (g.S.Source.left c.loop-place.src) (each (entry_at c.args.guest.now.kind c.args.guest.now.top) ats) (Ok c.loop-place.differ)) whole c.loop-place.invariant.read
+    subst (λ ats. AgreesWithJudging {X = ℕ} (λ n es. n ≡ differing c.args.guest.now.kind c.args.guest.now.frames es) (g.S.Source.left c.args.src.now) (g.S.Source.left c.loop-place.src) (each (entry_at c.args.guest.now.kind c.args.guest.now.top) ats) (Ok c.loop-place.differ)) whole c.loop-place.invariant.read

@@ -15,8 +15,8 @@ guest_top : (g : GuestOf) (o : Opening) (records : List StreamRecord) → g ≡ 
 guest_top g o records is = ap (λ (x : GuestOf). x.top) is
 
 -- the guest that the records up to this one mean
-meant : (g h : GuestOf) (o : Opening) (records : List StreamRecord) (r : StreamRecord) → g ≡ sent o.kind records → h ≡ put_record g r → h ≡ sent o.kind (records ++ r ∷ [])
-meant g h o records r is now = now ∙ ap (λ (x : GuestOf). put_record x r) is ∙ sym (one_more_record o.kind records r)
+type_in_guest : (g h : GuestOf) (o : Opening) (records : List StreamRecord) (r : StreamRecord) → g ≡ sent o.kind records → h ≡ put_record g r → h ≡ sent o.kind (records ++ r ∷ [])
+type_in_guest g h o records r is now = now ∙ ap (λ (x : GuestOf). put_record x r) is ∙ sym (one_more_record o.kind records r)
 
 pub returns-in_err-take_record-clause-read : goal.returns-in_err-take_record-clause-read
 returns-in_err-take_record-clause-read g c = λ o records seen guest verified.
@@ -35,7 +35,7 @@ returns-in-Err-Fault-clause-read g c = λ o records seen guest verified.
     then_reads _ _ _ _ _ (record_at (before o records)) (next_at o records) (behind_record o records) c.in_ok-take_record.field-0 _ (asks o records)
     (c.in_ok-take_record.ensures.read (before o records) seen (guest_kind _ o records guest) (guest_top _ o records guest) verified)
     (λ r told. refused _ _ (λ i. behind_record o records (r, i)) c.in-Err-Fault.cause
-    (last_faulty o records r c.in-Err-Fault.cause (sym told.1 ∙ c.if-branch-ne-END.false) (ap fault_of_guest (sym (meant _ _ o records r guest told.0)) ∙ c.in-Err-Fault.ensures.fault c.in-Err-Fault.cause (search rules))))
+    (last_faulty o records r c.in-Err-Fault.cause (sym told.1 ∙ c.if-branch-ne-END.false) (ap fault_of_guest (sym (type_in_guest _ _ o records r guest told.0)) ∙ c.in-Err-Fault.ensures.fault c.in-Err-Fault.cause (search rules))))
 
 pub returns-in-Ok-clause-read : goal.returns-in-Ok-clause-read
 returns-in-Ok-clause-read g c = λ o records seen guest verified.
@@ -43,5 +43,5 @@ returns-in-Ok-clause-read g c = λ o records seen guest verified.
     (c.in_ok-take_record.ensures.read (before o records) seen (guest_kind _ o records guest) (guest_top _ o records guest) verified)
     (λ r told. let zero : r.type ≡ 0 = sym told.1 ∙ c.if-branch-ne-END.false in
     done _ _ (λ i. behind_record o records (r, i)) true r
-    (last_fine o records r zero (ap fault_of_guest (sym (meant _ _ o records r guest told.0)) ∙ c.in-Ok.ensures.ok))
+    (last_fine o records r zero (ap fault_of_guest (sym (type_in_guest _ _ o records r guest told.0)) ∙ c.in-Ok.ensures.ok))
     (told.0, seen_more _ o records r _ told.1 (c.in_ok-take_record.ensures.seen o (types_of records) seen), sym (eq-eqb r.type 0 zero), told.2))

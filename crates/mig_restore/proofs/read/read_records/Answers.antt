@@ -1,4 +1,4 @@
-use Rattle.mig_restore.proofs.Common.{refl, rules, subst, sym, ◌∙◌, Err, Gives, records_at, IsReading, opening_of, IsBegun}
+use Rattle.mig_restore.proofs.Common.{refl, rules, subst, sym, ◌∙◌, Err, AgreesWithJudging, records_at, IsReading, opening_of, IsBegun}
 use Rattle.mig_pvtables.specs.Whole.{IsStreamedBare}
 use Rattle.mig_restore.specs.declared.read.Reading.{Reading}
 use Rattle.mig_restore.proofs.Arrivals.{state, arrived_first, arrived_next, arrived_end, arrived_stopped}
@@ -49,5 +49,5 @@ returns-then-over-clause-streamed g c =
 
 pub returns-in-Err-clause-read : goal.returns-in-Err-clause-read
 returns-in-Err-clause-read g c =
-    subst (λ s. Gives {X = Reading} IsReading (g.S.Source.left c.args.src.now) (g.S.Source.left c.read_next.new.src) (records_at (opening_of c.args.version c.args.kind)) (Err s)) (sym c.at.ensures)
+    subst (λ s. AgreesWithJudging {X = Reading} IsReading (g.S.Source.left c.args.src.now) (g.S.Source.left c.read_next.new.src) (records_at (opening_of c.args.version c.args.kind)) (Err s)) (sym c.at.ensures)
     (arrived_stopped (opening_of c.args.version c.args.kind) _ _ _ (state c.records.seen c.records.guest c.records.differs) (state c.read_next.new.seen c.read_next.new.guest c.read_next.new.differs) c.in-Err.stop _ (search rules) c.records.invariant.arrived (c.in-Err.ensures.read (opening_of c.args.version c.args.kind)))
