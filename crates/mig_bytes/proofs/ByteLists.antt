@@ -1,11 +1,8 @@
 -- Lists of bytes, and the bytes of a number that stands in one.
-use Rattle.mig_bytes.proofs.Common.{◌≡◌, ℕ, zero, suc, ◌+◌, ◌<◌, ◌≤◌, List, [], ◌∷◌, ◌++◌, length, take, drop, get_or, sym, subst, ◌∙◌, arith, take-append-drop, length-drop, little_bytes}
-use Rattle.std.proofs.Common.{◌^◌}
-use Rattle.std.specs.List.{AllByRecursion}
+use Rattle.mig_bytes.proofs.Common.{◌≡◌, ℕ, zero, suc, ◌+◌, ◌<◌, ◌≤◌, List, [], ◌∷◌, ◌++◌, length, take, drop, get_or, sym, subst, ◌∙◌, arith, take-append-drop, length-drop, little_bytes, ◌^◌, AllByRecursion, little_number}
 use Rattle.std.specs.Int.{w32, w64, from_le_bytes}
 use Rattle.std.proofs.lemmas.List.{length-take-le}
 use Rattle.std.proofs.lemmas.Nat.{le_bytes_4, le_bytes_8}
-use Rattle.byteorder.specs.Endian.{little_number}
 use Rattle.byteorder.specs.Numbers.{little_from-take, little_from-lt}
 use Rattle.mig_bytes.specs.Fields.{le32, le64}
 

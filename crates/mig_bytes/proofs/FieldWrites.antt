@@ -1,6 +1,5 @@
 -- A field written in place.
-use Rattle.mig_bytes.proofs.Common.{◌≡◌, ℕ, ◌+◌, ◌-◌, List, [], ◌++◌, length, take, drop, ap, ◌∙◌, arith, append-nil, length-drop, drop-drop, take_all, drop_all, put_mid}
-use borrow.Rule.Slice.PartMut.{mid_of}
+use Rattle.mig_bytes.proofs.Common.{◌≡◌, ℕ, ◌+◌, ◌-◌, List, [], ◌++◌, length, take, drop, ap, ◌∙◌, arith, append-nil, length-drop, drop-drop, take_all, drop_all, put_mid, mid_of}
 use Rattle.mig_bytes.specs.Fields.{with_field}
 
 -- the bytes from `at` on were written anew: a field, and then what stood behind it

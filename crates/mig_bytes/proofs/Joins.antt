@@ -1,9 +1,6 @@
 -- How judgements, and what readers give, join.
-use Rattle.mig_bytes.proofs.Common.{IsErrAnd, ◌≡◌, inl, inr, ℕ, suc, ◌+◌, ◌<◌, length, take, drop, get_or, take-append-drop, List, [], ◌∷◌, ◌++◌, Bool, true, false, cond, Option, Some, None, Result, Ok, Err, refl, sym, ap, subst, ◌∙◌, length-append, arith, length-take-le, Stop, Refused, ReadFault, Memory, Judged, ◌>>=◌, part, tried, said_at, plain_at, placed, AgreesWithJudging, Passes, Faulty}
+use Rattle.mig_bytes.proofs.Common.{IsErrAnd, ◌≡◌, inl, inr, ℕ, suc, ◌+◌, ◌<◌, length, take, drop, get_or, take-append-drop, List, [], ◌∷◌, ◌++◌, Bool, true, false, cond, Option, Some, None, Result, Ok, Err, refl, sym, ap, subst, ◌∙◌, length-append, arith, length-take-le, Stop, Refused, ReadFault, Memory, Judged, ◌>>=◌, part, tried, said_at, plain_at, placed, AgreesWithJudging, Passes, Faulty, le-ltb, drop-cons, ◌⊎◌, nat_lt, ltb-false}
 use Rattle.std.proofs.lemmas.List.{take_more, take_at, drop_at}
-use Rattle.std.proofs.lemmas.Bool.{le-ltb}
-use Rattle.std.proofs.Math.Seq.{drop-cons}
-use Rattle.std.proofs.Common.{◌⊎◌, nat_lt, ltb-false}
 use Rattle.mig_bytes.specs.Judged.{each, Matches}
 
 module _ {C X Y : Type 0} (R : X → Y → Type 0) where

@@ -1,7 +1,5 @@
 -- Maps from numbers, with one number put or taken.
-use Rattle.mig_bytes.proofs.Common.{◌≡◌, ℕ, cond, Some, None, sym, ap, ◌∙◌, inl, inr}
-use Rattle.std.proofs.Common.{◌≢◌}
-use Rattle.std.proofs.lemmas.Bool.{cases_eq, eq-eqb, ne_eqb}
+use Rattle.mig_bytes.proofs.Common.{◌≡◌, ℕ, cond, Some, None, sym, ap, ◌∙◌, inl, inr, ◌≢◌, cases_eq, eq-eqb, ne_eqb}
 use Rattle.std.specs.Cmp.{nat_cmp_total, unsigned_tied}
 use Rattle.std.specs.FinMap.{FinMap, get-insert, get-remove, nat_cmp-IsAntisymmetric, same_map}
 use Rattle.std.specs.Ordering.{nat_cmp}

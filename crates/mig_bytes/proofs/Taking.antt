@@ -1,9 +1,6 @@
 -- What is taken are bytes, and no more than were asked for.
-use Rattle.mig_bytes.proofs.Common.{◌≡◌, ℕ, ◌+◌, ◌<◌, ◌≤◌, List, [], ◌++◌, length, get_or, take, Option, Some, None, sym, ap, subst, ◌∙◌, arith, length-append, length-take-le, Consumes-trans, Consumes, TakesBytes}
-use Rattle.std.proofs.KnownBytes.{Consumes-nil}
+use Rattle.mig_bytes.proofs.Common.{◌≡◌, ℕ, ◌+◌, ◌<◌, ◌≤◌, List, [], ◌++◌, length, get_or, take, Option, Some, None, sym, ap, subst, ◌∙◌, arith, length-append, length-take-le, Consumes-trans, Consumes, TakesBytes, Consumes-nil, Keeps, TakesFew}
 use Rattle.std.proofs.lemmas.List.Elements.{All-nil, All-append, All-take, All-from_get_or}
-use Rattle.std.specs.Io.KnownBytes.{Keeps}
-use Rattle.mig_bytes.specs.Bytes.{TakesFew}
 
 pub takes_none : (a : Option (List ℕ)) → TakesBytes a a
 takes_none a = record { taken = []; bytes = All-nil (λ b. b < 256); gone = Consumes-nil a }

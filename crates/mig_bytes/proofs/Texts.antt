@@ -1,11 +1,8 @@
 -- How what writers append joins.
-use Rattle.mig_bytes.proofs.Common.{◌≡◌, ℕ, ◌+◌, ◌-◌, ◌≤◌, List, ◌∷◌, ◌++◌, length, take, drop, Option, Result, Ok, Err, refl, sym, ap, subst, ◌∙◌, arith, append_assoc, length-append, IsErrAnd, take-append-add, take-append-le, Appends-trans, Appends}
-use Rattle.std.proofs.Common.{IsErr}
-use Rattle.std.specs.List.{flat_map}
+use Rattle.mig_bytes.proofs.Common.{◌≡◌, ℕ, ◌+◌, ◌-◌, ◌≤◌, List, ◌∷◌, ◌++◌, length, take, drop, Option, Result, Ok, Err, refl, sym, ap, subst, ◌∙◌, arith, append_assoc, length-append, IsErrAnd, take-append-add, take-append-le, Appends-trans, Appends, IsErr, flat_map, AppendsPart, Puts}
 use Rattle.std.proofs.lemmas.Grind.{flat_map-append}
 use Rattle.std.proofs.Math.Seq.{take-add, take-length}
 use Rattle.mig_bytes.specs.declared.failure.WriteFailed.{WriteFailed}
-use Rattle.mig_bytes.specs.Bytes.{AppendsPart, Puts}
 
 module _ {X : Type 0} where
   -- a text, and then another

@@ -1,6 +1,5 @@
 -- A vector that grew, and whose new part was written.
-use Rattle.mig_bytes.proofs.Common.{◌≡◌, ℕ, ◌+◌, ◌-◌, List, [], ◌++◌, length, take, drop, sym, ap, ◌∙◌, arith, append-nil, length-append, length-drop, take_all, drop_all, take-append-add, take-append-le, take-append_seam, post_of}
-use Rattle.std.proofs.Common.{replicate}
+use Rattle.mig_bytes.proofs.Common.{◌≡◌, ℕ, ◌+◌, ◌-◌, List, [], ◌++◌, length, take, drop, sym, ap, ◌∙◌, arith, append-nil, length-append, length-drop, take_all, drop_all, take-append-add, take-append-le, take-append_seam, post_of, replicate}
 
 front_kept : (items grown : List ℕ) (before n m : ℕ) → length items ≡ before → grown ≡ take (before + n) items ++ replicate m 0 → take before grown ≡ items
 front_kept items grown before n m size is =

@@ -2,7 +2,7 @@
 use Rattle.std.specs.Prelude.{◌≡◌, ◌<◌, ◌≤◌, ℕ, ◌+◌, ◌-◌, ◌*◌, ◌%◌, List, ◌++◌, length, take, Bool, true, false, Result, Ok, Err}
 use Rattle.std.specs.List.{All}
 use Rattle.std.specs.declared.option.Option.{Option}
-use Rattle.std.specs.Io.KnownBytes.{Consumes, Appends, IsAtEnd}
+use Rattle.mig_bytes.specs.Common.{Consumes, Appends, IsAtEnd}
 use Rattle.mig_bytes.specs.declared.stop.Got.{Got}
 use Rattle.mig_bytes.specs.declared.stop.Got.TheVariants.{Whole, Short}
 use Rattle.mig_bytes.specs.declared.failure.WriteFailed.{WriteFailed}

@@ -1,6 +1,6 @@
 -- The numbers that fields of fixed width spell, in either byte order.
 use Rattle.std.specs.Prelude.{ℕ, ◌+◌, List, ◌++◌, length, take, drop}
-use Rattle.byteorder.specs.Endian.{little_number, big_number}
+use Rattle.mig_bytes.specs.Common.{little_number, big_number}
 
 -- the number in the two, four or eight bytes from `at` on, the lowest byte first
 unfoldable pub le16 : List ℕ → ℕ → ℕ

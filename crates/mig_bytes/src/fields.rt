@@ -1,5 +1,5 @@
 ghost use Rattle.std.specs.Prelude.{◌≡◌, ℕ, ◌+◌, ◌≤◌, ◌<◌, length};
-ghost use Rattle.byteorder.specs.Endian.{little_bytes, big_bytes};
+ghost use Rattle.mig_bytes.specs.Common.{little_bytes, big_bytes};
 ghost use Rattle.mig_bytes.specs.Bytes.{padding_len, IsLeastPadding};
 ghost use Rattle.mig_bytes.specs.Fields.{le16, le32, le64, be16, be32, be64, with_field};
 

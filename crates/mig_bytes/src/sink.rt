@@ -1,7 +1,6 @@
 ghost use Rattle.std.specs.Prelude.{ℕ, List, length, ◌<◌, IfOk};
 ghost use Rattle.std.specs.declared.option.Option.{Option};
-ghost use Rattle.std.specs.Io.{WritesAtMost};
-ghost use Rattle.std.specs.Io.KnownBytes.{WriteAppends};
+ghost use Rattle.mig_bytes.specs.Common.{WritesAtMost, WriteAppends};
 ghost use Rattle.mig_bytes.specs.Faults.{FaultHasCause};
 
 use crate::Failed;

@@ -1,7 +1,6 @@
 ghost use Rattle.std.specs.Prelude.{ℕ, List};
 ghost use Rattle.std.specs.declared.option.Option.{Option};
-ghost use Rattle.std.specs.Io.{ReadsAtMost};
-ghost use Rattle.std.specs.Io.KnownBytes.{ReadConsumes};
+ghost use Rattle.mig_bytes.specs.Common.{ReadsAtMost, ReadConsumes};
 ghost use Rattle.mig_bytes.specs.Faults.{FaultHasCause};
 
 use crate::Failed;

@@ -1,17 +1,12 @@
 -- A stream whose frames stand in any records is accepted, and means the guest that they tell; the canonical stream is one.
-use Rattle.mig_canon.proofs.Common.{zero, suc, ◌*◌, take, drop, flat_map, range_with_len, flat_map-append, map-range_with_len_more, All-nil, All-cons, batch, batches, frames_in, IsFew, le_refl, ◌≡◌, ℕ, ◌+◌, ◌≤◌, ◌<◌, ◌^◌, List, [], ◌∷◌, ◌++◌, length, map, Bool, true, false, refl, sym, ap, subst, ◌∙◌, arith, append_assoc, append-nil, ◌||◌, All, All-head, All-tail, Kind, GuestOf, FrameMap, PartMap, IsFormed, HasNoEmulators, Record, records_in_order, static_codes, info_records, last_records, static_bodies, p2m_records, text_of, headers, Frame, StreamRecord, is_ended, Nothing, Frames, empty_guest, put_entry, put_entries, IsComplete, Spells, Follows, map-append, length-map-range_with_len, body_of, words_len, sent, IsSendable, told}
-use Rattle.std.proofs.lemmas.List.Elements.{All-drop, All-append, All-take}
+use Rattle.mig_canon.proofs.Common.{zero, suc, ◌*◌, take, drop, flat_map, range_with_len, flat_map-append, map-range_with_len_more, All-nil, All-cons, batch, batches, frames_in, IsFew, le_refl, ◌≡◌, ℕ, ◌+◌, ◌≤◌, ◌<◌, ◌^◌, List, [], ◌∷◌, ◌++◌, length, map, Bool, true, false, refl, sym, ap, subst, ◌∙◌, arith, append_assoc, append-nil, ◌||◌, All, All-head, All-tail, Kind, GuestOf, FrameMap, PartMap, IsFormed, HasNoEmulators, Record, records_in_order, static_codes, info_records, last_records, static_bodies, p2m_records, text_of, headers, Frame, StreamRecord, is_ended, Nothing, Frames, empty_guest, put_entry, put_entries, IsComplete, Spells, Follows, map-append, length-map-range_with_len, body_of, words_len, sent, IsSendable, told, All-drop, All-append, All-take, inr, IsImage, Accepted, meant_as_sent, IsSendableBatch, TellFrames, frames_told, batch_records, batched_bodies, batched}
 use Rattle.mig_canon.specs.Bare.{IsBare}
-use Rattle.std.proofs.Common.{inr}
 use Rattle.std.proofs.lemmas.List.Sums.{fold-append}
-use Rattle.mig_restore_form.specs.Spelled.{IsImage, Accepted}
-use Rattle.mig_restore_form.proofs.Meaning.{meant_as_sent}
 use Rattle.mig_headers.specs.Headers.{image_header_of, domain_header_of}
 use Rattle.mig_headers.proofs.HeaderLaws.{image_is_read_back, domain_is_read_back}
 use Rattle.mig_pvtables.specs.Blank.{blank}
 use Rattle.mig_canon.specs.Canon.{canon}
 use Rattle.mig_restore_form.specs.Spelled.HasContent.{pages as pages_say}
-use Rattle.mig_canon.specs.Batched.{IsSendableBatch, TellFrames, frames_told, batch_records, batched_bodies, batched}
 use Rattle.mig_canon.proofs.CanonMaps.{frames_again}
 use Rattle.mig_canon.proofs.CanonOnce.{all_at_once}
 use Rattle.mig_canon.proofs.CanonParts.{Fits}

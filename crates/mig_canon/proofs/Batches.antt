@@ -1,8 +1,5 @@
 -- Batches of frames one after another.
-use Rattle.mig_canon.proofs.Common.{◌≡◌, ℕ, suc, ◌+◌, ◌-◌, ◌*◌, ◌<◌, min, List, [], ◌∷◌, length, take, drop, true, cond, refl, sym, ap, ◌∙◌, arith, drop-drop, drop-cons, common_steps, length-drop, take_all, entries_from, Frame, Record, batch, frame_bodies, length-map-range_with_len, body_of}
-use Rattle.std.proofs.Common.{nat_le}
-use Rattle.std.proofs.lemmas.List.{take_min, drop_min}
-use Rattle.std.proofs.lemmas.List.FromFn.{get_or-map-range_with_len}
+use Rattle.mig_canon.proofs.Common.{◌≡◌, ℕ, suc, ◌+◌, ◌-◌, ◌*◌, ◌<◌, min, List, [], ◌∷◌, length, take, drop, true, cond, refl, sym, ap, ◌∙◌, arith, drop-drop, drop-cons, common_steps, length-drop, take_all, entries_from, Frame, Record, batch, frame_bodies, length-map-range_with_len, body_of, nat_le, take_min, drop_min, get_or-map-range_with_len}
 
 -- ---- the cursor at the first frame
 

@@ -1,19 +1,9 @@
 -- The body of each batch of frames says these frames.
-use Rattle.mig_canon.proofs.Common.{◌≡◌, ℕ, zero, suc, ◌+◌, ◌-◌, ◌*◌, ◌≤◌, ◌<◌, ◌^◌, min, List, [], ◌∷◌, ◌++◌, length, take, drop, map, replicate, Bool, true, false, Option, Some, None, refl, sym, ap, subst, ◌∙◌, arith, length-append, drop-drop, is_some, All, nat_lt, type_in_guest, range_with_len, nat_cmp-IsAntisymmetric, little_bytes, Kind, Hvm, Pv, GuestOf, IsFormed, Frame, batch, batches, page_in, words_of, pages_of, frames_in, common_steps, All-nil, All-cons, All-head, All-tail, length-drop, take_all, nat_cmp_total, little_number-reads_back, PageType, words_len, IsSendable, told}
-use Rattle.std.proofs.Common.{◌/◌, ◌%◌}
-use Rattle.std.specs.Prelude.{unwrap_or}
-use Rattle.mig_guest.specs.Formed.{IsInside}
-use Rattle.byteorder.specs.Endian.{little_number}
-use Rattle.mig_guest.specs.Frames.{is_type_of}
+use Rattle.mig_canon.proofs.Common.{◌≡◌, ℕ, zero, suc, ◌+◌, ◌-◌, ◌*◌, ◌≤◌, ◌<◌, ◌^◌, min, List, [], ◌∷◌, ◌++◌, length, take, drop, map, replicate, Bool, true, false, Option, Some, None, refl, sym, ap, subst, ◌∙◌, arith, length-append, drop-drop, is_some, All, nat_lt, type_in_guest, range_with_len, nat_cmp-IsAntisymmetric, little_bytes, Kind, Hvm, Pv, GuestOf, IsFormed, Frame, batch, batches, page_in, words_of, pages_of, frames_in, common_steps, All-nil, All-cons, All-head, All-tail, length-drop, take_all, nat_cmp_total, little_number-reads_back, PageType, words_len, IsSendable, told, ◌/◌, ◌%◌, unwrap_or, IsInside, little_number, is_type_of, IsPage, IsEntry, AreEntries, IsGoodWord, IsBatch, all_found, pfn_limit, length-take, Notab, Broken, Xalloc}
 use Rattle.mig_records_pages.specs.PageData.{frame_word_in, body_of}
-use Rattle.mig_restore_form.specs.Spelled.{IsPage, IsEntry, AreEntries, IsGoodWord, IsBatch}
-use Rattle.mig_guest.proofs.Found.{all_found}
-use Rattle.mig_pagetypes.specs.Limits.{pfn_limit}
-use Rattle.std.proofs.lemmas.List.{length-take}
 use Rattle.std.proofs.Math.Seq.{take-add}
 use Rattle.mig_bytes.specs.Fields.{le32, le64}
 use Rattle.mig_pagetypes.proofs.Numbers.{number_small, type_back}
-use Rattle.mig_pagetypes.specs.declared.page_type.PageType.TheVariants.{Notab, Broken, Xalloc}
 use Rattle.mig_pagetypes.specs.PageTypes.{number_of, type_of, type_or_none, type_has_data}
 use Rattle.mig_pagetypes.specs.FrameWords.{word_type, word_pfn, word_has_data, some_has_data}
 use Rattle.mig_records.specs.Words.{words, has_reserved_type, is_outside}

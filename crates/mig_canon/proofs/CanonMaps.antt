@@ -1,11 +1,6 @@
 -- Finite maps and their entries: what every entry meets, and what entries that are set again give.
-use Rattle.mig_canon.proofs.Common.{◌≡◌, ℕ, Bool, true, false, cond, not, nat_eq, List, [], ◌∷◌, map, Option, Some, None, refl, sym, ap, subst, ◌∙◌, T, ◌||◌, eq_by_cmp, PartKey, part_cmp, if◌then◌else◌, All, find, is_sorted, nat_cmp-IsAntisymmetric, Kind, Hvm, FrameMap, Part, PartMap, put_parts, replace_code, parts_of, PartCode, row_of, code_number, GuestOf, IsFormed, HasNoEmulators, is_policy, width_of, set_parts, parts_at, Frame, static_codes, last_codes, type_in_guest, put_entry, put_entries, option_or, All-head, All-tail, nat_cmp, below_all, part_total, part_exact, both_of, Tsc, common_steps, arith, tied, nat_cmp_total, find-where_key, PageType, told}
-use Rattle.std.proofs.Common.{◌≢◌}
-use Rattle.mig_guest.specs.Formed.{IsPart, is_emulator_code}
+use Rattle.mig_canon.proofs.Common.{◌≡◌, ℕ, Bool, true, false, cond, not, nat_eq, List, [], ◌∷◌, map, Option, Some, None, refl, sym, ap, subst, ◌∙◌, T, ◌||◌, eq_by_cmp, PartKey, part_cmp, if◌then◌else◌, All, find, is_sorted, nat_cmp-IsAntisymmetric, Kind, Hvm, FrameMap, Part, PartMap, put_parts, replace_code, parts_of, PartCode, row_of, code_number, GuestOf, IsFormed, HasNoEmulators, is_policy, width_of, set_parts, parts_at, Frame, static_codes, last_codes, type_in_guest, put_entry, put_entries, option_or, All-head, All-tail, nat_cmp, below_all, part_total, part_exact, both_of, Tsc, common_steps, arith, tied, nat_cmp_total, find-where_key, PageType, told, ◌≢◌, IsPart, is_emulator_code, found_first, is_sorted-where_key, Xtab}
 use Rattle.std.specs.declared.cmp.Ordering.TheVariants.{Equal}
-use Rattle.mig_guest.proofs.Found.{found_first}
-use Rattle.std.specs.FinMap.Entries.{is_sorted-where_key}
-use Rattle.mig_pagetypes.specs.declared.page_type.PageType.TheVariants.{Xtab}
 use Rattle.mig_guest.specs.Frames.{framed}
 use Rattle.mig_restore_form.proofs.PartsInOrder.{or_none, parts_set}
 use Rattle.std.specs.FinMap as maps

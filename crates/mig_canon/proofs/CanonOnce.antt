@@ -1,8 +1,6 @@
 -- Codes of which a guest has one record at most, which sets all parts of the code.
-use Rattle.mig_canon.proofs.Common.{list_all, AllByRecursion, GuestOf, IsFormed, parts_at, ◌≡◌, ℕ, ◌≤◌, Bool, true, false, List, [], ◌∷◌, length, map, not, refl, sym, ap, subst, ◌∙◌, arith, T, fold, if◌then◌else◌, is_sorted, PartCode, PartKey, Part, PartMap, part_cmp, code_number, is_policy, put_parts, replace_code, IsShaped, SayAll, bodies_by_shape, contents_by_shape, part_body, set_parts, shape_of, and_parts, canonical_bodies_say, below_all, is_lt, both_of, part_total, not-true, Shape, Table, Single, Named, Chain, Other}
+use Rattle.mig_canon.proofs.Common.{list_all, AllByRecursion, GuestOf, IsFormed, parts_at, ◌≡◌, ℕ, ◌≤◌, Bool, true, false, List, [], ◌∷◌, length, map, not, refl, sym, ap, subst, ◌∙◌, arith, T, fold, if◌then◌else◌, is_sorted, PartCode, PartKey, Part, PartMap, part_cmp, code_number, is_policy, put_parts, replace_code, IsShaped, SayAll, bodies_by_shape, contents_by_shape, part_body, set_parts, shape_of, and_parts, canonical_bodies_say, below_all, is_lt, both_of, part_total, not-true, Shape, Table, Single, Named, Chain, Other, IsBody, sole_key, not_itself}
 use Rattle.mig_canon.proofs.CanonMaps.{parts_in_order}
-use Rattle.mig_records.specs.Shapes.{IsBody, sole_key}
-use Rattle.mig_guest.proofs.PartCursor.{not_itself}
 
 -- a test of it: the code's one part, or all parts in a table, are a record's
 abbrev pub is_record_of_all : Shape → ℕ → Bool

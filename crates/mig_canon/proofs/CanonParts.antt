@@ -1,9 +1,7 @@
 -- What a body of a record says, and that fields are read back.
-use Rattle.mig_canon.proofs.Common.{arith, replicate, ◌≡◌, ℕ, ◌≤◌, ◌<◌, ◌^◌, List, [], ◌++◌, length, true, Option, Some, None, refl, subst, is_some, little_bytes, Kind, PartCode, code_number, Part, IsRecordBody, Content, Sets, HasContent, length-replicate, padding_len, little_number-reads_back, type_of_number, RecordType, numbered}
-use Rattle.mig_restore_form.specs.Spelled.HasContent.{sets}
+use Rattle.mig_canon.proofs.Common.{arith, replicate, ◌≡◌, ℕ, ◌≤◌, ◌<◌, ◌^◌, List, [], ◌++◌, length, true, Option, Some, None, refl, subst, is_some, little_bytes, Kind, PartCode, code_number, Part, IsRecordBody, Content, Sets, HasContent, length-replicate, padding_len, little_number-reads_back, type_of_number, RecordType, numbered, sets, type_number}
 use Rattle.mig_records.specs.Records.{IsRecord, head_of, spelled}
 use Rattle.mig_bytes.specs.Fields.{le32}
-use Rattle.mig_headers.specs.RecordTypes.{type_number}
 use Rattle.mig_headers.proofs.RecordNumbers.{numbers_are_inverse}
 
 -- ---- fields read back

@@ -1,6 +1,5 @@
 -- The stages of a canonical stream, and which records may stand at each.
-use Rattle.mig_canon.proofs.Common.{true, false, refl, arith, AllByRecursion, Kind, Hvm, Pv, static_codes, last_codes, pv_last_codes, vcpu_codes}
-use Rattle.mig_headers.specs.RecordTypes.{pv}
+use Rattle.mig_canon.proofs.Common.{true, false, refl, arith, AllByRecursion, Kind, Hvm, Pv, static_codes, last_codes, pv_last_codes, vcpu_codes, pv}
 use Rattle.mig_canon.proofs.CanonSteps.{Stage, IsStep, IsWritten}
 
 -- nothing is behind

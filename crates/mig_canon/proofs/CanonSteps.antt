@@ -1,11 +1,5 @@
 -- Records of a canonical stream one after another, each in its place.
-use Rattle.mig_canon.proofs.Common.{◌≡◌, ℕ, zero, suc, ◌+◌, ◌*◌, ◌≤◌, ◌<◌, ◌^◌, List, [], ◌∷◌, ◌++◌, length, map, Bool, true, false, nat_eq, Option, Some, None, refl, sym, ap, subst, ◌∙◌, arith, append_assoc, append-nil, length-append, ◌||◌, ◌&&◌, fold, is_some, AllByRecursion, list_any, flat_map, Kind, FrameMap, GuestOf, PartCode, code_number, PartKey, Part, PartMap, IsFormed, shape_of, set_parts, parts_at, contents_by_shape, IsRecordBody, part_body, SayAll, Record, records_of, records_in_order, key_of, part_record, vcpu_codes, vcpu_record, records_of_vcpu, vcpus_below, text_of, StreamRecord, Content, is_ended, Frames, Lists, Nothing, Sets, IsComplete, HasContent, Follows, Spells, flat_map-append, canonical_bodies_say, map-append, RecordType, type_of_number, spelled, sent}
-use Rattle.mig_records.specs.Shapes.{canonical_bodies}
-use Rattle.mig_restore_form.specs.Record.{types_of, placed_content}
-use Rattle.mig_restore_form.specs.Record.Content.{Checks}
-use Rattle.mig_restore_form.specs.Mean.{put_content}
-use Rattle.mig_restore_form.proofs.Meaning.{one_more_record}
-use Rattle.mig_bytes.specs.Sequences.Spells.{one_more}
+use Rattle.mig_canon.proofs.Common.{◌≡◌, ℕ, zero, suc, ◌+◌, ◌*◌, ◌≤◌, ◌<◌, ◌^◌, List, [], ◌∷◌, ◌++◌, length, map, Bool, true, false, nat_eq, Option, Some, None, refl, sym, ap, subst, ◌∙◌, arith, append_assoc, append-nil, length-append, ◌||◌, ◌&&◌, fold, is_some, AllByRecursion, list_any, flat_map, Kind, FrameMap, GuestOf, PartCode, code_number, PartKey, Part, PartMap, IsFormed, shape_of, set_parts, parts_at, contents_by_shape, IsRecordBody, part_body, SayAll, Record, records_of, records_in_order, key_of, part_record, vcpu_codes, vcpu_record, records_of_vcpu, vcpus_below, text_of, StreamRecord, Content, is_ended, Frames, Lists, Nothing, Sets, IsComplete, HasContent, Follows, Spells, flat_map-append, canonical_bodies_say, map-append, RecordType, type_of_number, spelled, sent, canonical_bodies, types_of, placed_content, Checks, put_content, one_more_record, one_more}
 use Rattle.std.proofs.lemmas.List.Folds.{list_any-append}
 use Rattle.mig_headers.specs.declared.record_type.RecordType.TheVariants.{StaticDataEnd, Verify, X86PvInfo, X86PvP2mFrames}
 use Rattle.mig_order.specs.Order.{Earlier, some_earlier, earlier_in, among, content_records, vcpu_records as vcpu_types, fault_after, fault_of_type}

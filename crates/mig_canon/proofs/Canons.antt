@@ -1,10 +1,7 @@
 -- The records of an image from its headers to its end, stage by stage.
-use Rattle.mig_canon.proofs.Common.{◌≡◌, ℕ, ◌+◌, ◌*◌, ◌<◌, ◌^◌, List, [], ◌++◌, false, Option, Some, None, refl, sym, subst, ◌∙◌, arith, append_assoc, le_refl, Kind, Hvm, Pv, GuestOf, FrameMap, PartMap, IsFew, IsFormed, IsTop, HasNoEmulators, p2m_key, p2m_body, p2m_records, Record, records_in_order, static_codes, last_codes, pv_last_codes, vcpus_below, info_records, last_records, Nothing, Lists, empty_guest, IsComplete}
-use Rattle.std.proofs.Common.{IsSome}
+use Rattle.mig_canon.proofs.Common.{◌≡◌, ℕ, ◌+◌, ◌*◌, ◌<◌, ◌^◌, List, [], ◌++◌, false, Option, Some, None, refl, sym, subst, ◌∙◌, arith, append_assoc, le_refl, Kind, Hvm, Pv, GuestOf, FrameMap, PartMap, IsFew, IsFormed, IsTop, HasNoEmulators, p2m_key, p2m_body, p2m_records, Record, records_in_order, static_codes, last_codes, pv_last_codes, vcpus_below, info_records, last_records, Nothing, Lists, empty_guest, IsComplete, IsSome, ends, static_end, info, p2m_frames, no_part}
 use Rattle.mig_canon.specs.Canon.{p2m_record, all_vcpus}
-use Rattle.mig_restore_form.specs.Spelled.HasContent.{ends, static_end, info, p2m_frames}
 use Rattle.mig_pvtables.specs.Whole.{IsWhole}
-use Rattle.mig_bytes.specs.Sequences.Spells.{no_part}
 use Rattle.mig_pvtables.proofs.HvmGuests.{hvm_complete}
 use Rattle.mig_pvtables.proofs.PvGuests.{pv_complete}
 use Rattle.mig_restore_form.specs.Mean.{sent}

@@ -1,11 +1,6 @@
 -- The parts of a PV guest, set again record by record, give its parts.
-use Rattle.mig_canon.proofs.Common.{◌≡◌, ℕ, zero, suc, ◌+◌, Bool, true, false, cond, not, nat_eq, nat_lt, List, [], ◌∷◌, ◌++◌, Option, Some, None, refl, sym, ap, subst, ◌∙◌, arith, ◌||◌, ◌&&◌, if◌then◌else◌, list_all, list_any, eq_by_cmp, Kind, Pv, PartCode, PartKey, Part, PartMap, GuestOf, IsFormed, is_policy, width_of, part_cmp, row_of, code_number, put_part, put_parts, replace_code, p2m_key, set_parts, key_of, static_codes, pv_last_codes, vcpu_codes, records_of_vcpu, vcpus_below, ◌==◌, option_or, nat_cmp, and_parts, eqb-true, common_steps, VcpuBasic, VcpuExtended, VcpuXsave, Tsc, VcpuMsrs, tied, part_total, part_exact, of_part, FrameMap, append-nil, flat_map, range_with_len, flat_map-append, map-range_with_len_more, not-true, P2mFrames, set_p2m, map-id}
-use Rattle.std.proofs.lemmas.Bool.{le-ltb, and_right}
-use Rattle.std.specs.Cmp.{tied_then, unsigned_tied}
-use Rattle.std.specs.Ordering.{is_eq, ordering_then}
+use Rattle.mig_canon.proofs.Common.{◌≡◌, ℕ, zero, suc, ◌+◌, Bool, true, false, cond, not, nat_eq, nat_lt, List, [], ◌∷◌, ◌++◌, Option, Some, None, refl, sym, ap, subst, ◌∙◌, arith, ◌||◌, ◌&&◌, if◌then◌else◌, list_all, list_any, eq_by_cmp, Kind, Pv, PartCode, PartKey, Part, PartMap, GuestOf, IsFormed, is_policy, width_of, part_cmp, row_of, code_number, put_part, put_parts, replace_code, p2m_key, set_parts, key_of, static_codes, pv_last_codes, vcpu_codes, records_of_vcpu, vcpus_below, ◌==◌, option_or, nat_cmp, and_parts, eqb-true, common_steps, VcpuBasic, VcpuExtended, VcpuXsave, Tsc, VcpuMsrs, tied, part_total, part_exact, of_part, FrameMap, append-nil, flat_map, range_with_len, flat_map-append, map-range_with_len_more, not-true, P2mFrames, set_p2m, map-id, le-ltb, and_right, tied_then, unsigned_tied, is_eq, ordering_then, SharedInfo, CpuidLeaf, Msr, no_keys}
 use Rattle.std.proofs.Math.Bool.{and-or_distrib_right}
-use Rattle.mig_guest.specs.declared.part_code.PartCode.TheVariants.{SharedInfo, CpuidLeaf, Msr}
-use Rattle.mig_guest.specs.PartCodes.{no_keys}
 use Rattle.mig_canon.proofs.PvSays.{p2m_set}
 use Rattle.mig_canon.proofs.CanonMaps.{Holds, mixed, codes_with, with_parts, holds_codes, holds_none, nothing, all_again}
 use Rattle.std.specs.FinMap as maps

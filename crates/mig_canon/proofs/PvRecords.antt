@@ -1,11 +1,7 @@
 -- How the records of a PV guest alone are spelled.
-use Rattle.mig_canon.proofs.Common.{◌≡◌, ℕ, ◌+◌, ◌<◌, ◌≤◌, ◌^◌, List, [], ◌∷◌, ◌++◌, length, take, drop, replicate, Bool, true, false, cond, Option, Some, None, refl, sym, ap, subst, ◌∙◌, arith, append_assoc, append-nil, take-append-drop, flat_map-append, flat_map, All, Appends, AppendsPart, puts_then, puts_stop, puts_same, padding_len, head_of, Part, parts_of, code_number, shape_of, parts_at, part_body, Record, text_of, key_of, part_record, vcpu_record, records_of_vcpu, vcpus_below, p2m_body, piece, IsShortPart, ◌==◌, range_with_len, eq_by_cmp, find, find-where_key, Appends-trans, eqb-true, eq-eqb, map-id, All-head, All-tail, map-range_with_len_more, little_bytes, Pv, top_limit, GuestOf, IsFormed, IsTop, width_of, part_cmp, row_of, p2m_key, PartCode, P2mFrames, VcpuBasic, VcpuExtended, VcpuXsave, VcpuMsrs, PartKey, tied, part_exact, numbered, spelled, vcpu_codes, text_one, text_join, record_text}
-use Rattle.std.proofs.Common.{Result}
-use Rattle.mig_bytes.specs.Bytes.{Puts}
+use Rattle.mig_canon.proofs.Common.{◌≡◌, ℕ, ◌+◌, ◌<◌, ◌≤◌, ◌^◌, List, [], ◌∷◌, ◌++◌, length, take, drop, replicate, Bool, true, false, cond, Option, Some, None, refl, sym, ap, subst, ◌∙◌, arith, append_assoc, append-nil, take-append-drop, flat_map-append, flat_map, All, Appends, AppendsPart, puts_then, puts_stop, puts_same, padding_len, head_of, Part, parts_of, code_number, shape_of, parts_at, part_body, Record, text_of, key_of, part_record, vcpu_record, records_of_vcpu, vcpus_below, p2m_body, piece, IsShortPart, ◌==◌, range_with_len, eq_by_cmp, find, find-where_key, Appends-trans, eqb-true, eq-eqb, map-id, All-head, All-tail, map-range_with_len_more, little_bytes, Pv, top_limit, GuestOf, IsFormed, IsTop, width_of, part_cmp, row_of, p2m_key, PartCode, P2mFrames, VcpuBasic, VcpuExtended, VcpuXsave, VcpuMsrs, PartKey, tied, part_exact, numbered, spelled, vcpu_codes, text_one, text_join, record_text, Result, Puts, take-map-range_with_len, of_vcpu}
 use Rattle.std.specs.Result.{IsErrAnd}
-use Rattle.std.proofs.lemmas.List.FromFn.{take-map-range_with_len}
 use Rattle.mig_bytes.specs.declared.failure.WriteFailed.{WriteFailed}
-use Rattle.mig_records.specs.Shapes.{of_vcpu}
 use Rattle.mig_canon.specs.Canon.{all_vcpus}
 use Rattle.mig_canon.proofs.Spelling.{texts_of}
 use Rattle.mig_canon.proofs.Wholes.{short_parts}

@@ -1,7 +1,5 @@
 -- What the bodies of the records of a PV guest say: X86_PV_INFO, the P2M frames, and the parts of each vCPU.
-use Rattle.mig_canon.proofs.Common.{◌≡◌, ℕ, ◌*◌, ◌<◌, ◌≤◌, ◌^◌, Bool, true, false, cond, List, [], ◌∷◌, ◌++◌, length, map, replicate, Some, None, refl, sym, ap, subst, ◌∙◌, arith, All, AllByRecursion, find, little_bytes, Pv, PartCode, PartKey, Part, GuestOf, IsFormed, IsTop, width_of, part_cmp, code_number, parts_of, put_part, p2m_key, p2m_body, key_of, vcpu_codes, IsRecordBody, SayAll, bodies_by_shape, contents_by_shape, part_body, parts_at, shape_of, ◌==◌, eqb-true, eq-eqb, All-nil, All-cons, VcpuBasic, VcpuExtended, VcpuXsave, VcpuMsrs, part_exact, of_part, canonical_bodies_say, top_limit, find-where_key, P2mFrames, set_p2m, Shape, Table, Single, Named, Chain, Other}
-use Rattle.std.proofs.lemmas.Bool.{le-leb}
-use Rattle.mig_records.specs.PvBodies.{IsPvInfo, IsP2m, p2m_count, greater, listed_over}
+use Rattle.mig_canon.proofs.Common.{◌≡◌, ℕ, ◌*◌, ◌<◌, ◌≤◌, ◌^◌, Bool, true, false, cond, List, [], ◌∷◌, ◌++◌, length, map, replicate, Some, None, refl, sym, ap, subst, ◌∙◌, arith, All, AllByRecursion, find, little_bytes, Pv, PartCode, PartKey, Part, GuestOf, IsFormed, IsTop, width_of, part_cmp, code_number, parts_of, put_part, p2m_key, p2m_body, key_of, vcpu_codes, IsRecordBody, SayAll, bodies_by_shape, contents_by_shape, part_body, parts_at, shape_of, ◌==◌, eqb-true, eq-eqb, All-nil, All-cons, VcpuBasic, VcpuExtended, VcpuXsave, VcpuMsrs, part_exact, of_part, canonical_bodies_say, top_limit, find-where_key, P2mFrames, set_p2m, Shape, Table, Single, Named, Chain, Other, le-leb, IsPvInfo, IsP2m, p2m_count, greater, listed_over}
 use Rattle.mig_canon.proofs.CanonParts.{le32_first, le32_second}
 use Rattle.mig_canon.proofs.CanonMaps.{found_holds}
 use Rattle.std.specs.FinMap as maps

@@ -1,9 +1,6 @@
 -- How records, tables and the whole stream are spelled, piece by piece.
-use Rattle.mig_canon.proofs.Common.{◌≡◌, ℕ, suc, ◌+◌, ◌-◌, ◌<◌, List, [], ◌∷◌, ◌++◌, length, replicate, map, Bool, true, false, refl, sym, ap, subst, ◌∙◌, arith, length-append, append_assoc, length-replicate, flat_map, padding_len, Part, code_number, shape_of, parts_at, part_body, bodies_by_shape, head_of, Record, records_of, records_in_order, frames_in, batches, frame_bodies, static_bodies, info_records, p2m_records, pv_last_codes, last_records, text_of, headers, piece, little_bytes, Pv, GuestOf, PartCode, Layout, Shape, Table, Single, Named, Chain, Other, table_text, record_text, text_one, text_join}
-use Rattle.std.proofs.lemmas.List.{replicate-append-replicate}
+use Rattle.mig_canon.proofs.Common.{◌≡◌, ℕ, suc, ◌+◌, ◌-◌, ◌<◌, List, [], ◌∷◌, ◌++◌, length, replicate, map, Bool, true, false, refl, sym, ap, subst, ◌∙◌, arith, length-append, append_assoc, length-replicate, flat_map, padding_len, Part, code_number, shape_of, parts_at, part_body, bodies_by_shape, head_of, Record, records_of, records_in_order, frames_in, batches, frame_bodies, static_bodies, info_records, p2m_records, pv_last_codes, last_records, text_of, headers, piece, little_bytes, Pv, GuestOf, PartCode, Layout, Shape, Table, Single, Named, Chain, Other, table_text, record_text, text_one, text_join, replicate-append-replicate, length-bytes_low_first, front_text, entries_text}
 use Rattle.mig_canon.specs.Canon.{all_vcpus, canon}
-use Rattle.byteorder.specs.Numbers.{length-bytes_low_first}
-use Rattle.mig_records.specs.Layouts.{front_text, entries_text}
 use Rattle.mig_records.specs.Records.{spelled}
 
 -- ---- the records of a code

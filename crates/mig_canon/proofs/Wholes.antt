@@ -1,8 +1,5 @@
 -- What a well formed guest says of its parts, code by code.
-use Rattle.mig_canon.proofs.Common.{◌≡◌, ℕ, zero, suc, ◌+◌, ◌*◌, ◌<◌, ◌≤◌, ◌^◌, List, [], ◌∷◌, length, map, true, Option, Some, None, refl, sym, ap, subst, ◌∙◌, arith, All, Part, parts_of, parts_after, shape_of, parts_at, part_body, bodies_by_shape, contents_by_shape, IsShaped, SayAll, IsShortPart, ◌==◌, eqb-true, All-nil, All-cons, All-head, is_lt, PartCode, PartKey, part_cmp, GuestOf, Layout, Shape, Table, Single, Named, Chain, Other, table_text, canonical_bodies_say, IsFormed}
-use Rattle.mig_records.specs.Shapes.{IsRow}
-use Rattle.std.proofs.lemmas.List.Elements.{All-filter, filter_passes}
-use Rattle.mig_records.specs.Layouts.{AreWidths, entry_width, front_width}
+use Rattle.mig_canon.proofs.Common.{◌≡◌, ℕ, zero, suc, ◌+◌, ◌*◌, ◌<◌, ◌≤◌, ◌^◌, List, [], ◌∷◌, length, map, true, Option, Some, None, refl, sym, ap, subst, ◌∙◌, arith, All, Part, parts_of, parts_after, shape_of, parts_at, part_body, bodies_by_shape, contents_by_shape, IsShaped, SayAll, IsShortPart, ◌==◌, eqb-true, All-nil, All-cons, All-head, is_lt, PartCode, PartKey, part_cmp, GuestOf, Layout, Shape, Table, Single, Named, Chain, Other, table_text, canonical_bodies_say, IsFormed, IsRow, All-filter, filter_passes, AreWidths, entry_width, front_width}
 use Rattle.mig_records.proofs.Rows.{all_rows}
 use Rattle.mig_records.proofs.TableSpelled.{table_len}
 

@@ -1,9 +1,6 @@
 -- Guests that a bare image carries.
 use Rattle.std.specs.Prelude.{◌≡◌}
-use Rattle.mig_guest.specs.Guests.{GuestOf}
-use Rattle.mig_guest.specs.Formed.{HasNoEmulators}
-use Rattle.mig_pvtables.specs.Blank.{blank}
-use Rattle.mig_pvtables.specs.Whole.{IsWhole}
+use Rattle.mig_canon.specs.Common.{GuestOf, HasNoEmulators, blank, IsWhole}
 
 -- a whole guest in its blank form without an emulator's parts
 pub record IsBare (g : GuestOf) : Type 0 where

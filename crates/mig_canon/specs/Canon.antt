@@ -1,22 +1,14 @@
 -- The canonical stream of a guest: stated records in a stated order, keys ascending, all that a reader ignores zero.
 -- It has no record of an emulator's parts.
 use Rattle.std.specs.Prelude.{ℕ, ◌*◌, List, [], ◌∷◌, ◌++◌, length, take, drop, map, replicate, Option, Some, None}
-use Rattle.byteorder.specs.Endian.{little_bytes}
+use Rattle.mig_canon.specs.Common.{little_bytes, Kind, image_header_of, domain_header_of, GuestOf, PartKey, code_number, canonical_bodies, part_body, parts_at, shape_of, Record, text_of, Frame, most_entries, body_of}
 use Rattle.std.specs.Int.{div_ceil}
 use Rattle.std.specs.List.{flat_map, range_with_len}
 use Rattle.std.specs.FinMap as maps
-use Rattle.mig_headers.specs.declared.kind.Kind.{Kind}
 use Rattle.mig_headers.specs.declared.kind.Kind.TheVariants.{Pv, Hvm}
-use Rattle.mig_headers.specs.Headers.{image_header_of, domain_header_of}
-use Rattle.mig_guest.specs.Guests.{GuestOf}
 use Rattle.mig_guest.specs.declared.part_code.PartCode.{PartCode}
 use Rattle.mig_guest.specs.declared.part_code.PartCode.TheVariants.{VcpuBasic, VcpuExtended, VcpuXsave, SharedInfo, Tsc, HvmContext, HvmParam, VcpuMsrs, CpuidLeaf, Msr}
-use Rattle.mig_guest.specs.declared.part_key.PartKey.{PartKey}
-use Rattle.mig_guest.specs.PartCodes.{code_number}
 use Rattle.mig_guest.specs.PartKeys.{p2m_key}
-use Rattle.mig_records.specs.Shapes.{canonical_bodies, part_body, parts_at, shape_of}
-use Rattle.mig_records.specs.Records.{Record, text_of}
-use Rattle.mig_records_pages.specs.PageData.{Frame, most_entries, body_of}
 
 -- ---- frames: as many in each record as one may have, and the rest in the last
 

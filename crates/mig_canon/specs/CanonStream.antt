@@ -6,13 +6,7 @@ use Rattle.std.specs.Ordering.{nat_cmp, on, then_cmp}
 use Rattle.std.specs.declared.cmp.Ordering.{Ordering}
 use Rattle.std.specs.FinMap as maps
 use Rattle.std.specs.FinMap.{is_sorted}
-use Rattle.byteorder.specs.Endian.{little_bytes}
-use Rattle.mig_headers.specs.Headers.{libxl_header_of}
-use Rattle.mig_guest.specs.declared.part_key.PartKey.{PartKey}
-use Rattle.mig_guest.specs.Formed.{is_emulator_code}
-use Rattle.mig_guest.specs.Guests.{GuestOf}
-use Rattle.mig_guest.specs.Parts.{Part, PartMap, parts_after}
-use Rattle.mig_records.specs.Records.{spelled}
+use Rattle.mig_canon.specs.Common.{little_bytes, libxl_header_of, PartKey, is_emulator_code, GuestOf, Part, PartMap, parts_after, spelled}
 use Rattle.mig_canon.specs.Canon.{canon}
 
 -- some part is an emulator's

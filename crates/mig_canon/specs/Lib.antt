@@ -1,3 +1,4 @@
+mod Common
 pub mod Canon
 pub mod CanonStream
 pub mod Pieces

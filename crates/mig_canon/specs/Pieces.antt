@@ -1,12 +1,8 @@
 -- How parts of one code are written, one after another: each an entry of their table, or a record.
 use Rattle.std.specs.Prelude.{◌≤◌, ℕ, List, [], length, ⊤}
-use Rattle.mig_headers.specs.RecordTypes.{most_body}
-use Rattle.mig_guest.specs.Parts.{Part}
+use Rattle.mig_canon.specs.Common.{most_body, Part, entry_text, part_body, spelled}
 use Rattle.mig_records.specs.declared.shape.Shape.{Shape}
 use Rattle.mig_records.specs.declared.shape.Shape.TheVariants.{Table, Other}
-use Rattle.mig_records.specs.Layouts.{entry_text}
-use Rattle.mig_records.specs.Shapes.{part_body}
-use Rattle.mig_records.specs.Records.{spelled}
 
 abbrev pub piece : Shape → ℕ → Part → List ℕ
 piece (Table l) type p = entry_text l p

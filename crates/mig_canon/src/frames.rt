@@ -1,6 +1,4 @@
-ghost use Rattle.mig_bytes.specs.Bytes.{Puts};
-ghost use Rattle.mig_bytes.specs.Faults.{FaultHasCause};
-ghost use Rattle.mig_records.specs.Records.{text_of};
+ghost use Rattle.mig_canon.specs.Common.{Puts, FaultHasCause, text_of};
 ghost use Rattle.mig_canon.specs.Canon.{frame_bodies, batches, frames_in};
 
 use mig_bytes::{Sink, WriteFailed};

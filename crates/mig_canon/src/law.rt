@@ -1,8 +1,5 @@
 ghost use Rattle.std.specs.Prelude.{ℕ, List, ◌++◌};
-ghost use Rattle.mig_guest.specs.Guests.{GuestOf};
-ghost use Rattle.mig_guest.specs.Formed.{IsFormed, HasNoEmulators};
-ghost use Rattle.mig_pvtables.specs.Blank.{blank};
-ghost use Rattle.mig_records_pages.specs.PageData.{Frame};
+ghost use Rattle.mig_canon.specs.Common.{GuestOf, IsFormed, HasNoEmulators, blank, Frame};
 ghost use Rattle.mig_canon.specs.Canon.{canon};
 ghost use Rattle.mig_restore_form.specs.Spelled.{Accepted, IsComplete};
 ghost use Rattle.mig_canon.specs.Bare.{IsBare};

@@ -1,15 +1,7 @@
 ghost use Rattle.std.specs.Prelude.{◌≡◌, ◌+◌, ◌≤◌, ◌<◌, ◌^◌, length, ◌++◌, replicate};
 ghost use Rattle.std.specs.List.{flat_map};
-ghost use Rattle.byteorder.specs.Endian.{little_bytes};
-ghost use Rattle.mig_bytes.specs.Bytes.{Puts};
-ghost use Rattle.mig_bytes.specs.Faults.{FaultHasCause};
-ghost use Rattle.mig_headers.specs.RecordTypes.{most_body};
-ghost use Rattle.mig_guest.specs.Formed.{IsFormed};
-ghost use Rattle.mig_records.specs.Records.{spelled, text_of};
-ghost use Rattle.mig_guest.specs.PartCodes.{code_number};
+ghost use Rattle.mig_canon.specs.Common.{little_bytes, Puts, FaultHasCause, most_body, IsFormed, spelled, text_of, code_number, front_text, shape_of, parts_at, IsRow};
 ghost use Rattle.mig_records.specs.declared.shape.Shape.TheVariants as shapes;
-ghost use Rattle.mig_records.specs.Layouts.{front_text};
-ghost use Rattle.mig_records.specs.Shapes.{shape_of, parts_at, IsRow};
 ghost use Rattle.mig_canon.specs.Canon.{records_of};
 ghost use Rattle.mig_canon.specs.Pieces.{piece, IsShortPart};
 

@@ -1,9 +1,5 @@
 ghost use Rattle.std.specs.Prelude.{◌≡◌, ◌+◌, ◌≤◌, ◌^◌, length};
-ghost use Rattle.mig_bytes.specs.Bytes.{Puts};
-ghost use Rattle.mig_bytes.specs.Faults.{FaultHasCause};
-ghost use Rattle.mig_records.specs.Shapes.{shape_of, of_vcpu};
-ghost use Rattle.mig_guest.specs.Formed.{IsFormed};
-ghost use Rattle.mig_records.specs.Records.{spelled, text_of};
+ghost use Rattle.mig_canon.specs.Common.{Puts, FaultHasCause, shape_of, of_vcpu, IsFormed, spelled, text_of};
 ghost use Rattle.mig_canon.specs.Canon.{info_records, p2m_body, p2m_records, vcpu_record, records_of_vcpu, all_vcpus};
 
 use crate::parts::write_piece;

@@ -1,10 +1,6 @@
-ghost use Rattle.mig_bytes.specs.Bytes.{Puts};
-ghost use Rattle.mig_bytes.specs.Faults.{FaultHasCause};
-ghost use Rattle.mig_guest.specs.Formed.{IsFormed};
-ghost use Rattle.mig_pvtables.specs.Whole.{IsWhole};
+ghost use Rattle.mig_canon.specs.Common.{Puts, FaultHasCause, IsFormed, IsWhole, text_of};
 ghost use Rattle.std.specs.List.{flat_map};
 ghost use Rattle.mig_canon.specs.Canon.{headers, records_of, static_bodies, last_records, canon};
-ghost use Rattle.mig_records.specs.Records.{text_of};
 
 use crate::frames::write_frames;
 use crate::parts::write_parts;

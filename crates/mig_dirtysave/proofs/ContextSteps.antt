@@ -1,12 +1,7 @@
 -- Contexts that are judged and renamed one after another.
-use Rattle.mig_dirtysave.proofs.Common.{◌≡◌, ℕ, List, [], ◌∷◌, map, Bool, true, false, cond, Option, Some, None, refl, sym, ap, subst, ◌∙◌, ◌==◌, IfSome, find, option_map, option_or, PartKey, part_cmp, Part, PartMap, parts_after, part_exact, part_total, each_value, only, first_some, field_numbers, in_fields}
-use Rattle.std.proofs.Common.{filter}
-use Rattle.std.specs.Ordering.{is_lt, eq_by_cmp}
-use Rattle.mig_guest.specs.Parts.{parts_of}
+use Rattle.mig_dirtysave.proofs.Common.{◌≡◌, ℕ, List, [], ◌∷◌, map, Bool, true, false, cond, Option, Some, None, refl, sym, ap, subst, ◌∙◌, ◌==◌, IfSome, find, option_map, option_or, PartKey, part_cmp, Part, PartMap, parts_after, part_exact, part_total, each_value, only, first_some, field_numbers, in_fields, filter, is_lt, eq_by_cmp, parts_of, entries_each, context_there}
 use Rattle.mig_guest.proofs.KeyedMaps.{shown, tied, kept_shown}
 use Rattle.mig_guest.proofs.PartCursor.{not_itself}
-use Rattle.mig_pvtables.proofs.EachValue.{entries_each}
-use Rattle.mig_pvtables.proofs.Walks.{context_there}
 use Rattle.std.specs.FinMap as maps
 
 -- ---- contexts one after another

@@ -1,12 +1,5 @@
 -- How a save ends, by the answer of the step that ended it.
-use Rattle.mig_dirtysave.proofs.Common.{◌≡◌, ℕ, ◌≤◌, List, Option, Some, true, sym, ap, subst, ◌∙◌, arith, Result, Ok, Err, length, length-map, HostOf, MachineState, Unsound, UnsoundHas, is_of_no_type, unsoundness, entries_read, FrameTold, all_told, FramesSaved, KeepsShape, OnlyLooksUp, IsLittleBehind, IsTrusted}
-use Rattle.std.specs.Prelude.{IsErrAnd}
-use Rattle.mig_guest.specs.History.{no_history}
-use Rattle.mig_guest.specs.MachineStates.{IsSameShape}
-use Rattle.mig_guest.specs.Rounds.{all_read}
-use Rattle.mig_dirtysave_rounds.specs.Live.{HasRounds}
-use Rattle.mig_dirtysave.specs.SaveAnswers.{IfUnsound, LeavesNoStream, PausesMachine, SaveEnds}
-use Rattle.mig_dirtysave.specs.declared.answer.SaveAnswer.{SaveAnswer}
+use Rattle.mig_dirtysave.proofs.Common.{◌≡◌, ℕ, ◌≤◌, List, Option, Some, true, sym, ap, subst, ◌∙◌, arith, Result, Ok, Err, length, length-map, HostOf, MachineState, Unsound, UnsoundHas, is_of_no_type, unsoundness, entries_read, FrameTold, all_told, FramesSaved, KeepsShape, OnlyLooksUp, IsLittleBehind, IsTrusted, IsErrAnd, no_history, IsSameShape, all_read, HasRounds, IfUnsound, LeavesNoStream, PausesMachine, SaveEnds, SaveAnswer}
 use Rattle.mig_dirtysave.specs.declared.answer.SaveAnswer.TheVariants as answers
 use Rattle.mig_dirtysave.specs.declared.answer.SaveReport.{SaveReport}
 use Rattle.mig_dirtysave.proofs.Ends.{Stopped, nothing_read, stopped_behind, stopped_no_stream}

@@ -1,16 +1,7 @@
 -- What a save has written where it stopped early.
-use Rattle.mig_dirtysave.proofs.Common.{◌≡◌, ℕ, ◌+◌, ◌≤◌, Bool, true, false, List, [], ◌∷◌, ◌++◌, length, take, map, Option, refl, sym, ap, subst, ◌∙◌, arith, append_assoc, append-nil, inl, inr, AllByRecursion, Appends, append_known, Appends-trans, AppendsPart, Kind, Unsound, IsFormed, GuestOf, PartMap, spelled, Record, text_of, headers, text_join, text_one, has_emulators, opening_text, wrapper_opening, wrapper_closing, FrameTold, telling_record, all_told, WroteAll, WroteSome, IsRecordWithin, AreRecordsWithin, History, MachineState, entries_read, FramesSaved, text_before, ClosesStream, WroteNoStream, first_records, first_within, some_records, part_behind, IsLittleBehind}
-use Rattle.mig_canon.specs.CanonStream.{is_of_converter}
-use Rattle.mig_libxl.proofs.Around.{opening_none, opening_some}
-use Rattle.mig_records_pages.specs.Batches.{IsBehind}
-use Rattle.mig_records_pages.proofs.Written.{all_behind, some_behind}
-use Rattle.mig_guest.specs.History.{no_history}
+use Rattle.mig_dirtysave.proofs.Common.{◌≡◌, ℕ, ◌+◌, ◌≤◌, Bool, true, false, List, [], ◌∷◌, ◌++◌, length, take, map, Option, refl, sym, ap, subst, ◌∙◌, arith, append_assoc, append-nil, inl, inr, AllByRecursion, Appends, append_known, Appends-trans, AppendsPart, Kind, Unsound, IsFormed, GuestOf, PartMap, spelled, Record, text_of, headers, text_join, text_one, has_emulators, opening_text, wrapper_opening, wrapper_closing, FrameTold, telling_record, all_told, WroteAll, WroteSome, IsRecordWithin, AreRecordsWithin, History, MachineState, entries_read, FramesSaved, text_before, ClosesStream, WroteNoStream, first_records, first_within, some_records, part_behind, IsLittleBehind, is_of_converter, opening_none, opening_some, IsBehind, all_behind, some_behind, no_history, StopsBehind, are_within, appends_first, WroteMost}
 use Rattle.mig_dirtysave_rounds.proofs.Saves.{size_none}
-use Rattle.mig_dirtysave_parts.specs.SaveTexts.{StopsBehind}
 use Rattle.mig_dirtysave.proofs.Written.{bare_headers, bare_some, wrapped_behind, wrapped_headers, wrapped_opening, wrapped_some}
-use Rattle.mig_dirtysave_parts.proofs.Codes.{are_within}
-use Rattle.mig_dirtysave_parts.proofs.Texts.{appends_first}
-use Rattle.mig_dirtysave.specs.SaveAnswers.{WroteMost}
 use Rattle.mig_dirtysave.proofs.Wrappers.{closing_cut}
 
 -- the headers of an image were written, records, some of which are those of batches, and a part of one more, perhaps none; of

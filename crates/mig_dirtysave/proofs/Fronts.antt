@@ -1,14 +1,9 @@
 -- The first 8 bytes of a record fix its type and its length, so records read one after another can be told in one way.
-use Rattle.mig_dirtysave.proofs.Common.{◌≡◌, ℕ, ◌+◌, List, [], ◌∷◌, ◌++◌, length, take, drop, true, false, refl, sym, ap, ◌∙◌, arith, append_assoc, append-nil, length-append, take-append-drop, length-take, AllByRecursion, list_any, or_parts, padding_len, IsRecord, Record, AreRecords, HaveNoEnd}
+use Rattle.mig_dirtysave.proofs.Common.{◌≡◌, ℕ, ◌+◌, List, [], ◌∷◌, ◌++◌, length, take, drop, true, false, refl, sym, ap, ◌∙◌, arith, append_assoc, append-nil, length-append, take-append-drop, length-take, AllByRecursion, list_any, or_parts, padding_len, IsRecord, Record, AreRecords, HaveNoEnd, length-drop, drop-append-le, eqb-false, little_number, little_from-append, IsCutRecord}
 use Rattle.std.proofs.Common.{◌≢◌, ◌==◌}
-use Rattle.std.proofs.lemmas.List.{length-drop, drop-append-le}
 use Rattle.std.proofs.Math.Seq.{take-append_seam, drop-append_seam}
 use Rattle.std.proofs.lemmas.Grind.{common_steps}
-use Rattle.std.proofs.lemmas.Bool.{eqb-false}
-use Rattle.byteorder.specs.Endian.{little_number}
-use Rattle.byteorder.specs.Numbers.{little_from-append}
 use Rattle.mig_bytes.specs.Fields.{le32}
-use Rattle.mig_dirtysave.specs.Unended.{IsCutRecord}
 
 pub type_front : (head more : List ℕ) → length head ≡ 8 → le32 (head ++ more) 0 ≡ le32 head 0
 unfolding le32

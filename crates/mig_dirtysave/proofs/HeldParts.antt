@@ -1,14 +1,7 @@
 -- The parts that a guest holds of a host, brought to those of the guest that the host is seen as.
-use Rattle.mig_dirtysave.proofs.Common.{◌≡◌, ℕ, List, length, Bool, true, false, cond, Option, Some, None, refl, sym, ap, subst, ◌∙◌, ◌==◌, IsSome, IfSome, is_some, option_map, and_parts, eqb-true, Kind, Pv, PartKey, GuestOf, HostOf, IsValid, pfn_in, part_cmp, row_of, PartMap, length_longs, part_exact, part_total, one_code, each_value, blanked_part, only, is_used_somewhere, get_each, stays_each, normalised_of, guest_in, view, with_view}
-use Rattle.mig_guest.specs.declared.part_code.PartCode.TheVariants.{SharedInfo}
-use Rattle.mig_guest.specs.PartKeys.{shared_key}
-use Rattle.mig_pvtables.specs.BlankSteps.{blanked_code}
-use Rattle.mig_pvtables.specs.VcpuContexts.{blanked_context, blanked_shared}
+use Rattle.mig_dirtysave.proofs.Common.{◌≡◌, ℕ, List, length, Bool, true, false, cond, Option, Some, None, refl, sym, ap, subst, ◌∙◌, ◌==◌, IsSome, IfSome, is_some, option_map, and_parts, eqb-true, Kind, Pv, PartKey, GuestOf, HostOf, IsValid, pfn_in, part_cmp, row_of, PartMap, length_longs, part_exact, part_total, one_code, each_value, blanked_part, only, is_used_somewhere, get_each, stays_each, normalised_of, guest_in, view, with_view, SharedInfo, shared_key, blanked_code, blanked_context, blanked_shared, some_each, renamed_part, HoldsOf, with_names}
 use Rattle.mig_pvtables.proofs.BlankGuests.{HasSolePage, HasLongPage, page_still, parts_blanked}
-use Rattle.mig_pvtables.proofs.EachValue.{some_each}
-use Rattle.mig_host_view.specs.Localised.{renamed_part}
 use Rattle.mig_host_view.proofs.LocalisedGuests.{from_context}
-use Rattle.mig_dirtysave.specs.Paused.{HoldsOf, with_names}
 use Rattle.std.specs.FinMap as maps
 
 -- ---- a host's shared page

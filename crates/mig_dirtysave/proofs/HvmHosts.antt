@@ -1,6 +1,5 @@
 -- The frames of an HVM host are sent as they are, and are those of its view.
-use Rattle.mig_dirtysave.proofs.Common.{◌≡◌, true, None, ap, subst, nat_cmp_total, nat_cmp-IsAntisymmetric, Hvm, level_of, FrameOf, is_type_of, HostOf, HostFrame, IsValid, same_each, hvm_view, without_machine, footprint_of, names_in, table_in, form_page, form_of_print, forms}
-use Rattle.mig_dirtysave_parts.proofs.Rows.{no_level}
+use Rattle.mig_dirtysave.proofs.Common.{◌≡◌, true, None, ap, subst, nat_cmp_total, nat_cmp-IsAntisymmetric, Hvm, level_of, FrameOf, is_type_of, HostOf, HostFrame, IsValid, same_each, hvm_view, without_machine, footprint_of, names_in, table_in, form_page, form_of_print, forms, no_level}
 
 module _ (h : HostOf) (valid : IsValid h) (hvm : h.kind ≡ Hvm) where
   plain : (frame : HostFrame) → level_of frame.type ≡ None → form_of_print (footprint_of h.frames frame) ≡ without_machine frame

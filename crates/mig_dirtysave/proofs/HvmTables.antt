@@ -1,7 +1,6 @@
 -- What is found in the tables of a valid HVM host while it is read: nothing, since it has none.
-use Rattle.mig_dirtysave.proofs.Common.{Unsound, HostOf, HostFrame, IsValid, footprint_of, footprint, table_in, superpage_in, superpage_slot, lost_in, lost_slot, IsUnsound}
+use Rattle.mig_dirtysave.proofs.Common.{Unsound, HostOf, HostFrame, IsValid, footprint_of, footprint, table_in, superpage_in, superpage_slot, lost_in, lost_slot, IsUnsound, no_level, hvm_type}
 use Rattle.mig_host_view.proofs.Common.{◌≡◌, ℕ, Option, Some, None, refl, sym, ap, ◌∙◌, option_map, Hvm}
-use Rattle.mig_dirtysave_parts.proofs.Rows.{no_level, hvm_type}
 use Rattle.std.specs.FinMap as maps
 use Rattle.mig_headers.specs.declared.unsound.Unsound.TheVariants as unsounds
 

@@ -1,13 +1,11 @@
 -- An image without its END is no image, and begins with none.
-use Rattle.mig_dirtysave.proofs.Common.{◌==◌, ◌||◌, list_any, eqb-true, ◌≡◌, ℕ, ◌≤◌, List, [], ◌∷◌, ◌++◌, length, refl, sym, ap, subst, ◌∙◌, arith, append_assoc, length-append, map-append, Spells, no_part, one_more, marker, IsRecord, IsImage, IsUnendedImage, IsUnclosedImage}
+use Rattle.mig_dirtysave.proofs.Common.{◌==◌, ◌||◌, list_any, eqb-true, ◌≡◌, ℕ, ◌≤◌, List, [], ◌∷◌, ◌++◌, length, refl, sym, ap, subst, ◌∙◌, arith, append_assoc, length-append, map-append, Spells, no_part, one_more, marker, IsRecord, IsImage, IsUnendedImage, IsUnclosedImage, big_from-append, Follows}
 use mathlib.Core.Logic.{inl, inr}
 use Rattle.std.specs.Prelude.{Bool, true, false}
 use Rattle.std.proofs.lemmas.List.Folds.{list_any-append}
 use Rattle.mig_bytes.specs.Fields.{be64}
-use Rattle.byteorder.specs.Numbers.{big_from-append}
 use Rattle.mig_restore_form.specs.Record.{StreamRecord, types_of, is_ended}
 use Rattle.mig_restore_form.specs.Judging.{Opening}
-use Rattle.mig_restore_form.specs.Spelled.{Follows}
 use Rattle.mig_dirtysave.proofs.Fronts.{AreTyped, HaveNoZero, typed_more, no_end_in_front, no_zero, ends_together, same_cut}
 
 spelled_typed : (o : Opening) (bytes : List ℕ) (records : List StreamRecord) → Spells (Follows o) bytes records → AreTyped (types_of records) bytes

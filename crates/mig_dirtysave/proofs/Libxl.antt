@@ -1,19 +1,15 @@
 -- A libxl stream without its outermost END is no accepted stream, and begins with none.
-use Rattle.mig_dirtysave.proofs.Common.{◌==◌, ◌||◌, ◌≡◌, ℕ, ◌≤◌, List, [], ◌∷◌, ◌++◌, length, map, Some, None, refl, sym, ap, subst, ◌∙◌, arith, append_assoc, append-nil, length-append, list_any, option_or, map-append, Spells, no_part, one_more, marker, IsRecord, IsImage, IsUnendedImage, IsUnclosedImage, IsUnended, HasNoStream}
+use Rattle.mig_dirtysave.proofs.Common.{◌==◌, ◌||◌, ◌≡◌, ℕ, ◌≤◌, List, [], ◌∷◌, ◌++◌, length, map, Some, None, refl, sym, ap, subst, ◌∙◌, arith, append_assoc, append-nil, length-append, list_any, option_or, map-append, Spells, no_part, one_more, marker, IsRecord, IsImage, IsUnendedImage, IsUnclosedImage, IsUnended, HasNoStream, ⊎_elim, libxl_ident, IsLibxlRecord, FollowsLibxl, IsWrapped, IsStream, IsCutLibxl}
 use Rattle.std.specs.Prelude.{◌⊎◌, true, false, nat_eq}
 use mathlib.Core.Logic.{inl, inr}
-use Rattle.std.proofs.Common.{⊎_elim}
 use Rattle.mig_bytes.specs.Fields.{be64}
-use Rattle.mig_headers.specs.Headers.{libxl_ident}
 use Rattle.mig_restore_form.specs.Stream.{ImageOf}
 use Rattle.mig_libxl_form.specs.Content.{LibxlRecord}
 use Rattle.mig_libxl_form.specs.Among.{is_libxl_ended, image_in, image_among}
-use Rattle.mig_libxl_form.specs.Spelled.{IsLibxlRecord, FollowsLibxl, IsWrapped, IsStream}
 use Rattle.mig_libxl_form.specs.Spelled.IsLibxlRecord.{image as an_image, body as a_body}
 use Rattle.mig_libxl_form.specs.Stream.{StreamOf}
 use Rattle.mig_libxl_form.specs.Stream.StreamOf.{Bare, Wrapped}
 use Rattle.mig_libxl_form.proofs.Bodies.{has_no_image}
-use Rattle.mig_dirtysave.specs.Unended.{IsCutLibxl}
 use Rattle.mig_dirtysave.proofs.Fronts.{AreTyped, typed_more, no_end_in_front, same_cut, same_record, record_len}
 use Rattle.mig_dirtysave.proofs.Images.{first_number, image_len, image_marked, no_image, longer, same_behind}
 

@@ -1,14 +1,6 @@
 -- What stays of a paused machine while machine frames are looked up: its host, and what a history says of rounds and reads.
-use Rattle.mig_dirtysave.proofs.Common.{◌≡◌, ℕ, ◌+◌, ◌≤◌, List, [], ◌∷◌, ◌++◌, length, take, get_or, Option, Some, None, map, refl, sym, ap, subst, ◌∙◌, arith, ◌⊎◌, inl, inr, Result, Ok, Err, get_or_past, length-take, option_map, Kind, PageType, HostOf, HostFrame, IsValid, headers, text_of, telling_record, view, wrapper_opening, wrapper_closing, AcceptedStream, History, MachineState, entries_read, OnlyLooksUp, HasTypes, Unsound, SaveWritten, IsTrusted}
-use Rattle.std.proofs.Common.{min}
-use Rattle.std.proofs.lemmas.Bool.{cases_lt}
-use Rattle.std.proofs.lemmas.List.{get_or-take}
+use Rattle.mig_dirtysave.proofs.Common.{◌≡◌, ℕ, ◌+◌, ◌≤◌, List, [], ◌∷◌, ◌++◌, length, take, get_or, Option, Some, None, map, refl, sym, ap, subst, ◌∙◌, arith, ◌⊎◌, inl, inr, Result, Ok, Err, get_or_past, length-take, option_map, Kind, PageType, HostOf, HostFrame, IsValid, headers, text_of, telling_record, view, wrapper_opening, wrapper_closing, AcceptedStream, History, MachineState, entries_read, OnlyLooksUp, HasTypes, Unsound, SaveWritten, IsTrusted, min, cases_lt, get_or-take, Rounds, Tight, all_read, rounds_read, entries_read_before, HasRounds, ReadsExactly, type_in, IfUnsound, SaveAnswer}
 use Rattle.mig_guest.specs.Pfns.{Pfns, members, size}
-use Rattle.mig_guest.specs.Rounds.{Rounds, Tight, all_read, rounds_read}
-use Rattle.mig_dirtysave_rounds.specs.Parts.{entries_read_before}
-use Rattle.mig_dirtysave_rounds.specs.Live.{HasRounds, ReadsExactly, type_in}
-use Rattle.mig_dirtysave.specs.SaveAnswers.{IfUnsound}
-use Rattle.mig_dirtysave.specs.declared.answer.SaveAnswer.{SaveAnswer}
 use Rattle.std.specs.FinMap as maps
 use Rattle.mig_dirtysave.specs.declared.answer.SaveAnswer.TheVariants as answers
 

@@ -1,17 +1,10 @@
 -- The guest that is sent of a PV host: the view's parts with the frames as they are sent. Its blank form is the view, and it
 -- is complete.
-use Rattle.mig_dirtysave.proofs.Common.{◌≡◌, ℕ, List, length, Option, Some, refl, sym, ap, subst, ◌∙◌, arith, is_some, IsSome, nat_cmp_total, nat_cmp-IsAntisymmetric, Kind, Pv, level_of, part_exact, part_total, Entry, Frame, IsFormed, IsGuestFrame, FrameOf, FrameMap, GuestOf, HostOf, HostFrame, IsValid, pfn_in, p2m_key, each_value, blanked_page, blanked_part, blank, type_at, fits_field, is_used_somewhere, field_value, frame_of_field, IsWhole, same_each, stays_each, normalised_of, IsSound, view, guest_in, top_of, without_machine, viewed_whole, footprint_of, form_of_print, forms}
-use Rattle.mig_guest.specs.Formed.{HasNoEmulators}
-use Rattle.mig_pvtables.specs.Blank.{blanked_frame, blank_of}
-use Rattle.mig_pvtables.specs.P2mFrames.{place_in, place_of}
+use Rattle.mig_dirtysave.proofs.Common.{◌≡◌, ℕ, List, length, Option, Some, refl, sym, ap, subst, ◌∙◌, arith, is_some, IsSome, nat_cmp_total, nat_cmp-IsAntisymmetric, Kind, Pv, level_of, part_exact, part_total, Entry, Frame, IsFormed, IsGuestFrame, FrameOf, FrameMap, GuestOf, HostOf, HostFrame, IsValid, pfn_in, p2m_key, each_value, blanked_page, blanked_part, blank, type_at, fits_field, is_used_somewhere, field_value, frame_of_field, IsWhole, same_each, stays_each, normalised_of, IsSound, view, guest_in, top_of, without_machine, viewed_whole, footprint_of, form_of_print, forms, HasNoEmulators, blanked_frame, blank_of, place_in, place_of, to_each, len_each, each_each, renamed, renamed_frame, viewed_blank, pv_plain}
 use Rattle.mig_pvtables.specs.WholePv.{AreP2mFrames, IsCompletePv}
 use Rattle.mig_pvtables.proofs.BlankShape.{table_unlisted, entries_back, type_there, frame_there}
-use Rattle.mig_pvtables.proofs.EachValue.{to_each, len_each, each_each}
 use Rattle.mig_pvtables.proofs.PvGuests.{pv_complete}
 use Rattle.mig_pvtables.proofs.SameShape.{kept_p2m}
-use Rattle.mig_host_view.specs.Localised.{renamed, renamed_frame}
-use Rattle.mig_host_view.proofs.ViewedGuests.{viewed_blank}
-use Rattle.mig_libxl.proofs.Canon.{pv_plain}
 use Rattle.mig_dirtysave.proofs.Tables.{same_page}
 use Rattle.std.specs.FinMap as maps
 

@@ -1,16 +1,8 @@
 -- What is found in a PV host at the pause and doesn't speak of types stands in the host, over any machine.
-use Rattle.mig_dirtysave.proofs.Common.{◌⊎◌, inl, inr, get_or, Unsound, HostOf, IsValid, pfn_in, is_unknown, find_gdt, unsoundness, IsUnsound, Standing, is_of_no_type, row_1, row_2, row_5, row_6, row_7, UnsoundHas, standing_seen, first_around, most_gdt_entries}
+use Rattle.mig_dirtysave.proofs.Common.{◌⊎◌, inl, inr, get_or, Unsound, HostOf, IsValid, pfn_in, is_unknown, find_gdt, unsoundness, IsUnsound, Standing, is_of_no_type, row_1, row_2, row_5, row_6, row_7, UnsoundHas, standing_seen, first_around, most_gdt_entries, ltb-false, first_found, all_none, none_mapped, cond_none, slot_found, in_host, first_row, IsWrong, NamesFirstRow, unsoundness_named, row_stands}
 use Rattle.mig_pvtables.proofs.Common.{◌≡◌, ℕ, ◌+◌, ◌*◌, ◌≤◌, List, [], ◌∷◌, Bool, true, cond, Option, Some, None, refl, sym, ap, subst, ◌∙◌, ◌==◌, ◌&&◌, option_or, nat_lt, eq-eqb, part_total, part_exact, PageType, gdt_ents, PartKey, NotPresent, Superpage, Frame, Pv, first_cause, is_superpage}
-use Rattle.std.proofs.lemmas.Bool.{ltb-false}
-use Rattle.mig_pvtables.proofs.Searches.{first_found, all_none, none_mapped, cond_none}
-use Rattle.mig_pvtables.proofs.Slots.{slot_found}
-use Rattle.mig_host_laws.specs.Standing.{in_host}
-use Rattle.mig_host_laws.specs.FirstRow.{first_row}
-use Rattle.mig_host_laws.specs.Unsoundness.{IsWrong, NamesFirstRow}
 use Rattle.mig_host_laws.specs.Unsoundness.IsWrong.{no_context, no_p2m, no_shared, no_vcpu, other_type, listed_twice, large, nameless, many_descriptors, field_ill, bad_context}
-use Rattle.mig_host_laws.proofs.Instances.{unsoundness_named}
 use Rattle.mig_host_laws.proofs.Rows.{first_row_named, large_is, unknown_is}
-use Rattle.mig_host_laws.proofs.Savers.{row_stands}
 use Rattle.mig_dirtysave.proofs.SeenRows.{no_row_7}
 use Rattle.mig_dirtysave.proofs.TableRows.{super_there, lost_there}
 use Rattle.std.specs.FinMap as maps

@@ -1,8 +1,7 @@
 -- The records around the frames say nothing of the frames.
-use Rattle.mig_dirtysave.proofs.Common.{◌≡◌, ℕ, List, [], ◌∷◌, ◌++◌, refl, sym, ap, ◌∙◌, Kind, Pv, Hvm, FrameMap, GuestOf, headers, info_records, static_bodies, p2m_records, text_of, batch_records, batched}
+use Rattle.mig_dirtysave.proofs.Common.{◌≡◌, ℕ, List, [], ◌∷◌, ◌++◌, refl, sym, ap, ◌∙◌, Kind, Pv, Hvm, FrameMap, GuestOf, headers, info_records, static_bodies, p2m_records, text_of, batch_records, batched, batched_bodies}
 use Rattle.mig_records_pages.specs.PageData.{Frame}
 use Rattle.mig_canon.specs.Canon.{records_in_order, pv_last_codes, vcpus_below, all_vcpus}
-use Rattle.mig_canon.specs.Batched.{batched_bodies}
 
 module _ (g : GuestOf) (frames : FrameMap) (batches : List (List Frame)) where
   -- the guest with other frames

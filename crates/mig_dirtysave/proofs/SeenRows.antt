@@ -1,16 +1,7 @@
 -- The rows of a PV host as a saver finds them: those that speak of contexts need no other parts, and the last stands in none.
-use Rattle.mig_dirtysave.proofs.Common.{◌≡◌, ℕ, List, [], ◌∷◌, length, Bool, true, false, cond, Option, Some, None, refl, sym, ap, subst, ◌∙◌, ◌==◌, ◌&&◌, is_some, option_and_then, Result, Ok, Err, option_map, option_or, nat_cmp_total, nat_cmp-IsAntisymmetric, eqb-true, Kind, Pv, Unsound, PageType, PartKey, HvmContext, gdt_ents, HostOf, HostFrame, IsValid, row_of, p2m_key, Part, PartMap, one_code, first_some, first_cause, type_at, get_each, in_fields, in_contexts, contexts_start, find_gdt, fault_in, unsoundness, guest_in, without_machine, scan, row_1, row_2, row_5, row_6, row_7, Standing, types_seen, standing_seen, HasTypes, first_in_tables, first_around, most_gdt_entries}
+use Rattle.mig_dirtysave.proofs.Common.{◌≡◌, ℕ, List, [], ◌∷◌, length, Bool, true, false, cond, Option, Some, None, refl, sym, ap, subst, ◌∙◌, ◌==◌, ◌&&◌, is_some, option_and_then, Result, Ok, Err, option_map, option_or, nat_cmp_total, nat_cmp-IsAntisymmetric, eqb-true, Kind, Pv, Unsound, PageType, PartKey, HvmContext, gdt_ents, HostOf, HostFrame, IsValid, row_of, p2m_key, Part, PartMap, one_code, first_some, first_cause, type_at, get_each, in_fields, in_contexts, contexts_start, find_gdt, fault_in, unsoundness, guest_in, without_machine, scan, row_1, row_2, row_5, row_6, row_7, Standing, types_seen, standing_seen, HasTypes, first_in_tables, first_around, most_gdt_entries, P2mFrame, BadContext, VcpuBasic, context_key, find_in_contexts, find_misplaced, large_in, row_3, row_4, host_wide, saver_finds, or_none}
 use Rattle.std.specs.Prelude.{nat_lt, IfOk}
-use Rattle.mig_headers.specs.declared.unsound.Unsound.TheVariants.{P2mFrame, BadContext}
-use Rattle.mig_guest.specs.declared.part_code.PartCode.TheVariants.{VcpuBasic}
-use Rattle.mig_guest.specs.PartKeys.{context_key}
 use Rattle.mig_guest.proofs.Counts.{same_parts}
-use Rattle.mig_pvtables.specs.Faults.{find_in_contexts, find_misplaced}
-use Rattle.mig_pvtables.proofs.Walks.{large_in}
-use Rattle.mig_host_laws.specs.FirstRow.{row_3, row_4}
-use Rattle.mig_host_laws.proofs.Instances.{host_wide}
-use Rattle.mig_host_laws.proofs.Savers.{saver_finds}
-use Rattle.mig_restore_form.proofs.PartsInOrder.{or_none}
 use Rattle.std.specs.FinMap as maps
 
 -- ---- parts that are alike at the contexts

@@ -1,9 +1,7 @@
 -- The settings that are held of a paused PV host become those of the guest that it is seen as.
-use Rattle.mig_dirtysave.proofs.Common.{HostOf, with_view, is_setting}
+use Rattle.mig_dirtysave.proofs.Common.{HostOf, with_view, is_setting, kept_parts, parts_alone, settings_seen}
 use Rattle.mig_host_view.proofs.Common.{◌≡◌, ap, ◌∙◌, Pv, GuestOf}
 use Rattle.mig_dirtysave.proofs.HeldParts.{kept_are_seen}
-use Rattle.mig_dirtysave_parts.specs.KeptParts.{kept_parts, parts_alone}
-use Rattle.mig_dirtysave_parts.specs.SaveTexts.{settings_seen}
 
 -- the settings are refreshed, and those of the host become those of its view
 pub settings_are : (h : HostOf) → h.kind ≡ Pv → (g k : GuestOf) → g ≡ parts_alone h.kind h.width (kept_parts is_setting h.parts) → k ≡ with_view h g → k ≡ settings_seen h

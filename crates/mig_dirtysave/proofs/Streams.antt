@@ -1,14 +1,8 @@
 -- What a save wrote is a stream, and over an honest machine the stream of the host's view.
-use Rattle.mig_dirtysave.proofs.Common.{◌==◌, is_some, and_parts, ◌≡◌, ℕ, Bool, List, [], ◌∷◌, ◌++◌, map, true, Option, None, refl, sym, ap, subst, ◌∙◌, arith, append_assoc, Appends, Appends-trans, Kind, Unsound, IsFormed, GuestOf, IsValid, PartMap, PartKey, Record, text_of, headers, info_records, static_bodies, p2m_records, text_join, batch_records, batched, unsoundness, view, top_of, viewed_whole, bare_guest, wrapper_opening, wrapper_closing, AcceptedStream, opening_alike, closing_alike, MachineState, FrameTold, telling_frames, telling_record, Accepted, KeepsShape, FramesSaved, text_before, ClosesStream, HoldsParts, is_early, emulators_seen, first_records, first_within, SaverOf, PreparedFor, SaveWritten}
-use Rattle.std.specs.Prelude.{not}
-use Rattle.mig_guest.specs.PartCodes.{is_fixed}
-use Rattle.mig_canon.specs.Canon.{last_records}
+use Rattle.mig_dirtysave.proofs.Common.{◌==◌, is_some, and_parts, ◌≡◌, ℕ, Bool, List, [], ◌∷◌, ◌++◌, map, true, Option, None, refl, sym, ap, subst, ◌∙◌, arith, append_assoc, Appends, Appends-trans, Kind, Unsound, IsFormed, GuestOf, IsValid, PartMap, PartKey, Record, text_of, headers, info_records, static_bodies, p2m_records, text_join, batch_records, batched, unsoundness, view, top_of, viewed_whole, bare_guest, wrapper_opening, wrapper_closing, AcceptedStream, opening_alike, closing_alike, MachineState, FrameTold, telling_frames, telling_record, Accepted, KeepsShape, FramesSaved, text_before, ClosesStream, HoldsParts, is_early, emulators_seen, first_records, first_within, SaverOf, PreparedFor, SaveWritten, not, is_fixed, last_records, IsOtherRecord, both_all, first_seen, viewed_kind, others_are}
 use Rattle.mig_host_view.proofs.SoundRows.{sound_is_faultless}
 use Rattle.mig_libxl.proofs.AnyCanons.{around_is_accepted}
 use Rattle.mig_dirtysave.proofs.Viewed.{saved_is_viewed}
-use Rattle.mig_dirtysave_parts.specs.SaveTexts.{IsOtherRecord}
-use Rattle.mig_dirtysave_parts.proofs.Codes.{both_all, first_seen, viewed_kind}
-use Rattle.mig_dirtysave_parts.proofs.Closings.{others_are}
 use Rattle.std.specs.FinMap as maps
 
 records_are : (batches : List (List FrameTold)) → batch_records (map telling_frames batches) ≡ map telling_record batches

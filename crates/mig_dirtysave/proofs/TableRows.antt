@@ -1,14 +1,7 @@
 -- What the rounds of a save answer of the tables of a host is what is found in them row by row.
-use Rattle.mig_dirtysave.proofs.Common.{arith, ◌≡◌, ℕ, ◌+◌, List, [], ◌∷◌, false, Option, Some, None, refl, sym, ap, ◌∙◌, find, option_and_then, range_with_len, option_map, option_or, nat_cmp_total, nat_cmp-IsAntisymmetric, level_of, Entry, Blank, NotPresent, Superpage, Frame, HostOf, HostFrame, HostFrames, pfn_in, long_at, entry, footprint, footprint_of, names_in, named_by, table_in, is_unknown, first_some, first_cause, get_each, guest_in, without_machine, superpage_in, superpage_slot, lost_in, lost_slot, is_lost, said_in, said_of, first_in_tables}
-use Rattle.std.proofs.Common.{zero, suc}
-use Rattle.mig_pvtables.specs.Faults.{slots}
+use Rattle.mig_dirtysave.proofs.Common.{arith, ◌≡◌, ℕ, ◌+◌, List, [], ◌∷◌, false, Option, Some, None, refl, sym, ap, ◌∙◌, find, option_and_then, range_with_len, option_map, option_or, nat_cmp_total, nat_cmp-IsAntisymmetric, level_of, Entry, Blank, NotPresent, Superpage, Frame, HostOf, HostFrame, HostFrames, pfn_in, long_at, entry, footprint, footprint_of, names_in, named_by, table_in, is_unknown, first_some, first_cause, get_each, guest_in, without_machine, superpage_in, superpage_slot, lost_in, lost_slot, is_lost, said_in, said_of, first_in_tables, zero, suc, slots, no_slot, table_fault, tables_unsound, find_said, says_in, or_none}
 use Rattle.mig_pvtables.specs.Tables.{is_superpage}
-use Rattle.mig_pvtables.proofs.Slots.{no_slot}
-use Rattle.mig_dirtysave_rounds.specs.Live.{table_fault, tables_unsound}
 use Rattle.mig_dirtysave_rounds.specs.Sends.{first_pfn, or_first, place}
-use Rattle.mig_host_laws.specs.FirstRow.{find_said}
-use Rattle.mig_host_laws.specs.Standing.{says_in}
-use Rattle.mig_restore_form.proofs.PartsInOrder.{or_none}
 use Rattle.std.specs.FinMap as maps
 use Rattle.mig_headers.specs.declared.unsound.Unsound.TheVariants as unsounds
 

@@ -1,14 +1,11 @@
 -- The pages of a PV host's frames as they are sent, in blank form: those of the view.
-use Rattle.mig_dirtysave.proofs.Common.{◌≡◌, ℕ, ◌^◌, ◌<◌, Bool, true, false, List, Option, Some, None, refl, sym, ap, ◌∙◌, arith, option_and_then, HostFrames, pfn_in, long_at, Entry, Blank, NotPresent, Superpage, Frame, entry, blanked_page, names_in, named_by, table_in, form_page}
-use Rattle.std.proofs.Common.{◌%◌}
-use Rattle.mig_guest.specs.Tables.{is_blank_slot, blanked_entry, blanked_table}
+use Rattle.mig_dirtysave.proofs.Common.{◌≡◌, ℕ, ◌^◌, ◌<◌, Bool, true, false, List, Option, Some, None, refl, sym, ap, ◌∙◌, arith, option_and_then, HostFrames, pfn_in, long_at, Entry, Blank, NotPresent, Superpage, Frame, entry, blanked_page, names_in, named_by, table_in, form_page, ◌%◌, is_blank_slot, blanked_entry, blanked_table, renamed_page}
 use Rattle.mig_pvtables.specs.Tables.{with_frame}
 use Rattle.mig_pvtables.specs.Renaming.{with_name, named_anew, renamed_entry, renamed_by, name_for, renamed_table}
 use Rattle.mig_pvtables.proofs.BlankSays.{low_says}
 use Rattle.mig_pvtables.proofs.Moduli.{longs_modulo, long_of_each}
 use Rattle.mig_pvtables.proofs.Renamed.{renamed_long, by_frames}
 use Rattle.mig_pvtables.proofs.RenameSteps.{blanked_zero, blanked_stays}
-use Rattle.mig_host_view.specs.Localised.{renamed_page}
 
 -- ---- one number of a table, of which the low 8 bytes are written
 

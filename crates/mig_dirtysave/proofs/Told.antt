@@ -1,22 +1,12 @@
 -- What a saver tells of a host, as frames that an image says, and the frames that this leaves.
-use Rattle.mig_dirtysave.proofs.Common.{◌≡◌, ℕ, ◌-◌, ◌<◌, ◌≤◌, List, [], ◌∷◌, ◌++◌, map, Bool, true, false, cond, Option, Some, None, refl, sym, ap, subst, ◌∙◌, arith, All, length-map, map-append, Kind, Pv, Hvm, PageType, level_of, IsGuestFrame, FrameOf, FrameMap, is_type_of, top_of, IsSendableBatch, frames_told, FrameTold, telling_frames, all_told, AreSized, AreTold, frames_meant}
+use Rattle.mig_dirtysave.proofs.Common.{◌≡◌, ℕ, ◌-◌, ◌<◌, ◌≤◌, List, [], ◌∷◌, ◌++◌, map, Bool, true, false, cond, Option, Some, None, refl, sym, ap, subst, ◌∙◌, arith, All, length-map, map-append, Kind, Pv, Hvm, PageType, level_of, IsGuestFrame, FrameOf, FrameMap, is_type_of, top_of, IsSendableBatch, frames_told, FrameTold, telling_frames, all_told, AreSized, AreTold, frames_meant, most_width, fold, flat_map, nat_cmp, All-nil, All-cons, framed, EachEntry, IsWithin, IsSendable, told, frame_or_xtab, telling_frame, IsToldEntry, put_at, put_told, no_level}
 use Rattle.std.proofs.Common.{◌==◌, eqb-true}
 use Rattle.mig_pagetypes.specs.Limits.{pfn_limit}
-use Rattle.mig_guest.specs.Hosts.{most_width}
-use Rattle.std.specs.Prelude.{fold, flat_map}
-use Rattle.std.specs.Ordering.{nat_cmp}
-use Rattle.std.proofs.lemmas.List.Elements.{All-nil, All-cons}
 use Rattle.mig_pagetypes.specs.declared.page_type.PageType.TheVariants.{Notab, Broken, Xalloc, Xtab}
-use Rattle.mig_guest.specs.Frames.{framed}
-use Rattle.mig_guest.specs.Tables.{EachEntry, IsWithin}
 use Rattle.mig_host_view.proofs.ViewedFrames.{not_absent, inside_is}
 use Rattle.mig_records_pages.specs.PageData.{Frame}
 use Rattle.mig_restore_form.specs.Mean.{type_in_guest, put_entry, put_entries}
-use Rattle.mig_canon.specs.Batched.{IsSendable, told}
-use Rattle.mig_records_pages.specs.Told.{frame_or_xtab, telling_frame}
 use Rattle.mig_dirtysave_rounds.specs.Findings.{IsToldFrame}
-use Rattle.mig_dirtysave_rounds.specs.Entries.{IsToldEntry, put_at, put_told}
-use Rattle.mig_dirtysave_parts.proofs.Rows.{no_level}
 use Rattle.mig_dirtysave_rounds.proofs.Steps.{got}
 use Rattle.std.specs.FinMap as maps
 

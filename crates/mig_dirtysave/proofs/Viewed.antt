@@ -1,12 +1,9 @@
 -- The image of a host whose frames were sent in any records.
-use Rattle.mig_dirtysave.proofs.Common.{◌≡◌, ℕ, ◌≤◌, ◌^◌, List, ◌++◌, length, map, refl, sym, ap, subst, ◌∙◌, arith, All, length-map, Kind, Pv, Hvm, FrameMap, GuestOf, HostOf, IsValid, blank, IsWhole, IsSound, view, hvm_view, top_of, viewed_whole, Accepted, IsSendableBatch, frames_told, batched, bare_guest, FrameTold, telling_frames, all_told, AreSized, AreTold, frames_meant, forms}
+use Rattle.mig_dirtysave.proofs.Common.{◌≡◌, ℕ, ◌≤◌, ◌^◌, List, ◌++◌, length, map, refl, sym, ap, subst, ◌∙◌, arith, All, length-map, Kind, Pv, Hvm, FrameMap, GuestOf, HostOf, IsValid, blank, IsWhole, IsSound, view, hvm_view, top_of, viewed_whole, Accepted, IsSendableBatch, frames_told, batched, bare_guest, FrameTold, telling_frames, all_told, AreSized, AreTold, frames_meant, forms, IsComplete, TellFrames, bare_is, bare_plain, bare_whole, batched_bare}
 use Rattle.mig_pvtables.proofs.HvmGuests.{hvm_blank, hvm_complete}
 use Rattle.mig_host_view.proofs.HostViews.{hvm_viewed}
 use Rattle.mig_records_pages.specs.PageData.{Frame}
-use Rattle.mig_restore_form.specs.Spelled.{IsComplete}
-use Rattle.mig_canon.specs.Batched.{TellFrames}
 use Rattle.mig_canon.proofs.Batched.{batched_is_accepted}
-use Rattle.mig_libxl.proofs.Canon.{bare_is, bare_plain, bare_whole, batched_bare}
 use Rattle.mig_dirtysave.proofs.Told.{batches_sendable, told_is_meant, left_is_formed}
 use Rattle.mig_dirtysave.proofs.Reframed.{batched_alike}
 use Rattle.mig_dirtysave.proofs.HvmHosts.{forms_are}

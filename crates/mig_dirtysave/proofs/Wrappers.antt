@@ -1,17 +1,8 @@
 -- What is written around the image where the write stops: whole records of emulators, and a part of one more.
-use Rattle.mig_dirtysave.proofs.Common.{◌≡◌, ℕ, ◌+◌, ◌-◌, ◌<◌, Bool, true, false, List, [], ◌∷◌, ◌++◌, length, map, take, Option, Some, None, refl, sym, ap, subst, ◌∙◌, arith, length-append, ◌⊎◌, inl, inr, ◌==◌, is_some, All, option_map, eqb-true, Appends, append_known, Appends-trans, AppendsPart, PartKey, IsFormed, GuestOf, HostOf, Part, PartMap, spelled, Record, text_of, text_one, has_emulators, wrapper_opening, wrapper_closing, opening_alike, IsRecordWithin, AreRecordsWithin, WroteSome, MachineState, KeepsShape, part_behind, some_records, SaverOf, PreparedFor}
-use Rattle.std.proofs.lemmas.Bool.{or_cases}
-use Rattle.std.proofs.lemmas.List.Elements.{All-head, All-tail}
-use Rattle.byteorder.specs.Endian.{little_bytes}
-use Rattle.byteorder.specs.Numbers.{length-bytes_low_first}
-use Rattle.mig_guest.specs.Formed.{is_emulator_code}
+use Rattle.mig_dirtysave.proofs.Common.{◌≡◌, ℕ, ◌+◌, ◌-◌, ◌<◌, Bool, true, false, List, [], ◌∷◌, ◌++◌, length, map, take, Option, Some, None, refl, sym, ap, subst, ◌∙◌, arith, length-append, ◌⊎◌, inl, inr, ◌==◌, is_some, All, option_map, eqb-true, Appends, append_known, Appends-trans, AppendsPart, PartKey, IsFormed, GuestOf, HostOf, Part, PartMap, spelled, Record, text_of, text_one, has_emulators, wrapper_opening, wrapper_closing, opening_alike, IsRecordWithin, AreRecordsWithin, WroteSome, MachineState, KeepsShape, part_behind, some_records, SaverOf, PreparedFor, or_cases, All-head, All-tail, little_bytes, length-bytes_low_first, is_emulator_code, some_alike, closing_none, closing_some, SameEmulators, emulator_setting}
 use Rattle.mig_canon.specs.CanonStream.{emulator_body, emulator_record, emulators_in_order, text_of_emulators}
-use Rattle.mig_libxl.proofs.Alike.{some_alike}
-use Rattle.mig_libxl.proofs.Around.{closing_none, closing_some}
 use Rattle.mig_libxl.proofs.EmulatorParts.{IsEmulatorPart, in_order_holds}
 use Rattle.mig_libxl.proofs.EmulatorTexts.{short_emulator}
-use Rattle.mig_dirtysave_parts.specs.KeptParts.{SameEmulators}
-use Rattle.mig_dirtysave_parts.proofs.Codes.{emulator_setting}
 use Rattle.std.specs.FinMap as maps
 
 -- ---- the records of emulators

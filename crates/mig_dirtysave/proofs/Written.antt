@@ -1,18 +1,12 @@
 -- What was written of a stream and isn't ended.
-use Rattle.mig_dirtysave.proofs.Common.{◌≡◌, ℕ, ◌<◌, List, [], ◌∷◌, ◌++◌, length, take, drop, take-append-drop, Option, Some, None, refl, sym, ap, subst, ◌∙◌, arith, append_assoc, length-append, length-take, Appends, Appends-trans, AppendsPart, padding_len, Kind, marker, IsRecord, Record, text_of, headers, AreRecordsWithin, WroteAll, WroteSome, opening_text, AreRecords, HaveNoEnd, IsUnendedImage, IsUnclosedImage, IsUnended, HasNoStream, WroteNoStream}
+use Rattle.mig_dirtysave.proofs.Common.{◌≡◌, ℕ, ◌<◌, List, [], ◌∷◌, ◌++◌, length, take, drop, take-append-drop, Option, Some, None, refl, sym, ap, subst, ◌∙◌, arith, append_assoc, length-append, length-take, Appends, Appends-trans, AppendsPart, padding_len, Kind, marker, IsRecord, Record, text_of, headers, AreRecordsWithin, WroteAll, WroteSome, opening_text, AreRecords, HaveNoEnd, IsUnendedImage, IsUnclosedImage, IsUnended, HasNoStream, WroteNoStream, replicate, length-replicate, append_cancel_left, IsShortRecord, none_of_next, AreCutOff, EndedImage}
 use Rattle.std.specs.Prelude.{◌⊎◌, Bool}
 use mathlib.Core.Logic.{inl, inr}
-use Rattle.std.proofs.Common.{replicate}
-use Rattle.std.proofs.lemmas.List.{length-replicate, append_cancel_left}
 use Rattle.mig_bytes.specs.Fields.{be64}
 use Rattle.mig_headers.specs.Headers.{image_header_of, domain_header_of, libxl_header_of}
 use Rattle.mig_headers.proofs.LibxlHeaders.{libxl_is_read_back}
 use Rattle.mig_records.specs.Records.{head_of, spelled}
 use Rattle.mig_records.proofs.HeadBytes.{type_in_head, len_in_head}
-use Rattle.mig_records_pages.specs.Written.{IsShortRecord}
-use Rattle.mig_records_pages.proofs.Written.{none_of_next}
-use Rattle.mig_dirtysave.specs.Unended.{AreCutOff}
-use Rattle.mig_dirtysave.specs.Unread.{EndedImage}
 use Rattle.mig_dirtysave.proofs.Images.{first_number}
 use Rattle.mig_dirtysave.proofs.Libxl.{unended_has_no_stream}
 

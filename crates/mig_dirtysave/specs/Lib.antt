@@ -1,3 +1,4 @@
+mod Common
 pub mod Saver
 pub mod SaveAnswers
 pub mod Unended

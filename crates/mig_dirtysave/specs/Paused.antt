@@ -2,20 +2,9 @@
 use Rattle.std.specs.Prelude.{◌≡◌, ℕ, List, [], ◌∷◌, Option, Some, None, is_some, get_or}
 use Rattle.std.specs.Option.{option_map}
 use Rattle.std.specs.FinMap as maps
-use Rattle.mig_headers.specs.declared.unsound.Unsound.{Unsound}
+use Rattle.mig_dirtysave.specs.Common.{Unsound, PartKey, GuestOf, HostOf, HostFrame, pfn_in, PartMap, MachineState, Ran, each_value, first_cause, is_used_somewhere, view, row_1, row_2, row_3, row_4, row_5, row_6, Standing, in_host, before_saver}
 use Rattle.mig_pagetypes.specs.declared.page_type.PageType.{PageType}
-use Rattle.mig_guest.specs.declared.part_key.PartKey.{PartKey}
-use Rattle.mig_guest.specs.Guests.{GuestOf}
-use Rattle.mig_guest.specs.Hosts.{HostOf, HostFrame, pfn_in}
-use Rattle.mig_guest.specs.Parts.{PartMap}
-use Rattle.mig_guest.specs.MachineStates.{MachineState, Ran}
-use Rattle.mig_pvtables.specs.Blank.{each_value}
-use Rattle.mig_pvtables.specs.Faults.{first_cause}
-use Rattle.mig_pvtables.specs.VcpuContexts.{is_used_somewhere}
 use Rattle.mig_host_view.specs.Localised.{renamed_part}
-use Rattle.mig_host_view.specs.View.{view}
-use Rattle.mig_host_laws.specs.FirstRow.{row_1, row_2, row_3, row_4, row_5, row_6}
-use Rattle.mig_host_laws.specs.Standing.{Standing, in_host, before_saver}
 
 -- the type that was seen last at each frame number
 abbrev pub types_seen : List (Option PageType) → ℕ → Option PageType

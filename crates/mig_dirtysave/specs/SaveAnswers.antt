@@ -1,28 +1,8 @@
 -- What a save has written, and what it answers.
 use Rattle.std.specs.Prelude.{◌≡◌, ◌⊎◌, ℕ, ◌+◌, ◌≤◌, true, List, [], ◌∷◌, ◌++◌, length, map, Option, None, Some, Result, Ok, Err}
-use Rattle.std.specs.List.{AllByRecursion}
-use Rattle.std.specs.Io.KnownBytes.{Appends}
-use Rattle.mig_headers.specs.declared.kind.Kind.{Kind}
-use Rattle.mig_headers.specs.declared.kind.Kind.TheVariants.{Hvm}
-use Rattle.mig_headers.specs.declared.unsound.Unsound.{Unsound}
-use Rattle.mig_guest.specs.Parts.{PartMap}
-use Rattle.mig_records.specs.Records.{Record, text_of}
-use Rattle.mig_canon.specs.Canon.{headers}
-use Rattle.mig_records_pages.specs.Told.{FrameTold, telling_record, all_told}
-use Rattle.mig_records_pages.specs.Written.{AreRecordsWithin}
-use Rattle.mig_host_view.specs.Sound.{unsoundness}
-use Rattle.mig_host_view.specs.View.{view}
-use Rattle.mig_host_laws.specs.Standing.{is_of_no_type}
-use Rattle.mig_host_laws.specs.Unsoundness.{UnsoundHas}
-use Rattle.mig_canon.specs.CanonStream.{wrapper_opening, wrapper_closing}
-use Rattle.mig_libxl_form.specs.Spelled.{AcceptedStream}
-use Rattle.mig_dirtysave_parts.specs.SaveTexts.{IsOtherRecord}
-use Rattle.mig_guest.specs.MachineStates.{MachineState}
+use Rattle.mig_dirtysave.specs.Common.{AllByRecursion, Appends, Kind, Hvm, Unsound, PartMap, Record, text_of, headers, FrameTold, telling_record, all_told, AreRecordsWithin, unsoundness, view, is_of_no_type, UnsoundHas, wrapper_opening, wrapper_closing, AcceptedStream, IsOtherRecord, MachineState, pfns_sent, HasRounds, KeepsShape, ReadsExactly, entries_read}
 use Rattle.mig_guest.specs.Rounds.{all_read}
 use Rattle.mig_records_pages.specs.PageData.{most_entries}
-use Rattle.mig_dirtysave_rounds.specs.Entries.{pfns_sent}
-use Rattle.mig_dirtysave_rounds.specs.Live.{HasRounds, KeepsShape, ReadsExactly}
-use Rattle.mig_dirtysave_rounds.specs.Parts.{entries_read}
 use Rattle.mig_dirtysave.specs.Unread.{WroteNoStream}
 use Rattle.mig_dirtysave.specs.declared.answer.SaveAnswer.{SaveAnswer}
 use Rattle.mig_dirtysave.specs.declared.answer.SaveReport.{SaveReport}

@@ -2,12 +2,8 @@
 use Rattle.std.specs.Prelude.{◌≡◌, ℕ, true, refl}
 use Rattle.std.specs.FinMap as maps
 use Rattle.std.specs.Coded.{Coded, code_by, coded×, coded_ℕ}
-use Rattle.mig_headers.specs.declared.kind.Kind.{Kind}
+use Rattle.mig_dirtysave.specs.Common.{Kind, PartKey, HostOf, PartMap, parts_code, is_early, SameSettings}
 use Rattle.mig_headers.specs.contracts.kind.Kind as kind
-use Rattle.mig_guest.specs.declared.part_key.PartKey.{PartKey}
-use Rattle.mig_guest.specs.Hosts.{HostOf}
-use Rattle.mig_guest.specs.Parts.{PartMap, parts_code}
-use Rattle.mig_dirtysave_parts.specs.KeptParts.{is_early, SameSettings}
 
 pub record SaverOf : Type 0 where
   pub kind : Kind

@@ -1,10 +1,9 @@
 -- Bytes of a stream whose outermost END isn't whole: headers, whole records none of which is END, and a part of one more;
 -- bare, or inside a libxl stream.
 use Rattle.std.specs.Prelude.{◌≡◌, ◌≢◌, ◌⊎◌, ℕ, ◌<◌, ◌≤◌, Bool, List, [], ◌∷◌, ◌++◌, length, take}
-use Rattle.std.specs.List.{AllByRecursion}
+use Rattle.mig_dirtysave.specs.Common.{AllByRecursion, IsRecord, Record}
 use Rattle.mig_bytes.specs.Fields.{be64}
 use Rattle.mig_headers.specs.Headers.{marker, IsLibxlHeader}
-use Rattle.mig_records.specs.Records.{IsRecord, Record}
 
 -- ---- records that are cut off
 

@@ -1,12 +1,6 @@
 -- Bytes that no reader accepts, and what a writer left.
 use Rattle.std.specs.Prelude.{◌≡◌, ℕ, List, [], ◌++◌, Option, Some, None, ⊤}
-use Rattle.std.specs.Io.KnownBytes.{Appends}
-use Rattle.mig_guest.specs.Guests.{GuestOf}
-use Rattle.mig_headers.specs.declared.kind.Kind.{Kind}
-use Rattle.mig_records.specs.Records.{spelled, Record}
-use Rattle.mig_canon.specs.Canon.{headers}
-use Rattle.mig_records_pages.specs.Written.{WroteAll}
-use Rattle.mig_libxl_form.specs.Spelled.{AcceptedStream}
+use Rattle.mig_dirtysave.specs.Common.{Appends, GuestOf, Kind, spelled, Record, headers, WroteAll, AcceptedStream}
 
 -- the bytes are no accepted stream, and begin with none
 abbrev pub HasNoStream : List ℕ → Type 0

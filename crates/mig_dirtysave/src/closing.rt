@@ -1,16 +1,7 @@
 ghost use Rattle.std.specs.Prelude.{◌≡◌, ◌≤◌, ℕ, length, true, None, Some, OnOk, OnErr, IsErrOf};
-ghost use Rattle.mig_headers.specs.declared.kind.Kind.TheVariants.{Hvm, Pv};
+ghost use Rattle.mig_dirtysave.specs.Common.{Hvm, Pv, IsFormed, IsValid, unsoundness, AnswerHasCause, FaultsHaveCauses, AnswersTables, IsUnsound, SawTypes, is_of_no_type, UnsoundHas, HoldsParts, SameEmulators, SameSettings, is_setting, settings_seen, StopsBehind, ClosesStream};
 ghost use Rattle.mig_headers.specs.declared.unsound.Unsound.{Unsound as UnsoundCause};
-ghost use Rattle.mig_guest.specs.Formed.{IsFormed};
-ghost use Rattle.mig_guest.specs.Hosts.{IsValid};
-ghost use Rattle.mig_host_view.specs.Sound.{unsoundness};
-ghost use Rattle.mig_dirtysave_rounds.specs.Causes.{AnswerHasCause, FaultsHaveCauses};
-ghost use Rattle.mig_dirtysave_rounds.specs.Live.{AnswersTables, IsUnsound, SawTypes};
-ghost use Rattle.mig_host_laws.specs.Standing.{is_of_no_type};
-ghost use Rattle.mig_host_laws.specs.Unsoundness.{UnsoundHas};
 ghost use Rattle.mig_dirtysave.specs.Paused.{HasTypes, OnlyLooksUp};
-ghost use Rattle.mig_dirtysave_parts.specs.KeptParts.{HoldsParts, SameEmulators, SameSettings, is_setting};
-ghost use Rattle.mig_dirtysave_parts.specs.SaveTexts.{settings_seen, StopsBehind, ClosesStream};
 ghost use Rattle.mig_dirtysave.specs.SaveAnswers.{IfUnsound, IsTrusted};
 ghost use Rattle.mig_dirtysave.specs.declared.answer.SaveAnswer.TheVariants.{MachineFault, WriteFault};
 

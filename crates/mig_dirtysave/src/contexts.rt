@@ -1,15 +1,9 @@
 ghost use Rattle.std.specs.Prelude.{◌≡◌, ℕ, List, length, true, Some, None, IfOk, IfSome, find};
 ghost use Rattle.std.specs.FinMap as maps;
-ghost use Rattle.mig_bytes.specs.Faults.{FaultHasCause};
-ghost use Rattle.mig_guest.specs.declared.part_key.PartKey.{PartKey};
-ghost use Rattle.mig_guest.specs.Hosts.{pfn_in};
+ghost use Rattle.mig_dirtysave.specs.Common.{FaultHasCause, PartKey, pfn_in, each_value, field_numbers, is_used_somewhere, names_ill, row_6};
 ghost use Rattle.mig_guest.specs.Order.{part_cmp};
-ghost use Rattle.mig_pvtables.specs.Blank.{each_value};
 ghost use Rattle.mig_pvtables.specs.BlankSteps.{only};
-ghost use Rattle.mig_pvtables.specs.Faults.{field_numbers};
-ghost use Rattle.mig_pvtables.specs.VcpuContexts.{is_used_somewhere};
 ghost use Rattle.mig_host_view.specs.RenamedContexts.{renamed_context};
-ghost use Rattle.mig_host_laws.specs.FirstRow.{names_ill, row_6};
 ghost use Rattle.mig_dirtysave.specs.Paused.{standing_seen, standing_with, with_names, OnlyLooksUp};
 
 use crate::lookup::pfn_for_field;

@@ -1,12 +1,6 @@
 ghost use Rattle.std.specs.Prelude.{◌≡◌, ◌≤◌, ℕ, List, [], ◌∷◌, length, true, Some, None, IfOk};
 ghost use Rattle.std.specs.FinMap as maps;
-ghost use Rattle.mig_bytes.specs.Faults.{FaultHasCause};
-ghost use Rattle.mig_headers.specs.declared.kind.Kind.TheVariants.{Pv};
-ghost use Rattle.mig_guest.specs.declared.part_key.PartKey.{PartKey};
-ghost use Rattle.mig_guest.specs.MachineStates.{IsValidState};
-ghost use Rattle.mig_pvtables.specs.Faults.{first_cause};
-ghost use Rattle.mig_host_view.specs.Sound.{unsoundness};
-ghost use Rattle.mig_host_laws.specs.FirstRow.{row_1, row_2, row_5};
+ghost use Rattle.mig_dirtysave.specs.Common.{FaultHasCause, Pv, PartKey, IsValidState, first_cause, unsoundness, row_1, row_2, row_5};
 ghost use Rattle.mig_dirtysave.specs.Paused.{standing_seen, HasTypes, first_in_tables, first_around, with_names, OnlyLooksUp};
 
 use crate::contexts::rename_contexts;

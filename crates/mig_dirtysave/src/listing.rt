@@ -1,5 +1,5 @@
 ghost use Rattle.std.specs.Prelude.{◌≡◌, ◌≤◌, ℕ, length, get_or, Some, None};
-ghost use Rattle.mig_pvtables.specs.Faults.{is_needed, find_misplaced};
+ghost use Rattle.mig_dirtysave.specs.Common.{is_needed, find_misplaced};
 ghost use Rattle.mig_dirtysave.specs.Paused.{types_seen};
 
 use crate::lookup::type_seen;

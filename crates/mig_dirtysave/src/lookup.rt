@@ -1,7 +1,5 @@
 ghost use Rattle.std.specs.Prelude.{◌≡◌, ◌<◌, ◌^◌, true, Some, IfOk, IfSome, IsSome, is_some, option_and_then, length};
-ghost use Rattle.mig_bytes.specs.Faults.{FaultHasCause};
-ghost use Rattle.mig_guest.specs.Hosts.{pfn_in};
-ghost use Rattle.mig_pvtables.specs.Faults.{fits_field};
+ghost use Rattle.mig_dirtysave.specs.Common.{FaultHasCause, pfn_in, fits_field};
 ghost use Rattle.mig_dirtysave.specs.Paused.{types_seen, OnlyLooksUp};
 
 use mig_bytes::Failed;

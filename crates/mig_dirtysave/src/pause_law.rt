@@ -1,10 +1,6 @@
 ghost use Rattle.std.specs.Prelude.{◌≡◌, ℕ, Bool, true};
 ghost use Rattle.std.specs.FinMap as maps;
-ghost use Rattle.mig_headers.specs.declared.kind.Kind.TheVariants.{Pv};
-ghost use Rattle.mig_guest.specs.Guests.{GuestOf};
-ghost use Rattle.mig_guest.specs.Hosts.{HostOf};
-ghost use Rattle.mig_host_view.specs.View.{view};
-ghost use Rattle.mig_dirtysave_rounds.specs.Live.{tables_unsound};
+ghost use Rattle.mig_dirtysave.specs.Common.{Pv, GuestOf, HostOf, view, tables_unsound};
 ghost use Rattle.mig_dirtysave.specs.Paused.{HoldsOf, first_in_tables, with_view};
 
 /// The parts of some codes, contexts of vCPUs among them, are held of a host; and the guest that holds them gets the parts of

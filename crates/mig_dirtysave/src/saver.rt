@@ -1,9 +1,5 @@
 ghost use Rattle.std.specs.Prelude.{◌≡◌, false, length, IfOk};
-ghost use Rattle.mig_headers.specs.declared.kind.Kind.TheVariants.{Pv};
-ghost use Rattle.mig_guest.specs.Formed.{IsFormed};
-ghost use Rattle.mig_guest.specs.History.{no_history};
-ghost use Rattle.mig_dirtysave_rounds.specs.Causes.{FaultsHaveCauses};
-ghost use Rattle.mig_dirtysave_parts.specs.KeptParts.{HoldsParts, is_early, is_setting};
+ghost use Rattle.mig_dirtysave.specs.Common.{Pv, IsFormed, no_history, FaultsHaveCauses, HoldsParts, is_early, is_setting};
 ghost use Rattle.mig_dirtysave.specs.Saver.{PreparedFor};
 ghost use Rattle.mig_dirtysave.specs.SaveAnswers.{SaveEnds};
 ghost use Rattle.mig_dirtysave.specs.declared.answer.SaveAnswer.TheVariants.{MachineFault, WriteFault};

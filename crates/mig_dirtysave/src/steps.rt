@@ -1,17 +1,6 @@
 ghost use Rattle.std.specs.Prelude.{◌≡◌, true, false, None, Some, OnOk, OnErr, IfOk, IsErrOf};
-ghost use Rattle.std.specs.Io.KnownBytes.{Appends};
-ghost use Rattle.mig_bytes.specs.Bytes.{AppendsPart};
-ghost use Rattle.mig_bytes.specs.Faults.{FaultHasCause};
+ghost use Rattle.mig_dirtysave.specs.Common.{Appends, AppendsPart, FaultHasCause, IsFormed, IsValid, IsBehind, no_history, FaultsHaveCauses, entries_read, KeepsShape, HasRounds, ReadsExactly, FramesSaved, SawTypes, AnswersTables, IsUnsound, wrapper_opening, wrapper_closing, text_before};
 ghost use Rattle.mig_headers.specs.declared.unsound.Unsound.{Unsound as UnsoundCause};
-ghost use Rattle.mig_guest.specs.Formed.{IsFormed};
-ghost use Rattle.mig_guest.specs.Hosts.{IsValid};
-ghost use Rattle.mig_records_pages.specs.Batches.{IsBehind};
-ghost use Rattle.mig_guest.specs.History.{no_history};
-ghost use Rattle.mig_dirtysave_rounds.specs.Causes.{FaultsHaveCauses};
-ghost use Rattle.mig_dirtysave_rounds.specs.Parts.{entries_read};
-ghost use Rattle.mig_dirtysave_rounds.specs.Live.{KeepsShape, HasRounds, ReadsExactly, FramesSaved, SawTypes, AnswersTables, IsUnsound};
-ghost use Rattle.mig_canon.specs.CanonStream.{wrapper_opening, wrapper_closing};
-ghost use Rattle.mig_dirtysave_parts.specs.SaveTexts.{text_before};
 ghost use Rattle.mig_dirtysave.specs.SaveAnswers.{IfUnsound};
 ghost use Rattle.mig_dirtysave.specs.declared.answer.SaveAnswer.TheVariants.{MachineFault, WriteFault};
 

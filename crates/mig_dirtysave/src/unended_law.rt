@@ -1,12 +1,6 @@
 ghost use Rattle.std.specs.Prelude.{ℕ, List, Bool};
 ghost use Rattle.std.specs.declared.option.Option.{Option};
-ghost use Rattle.std.specs.Io.KnownBytes.{Appends};
-ghost use Rattle.mig_bytes.specs.Bytes.{AppendsPart};
-ghost use Rattle.mig_headers.specs.declared.kind.Kind.{Kind};
-ghost use Rattle.mig_records.specs.Records.{Record};
-ghost use Rattle.mig_canon.specs.Canon.{headers};
-ghost use Rattle.mig_records_pages.specs.Written.{WroteAll, WroteSome};
-ghost use Rattle.mig_canon.specs.CanonStream.{opening_text};
+ghost use Rattle.mig_dirtysave.specs.Common.{Appends, AppendsPart, Kind, Record, headers, WroteAll, WroteSome, opening_text};
 ghost use Rattle.mig_dirtysave.specs.Unended.{IsUnended};
 ghost use Rattle.mig_dirtysave.specs.Unread.{HasNoStream, WroteNoStream, EndedImage};
 

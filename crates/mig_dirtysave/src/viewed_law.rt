@@ -1,14 +1,7 @@
 ghost use Rattle.std.specs.Prelude.{◌≡◌, ◌≤◌, ◌^◌, ℕ, List, ◌++◌, length, map};
-ghost use Rattle.mig_guest.specs.Hosts.{HostOf, IsValid};
-ghost use Rattle.mig_host_view.specs.Sound.{IsSound};
-ghost use Rattle.mig_host_view.specs.View.{view};
+ghost use Rattle.mig_dirtysave.specs.Common.{HostOf, IsValid, IsSound, view, bare_guest, FrameTold, telling_frames, all_told, AreSized, frames_meant, AreTold, forms};
 ghost use Rattle.mig_restore_form.specs.Spelled.{Accepted};
-ghost use Rattle.mig_canon.specs.CanonStream.{bare_guest};
 ghost use Rattle.mig_canon.specs.Batched.{batched};
-ghost use Rattle.mig_records_pages.specs.Told.{FrameTold, telling_frames, all_told};
-ghost use Rattle.mig_records_pages.specs.Batches.{AreSized};
-ghost use Rattle.mig_dirtysave_rounds.specs.Entries.{frames_meant, AreTold};
-ghost use Rattle.mig_dirtysave_rounds.specs.Live.{forms};
 
 /// Where the entries that a saver sent mean the frames of a valid and sound host, the canonical image of the host's view with
 /// the saver's records in place of the frames' own is accepted, whatever follows it, and its guest is the view without the

@@ -1,10 +1,9 @@
 -- What stands behind the frames closes a stream, and is what the view of a sound host has there.
-use Rattle.mig_dirtysave_parts.proofs.Common.{◌≡◌, ◌++◌, refl, sym, ap, subst, ◌∙◌, AllByRecursion, Appends, GuestOf, HostOf, IsValid, Record, text_of, last_records, is_setting, kept_parts, parts_alone, IsContextFront, closing_records, settings_seen}
+use Rattle.mig_dirtysave_parts.proofs.Common.{◌≡◌, ◌++◌, refl, sym, ap, subst, ◌∙◌, AllByRecursion, Appends, GuestOf, HostOf, IsValid, Record, text_of, last_records, is_setting, kept_parts, parts_alone, IsContextFront, closing_records, settings_seen, IsOtherRecord, ClosesStream}
 use Rattle.std.proofs.Common.{ℕ, List, [], ◌∷◌, Option}
 use Rattle.mig_headers.specs.declared.kind.Kind.TheVariants.{Pv, Hvm}
 use Rattle.mig_guest.specs.Formed.{IsFormed}
 use Rattle.mig_host_view.proofs.HostViews.{hvm_viewed}
-use Rattle.mig_dirtysave_parts.specs.SaveTexts.{IsOtherRecord, ClosesStream}
 use Rattle.mig_dirtysave_parts.proofs.Codes.{IsOther, are_within, closing_within, front_short, kept_formed, last_seen, no_pv}
 use Rattle.mig_dirtysave_parts.proofs.PvSettings.{pv_last_seen, pv_last_within}
 

@@ -1,31 +1,15 @@
 -- The parts of some codes of a host: they make a well formed guest, and their records are those of the host's view.
-use Rattle.mig_dirtysave_parts.proofs.Common.{ℕ, ◌+◌, ◌-◌, ◌<◌, ◌≤◌, ◌^◌, Bool, true, false, cond, List, [], ◌∷◌, length, Option, Some, None, option_map, arith, ◌==◌, eqb-true, part_total, part_exact, Pv, Hvm, PartKey, FrameOf, IsFormed, IsPart, context_key, part_cmp, ◌≢◌, AllByRecursion, append_assoc, inl, inr, Kind, PartCode, Tsc, is_policy, HostOf, IsHostPart, IsValid, pfn_in, row_of, code_number, Part, FitsPolicy, same_parts, empty_formed, tied, one_code, shape_of, Record, info_records, p2m_records, records_of, records_in_order, static_bodies, last_records, AreRecordsWithin, blanked_context, blanked_shared, is_used_somewhere, renamed_part, renamed_context, view, guest_in, top_of, pv_part, each_policy, top_is, is_early, is_setting, kept_parts, parts_alone, IsContextFront, context_record, closing_records, most_policy_entries}
+use Rattle.mig_dirtysave_parts.proofs.Common.{ℕ, ◌+◌, ◌-◌, ◌<◌, ◌≤◌, ◌^◌, Bool, true, false, cond, List, [], ◌∷◌, length, Option, Some, None, option_map, arith, ◌==◌, eqb-true, part_total, part_exact, Pv, Hvm, PartKey, FrameOf, IsFormed, IsPart, context_key, part_cmp, ◌≢◌, AllByRecursion, append_assoc, inl, inr, Kind, PartCode, Tsc, is_policy, HostOf, IsHostPart, IsValid, pfn_in, row_of, code_number, Part, FitsPolicy, same_parts, empty_formed, tied, one_code, shape_of, Record, info_records, p2m_records, records_of, records_in_order, static_bodies, last_records, AreRecordsWithin, blanked_context, blanked_shared, is_used_somewhere, renamed_part, renamed_context, view, guest_in, top_of, pv_part, each_policy, top_is, is_early, is_setting, kept_parts, parts_alone, IsContextFront, context_record, closing_records, most_policy_entries, append-nil, length-append, length-take-le, map, and_parts, leb-true, or_cases, length-replicate, HvmContext, HvmParam, CpuidLeaf, Msr, is_emulator_code, canonical_bodies, contents_by_shape, parts_at, SayAll, p2m_record, p2m_short, IsRecordWithin, get_each, to_each, stays_each, blanked_part, renamed, hvm_view, hvm_part, HoldsParts}
 use Rattle.mig_host_view.proofs.Common.{◌≡◌, ◌++◌, replicate, refl, sym, ap, subst, ◌∙◌, ne_eqb, GuestOf}
-use Rattle.std.proofs.Common.{append-nil, length-append, length-take-le}
-use Rattle.std.specs.Prelude.{map}
 use Rattle.std.specs.Ordering.{eq_by_cmp, nat_cmp}
 use Rattle.byteorder.specs.Endian.{little_bytes}
 use Rattle.byteorder.specs.Numbers.{length-bytes_low_first}
 use Rattle.std.proofs.lemmas.Cmp.{eq_by_cmp_equiv}
-use Rattle.std.proofs.lemmas.Bool.{and_parts, leb-true, or_cases}
-use Rattle.std.proofs.lemmas.List.{length-replicate}
 use Rattle.mig_headers.specs.Contexts.{scan}
-use Rattle.mig_guest.specs.declared.part_code.PartCode.TheVariants.{HvmContext, HvmParam, CpuidLeaf, Msr}
-use Rattle.mig_guest.specs.Formed.{is_emulator_code}
 use Rattle.mig_guest.specs.PartKeys.{p2m_key}
 use Rattle.mig_guest.specs.Parts.{PartMap, parts_of}
-use Rattle.mig_records.specs.Shapes.{canonical_bodies, contents_by_shape, parts_at, SayAll}
 use Rattle.mig_records.proofs.Canonical.{canonical_bodies_say}
-use Rattle.mig_canon.specs.Canon.{p2m_record}
-use Rattle.mig_canon.proofs.PvRecords.{p2m_short}
-use Rattle.mig_records_pages.specs.Written.{IsRecordWithin}
-use Rattle.mig_pvtables.proofs.EachValue.{get_each, to_each, stays_each}
-use Rattle.mig_pvtables.specs.Blank.{blanked_part}
-use Rattle.mig_host_view.specs.Localised.{renamed}
 use Rattle.mig_host_view.specs.Normalised.{cut_by, part_seen, normalised_of}
-use Rattle.mig_host_view.specs.View.{hvm_view}
-use Rattle.mig_host_view.proofs.ViewedParts.{hvm_part}
-use Rattle.mig_dirtysave_parts.specs.KeptParts.{HoldsParts}
 use Rattle.mig_dirtysave_parts.proofs.Walks.{kept_at}
 use Rattle.std.specs.FinMap as maps
 

@@ -1,15 +1,8 @@
 -- The settings of the guest that a PV host is seen as: they make a well formed guest, whose records are those of the view.
-use Rattle.mig_dirtysave_parts.proofs.Common.{ℕ, ◌+◌, ◌-◌, ◌<◌, ◌≤◌, ◌^◌, Bool, true, false, cond, List, [], ◌∷◌, length, Option, Some, None, arith, ◌==◌, eqb-true, part_total, part_exact, part_cmp, Pv, Hvm, PartKey, FrameOf, IsFormed, IsPart, gdt_ents, ◌≢◌, AllByRecursion, flat_map, Kind, shape_of, PartCode, VcpuBasic, Tsc, is_policy, HostOf, IsHostPart, IsValid, pfn_in, code_number, Part, FitsPolicy, same_parts, empty_formed, records_of, records_in_order, last_records, blanked_context, blanked_shared, is_used_somewhere, from_each, renamed_part, renamed_context, view, top_of, each_policy, top_is, pv_part, is_setting, settings_seen, most_gdt_entries, most_policy_entries}
+use Rattle.mig_dirtysave_parts.proofs.Common.{ℕ, ◌+◌, ◌-◌, ◌<◌, ◌≤◌, ◌^◌, Bool, true, false, cond, List, [], ◌∷◌, length, Option, Some, None, arith, ◌==◌, eqb-true, part_total, part_exact, part_cmp, Pv, Hvm, PartKey, FrameOf, IsFormed, IsPart, gdt_ents, ◌≢◌, AllByRecursion, flat_map, Kind, shape_of, PartCode, VcpuBasic, Tsc, is_policy, HostOf, IsHostPart, IsValid, pfn_in, code_number, Part, FitsPolicy, same_parts, empty_formed, records_of, records_in_order, last_records, blanked_context, blanked_shared, is_used_somewhere, from_each, renamed_part, renamed_context, view, top_of, each_policy, top_is, pv_part, is_setting, settings_seen, most_gdt_entries, most_policy_entries, nat_cmp, blanked_part, range_with_len, part_body, VcpuExtended, VcpuXsave, SharedInfo, VcpuMsrs, short_part, changed_part}
 use Rattle.mig_host_view.proofs.Common.{◌≡◌, ◌++◌, refl, sym, ap, subst, ◌∙◌, eq-eqb, GuestOf, each_value, length_longs}
-use Rattle.std.specs.Ordering.{nat_cmp}
-use Rattle.mig_pvtables.specs.Blank.{blanked_part}
-use Rattle.std.specs.List.{range_with_len}
-use Rattle.mig_records.specs.Shapes.{part_body}
-use Rattle.mig_guest.specs.declared.part_code.PartCode.TheVariants.{VcpuExtended, VcpuXsave, SharedInfo, VcpuMsrs}
 use Rattle.mig_canon.specs.Canon.{all_vcpus, key_of, part_record, pv_last_codes, records_of_vcpu, vcpu_record, vcpus_below}
-use Rattle.mig_canon.proofs.PvRecords.{short_part}
 use Rattle.mig_pvtables.proofs.BlankSays.{blanked_ents}
-use Rattle.mig_guest.proofs.PartRows.{changed_part}
 use Rattle.mig_host_view.proofs.ViewedSays.{ents_there}
 use Rattle.mig_dirtysave_parts.proofs.Codes.{IsOther, IsOtherType, both_all, code_within, from_kept, same_records, seen_as}
 use Rattle.mig_dirtysave_parts.proofs.Walks.{kept_at}

@@ -1,21 +1,15 @@
 -- What is in the way of seeing a valid HVM host is told by its parts alone: it has no tables, and nothing of a PV guest.
-use Rattle.mig_dirtysave_parts.proofs.Common.{ℕ, Bool, true, false, cond, List, [], ◌∷◌, Option, Some, None, ◌==◌, option_map, eqb-true, part_total, part_exact, Hvm, PartKey, gdt_ents, FrameOf, context_key, Kind, PartCode, VcpuBasic, HostOf, IsValid, pfn_in, row_of, code_number, one_code, is_used_somewhere, from_each, guest_in, most_gdt_entries}
+use Rattle.mig_dirtysave_parts.proofs.Common.{ℕ, Bool, true, false, cond, List, [], ◌∷◌, Option, Some, None, ◌==◌, option_map, eqb-true, part_total, part_exact, Hvm, PartKey, gdt_ents, FrameOf, context_key, Kind, PartCode, VcpuBasic, HostOf, IsValid, pfn_in, row_of, code_number, one_code, is_used_somewhere, from_each, guest_in, most_gdt_entries, ◌&&◌, P2mFrames, HostFrame, no_entries, without_machine, judged_with}
 use Rattle.mig_host_view.proofs.Common.{◌≡◌, refl, sym, ap, subst, ◌∙◌, nat_lt, nat_cmp_total, nat_cmp-IsAntisymmetric, Entry, EachEntry, FrameMap, is_type_of, p2m_key, is_superpage, level_of}
-use Rattle.std.specs.Prelude.{◌&&◌}
 use Rattle.std.specs.Option.{option_or}
 use Rattle.mig_headers.specs.declared.unsound.Unsound.{Unsound}
-use Rattle.mig_guest.specs.declared.part_code.PartCode.TheVariants.{P2mFrames}
-use Rattle.mig_guest.specs.Hosts.{HostFrame}
-use Rattle.mig_guest.proofs.PartRows.{no_entries}
 use Rattle.mig_pvtables.specs.BadEntries.{is_unknown}
 use Rattle.mig_pvtables.specs.Faults.{find_entry, find_in_contexts, find_misplaced, find_p2m, first_cause, type_at}
 use Rattle.mig_pvtables.proofs.PvGuests.{no_entry, none_misses}
 use Rattle.mig_pvtables.proofs.Searches.{first_found}
 use Rattle.mig_host_view.specs.Sound.{absent, find_context_fault, find_gdt, machine_type, misnames, unsound_rows, unsoundness}
-use Rattle.mig_host_view.specs.View.{without_machine}
 use Rattle.mig_pagetypes.specs.declared.page_type.PageType.{PageType}
 use Rattle.mig_pagetypes.specs.declared.page_type.PageType.TheVariants.{Notab, Broken, Xalloc}
-use Rattle.mig_dirtysave_parts.specs.SaveTexts.{judged_with}
 use Rattle.std.specs.FinMap as maps
 use Rattle.mig_headers.specs.declared.unsound.Unsound.TheVariants as unsounds
 

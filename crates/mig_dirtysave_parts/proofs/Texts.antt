@@ -1,19 +1,11 @@
 -- Parts of what a save writes: of the headers and records, of records, and of records before END.
-use Rattle.mig_dirtysave_parts.proofs.Common.{◌≡◌, ◌++◌, refl, sym, ap, subst, ◌∙◌, append_assoc, inl, inr, flat_map, Appends, Kind, GuestOf, Record, text_of, info_records, static_bodies, p2m_records, records_of, records_in_order, context_record, closing_records, AreRecordsWithin}
+use Rattle.mig_dirtysave_parts.proofs.Common.{◌≡◌, ◌++◌, refl, sym, ap, subst, ◌∙◌, append_assoc, inl, inr, flat_map, Appends, Kind, GuestOf, Record, text_of, info_records, static_bodies, p2m_records, records_of, records_in_order, context_record, closing_records, AreRecordsWithin, cases_lt, take-append-le, append_known, spelled, headers, text_before, StopsBehind, setting_codes, codes_alone, IsShortRecord, WroteSome, LeavesPart}
 use Rattle.std.proofs.Common.{ℕ, ◌+◌, ◌-◌, ◌<◌, List, [], ◌∷◌, length, take, Option, Some, None, Result, Ok, Err, OnOk, OnErr, arith, append-nil, length-append, ◌⊎◌}
-use Rattle.std.proofs.lemmas.Bool.{cases_lt}
 use Rattle.std.proofs.Math.Seq.{take-append-add}
-use Rattle.std.proofs.lemmas.List.{take-append-le}
-use Rattle.std.specs.Io.KnownBytes.{append_known}
 use Rattle.std.proofs.KnownBytes.{Appends-trans}
 use Rattle.mig_bytes.specs.declared.failure.WriteFailed.{WriteFailed}
 use Rattle.mig_bytes.specs.Bytes.{AppendsPart, Puts}
-use Rattle.mig_records.specs.Records.{spelled}
-use Rattle.mig_canon.specs.Canon.{headers}
-use Rattle.mig_dirtysave_parts.specs.SaveTexts.{text_before, StopsBehind, setting_codes}
 use Rattle.mig_records.proofs.RecordTexts.{text_join, text_one}
-use Rattle.mig_canon.proofs.Spelling.{codes_alone}
-use Rattle.mig_records_pages.specs.Written.{IsShortRecord, WroteSome, LeavesPart}
 use Rattle.mig_records_pages.proofs.Written.{all_behind, some_behind, none_of_next}
 
 -- a text that is some whole records, none of them END, and a part of one more

@@ -1,12 +1,9 @@
 -- A walk over the keys of a machine's parts, in their order: what was passed, and what is left.
-use Rattle.mig_dirtysave_parts.proofs.Common.{tied, GuestOf, Kind, is_setting, kept_parts, parts_alone}
+use Rattle.mig_dirtysave_parts.proofs.Common.{tied, GuestOf, Kind, is_setting, kept_parts, parts_alone, ordering_reverse, IsNextKey, part_len, SameSettings}
 use Rattle.mig_guest.proofs.Common.{◌≡◌, ℕ, ◌<◌, ◌≤◌, List, [], ◌∷◌, length, filter, Bool, true, false, cond, Option, Some, None, IsSome, IfSome, refl, sym, ap, subst, ◌∙◌, arith, find, eq_by_cmp, is_eq, is_lt, Ordering, Less, Equal, Greater, get-insert, get-retain_keys, same_map, eq_by_cmp_equiv, option_map, part_cmp, IsAbove, Part, PartMap}
-use Rattle.std.specs.Ordering.{ordering_reverse}
 use Rattle.mig_guest.specs.declared.part_key.PartKey.{PartKey}
 use Rattle.mig_guest.proofs.PartCursor.{less, not_itself}
 use Rattle.mig_guest.proofs.PartOrder.{part_total, part_exact}
-use Rattle.mig_guest.specs.Parts.{IsNextKey}
-use Rattle.mig_dirtysave_parts.specs.KeptParts.{part_len, SameSettings}
 use Rattle.std.specs.FinMap as maps
 
 -- the key is still ahead

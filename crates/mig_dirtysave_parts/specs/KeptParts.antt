@@ -1,14 +1,10 @@
 -- Which of a host's parts are kept for what stands before the frames and behind them, and how they fit the host.
 use Rattle.std.specs.Prelude.{◌≡◌, ℕ, Bool, true, List, length, Option, Some, ◌==◌, ◌&&◌, not}
-use Rattle.std.specs.Option.{option_map}
+use Rattle.mig_dirtysave_parts.specs.Common.{option_map, is_emulator_code, GuestOf, PartMap, top_of}
 use Rattle.std.specs.FinMap as maps
 use Rattle.mig_headers.specs.declared.kind.Kind.{Kind}
 use Rattle.mig_guest.specs.declared.part_key.PartKey.{PartKey}
-use Rattle.mig_guest.specs.Formed.{is_emulator_code}
-use Rattle.mig_guest.specs.Guests.{GuestOf}
 use Rattle.mig_guest.specs.PartCodes.{is_fixed}
-use Rattle.mig_guest.specs.Parts.{PartMap}
-use Rattle.mig_host_view.specs.View.{top_of}
 
 -- the codes of the parts that stand before the frames, which never change while a guest runs; an emulator's pairs don't
 -- either, and stand behind the image

@@ -1,2 +1,3 @@
+mod Common
 pub mod KeptParts
 pub mod SaveTexts

@@ -1,24 +1,18 @@
 -- What a save writes around the frames.
 use Rattle.std.specs.Prelude.{◌≡◌, ◌≢◌, ℕ, ◌+◌, ◌≤◌, List, [], ◌∷◌, ◌++◌, length, take, replicate, Option, Some, None, Result, Ok, Err}
 use Rattle.std.specs.List.{AllByRecursion}
-use Rattle.std.specs.Option.{option_map}
+use Rattle.mig_dirtysave_parts.specs.Common.{option_map, Appends, GuestOf, PartMap, Record, text_of, headers, info_records, static_bodies, p2m_records, records_in_order, last_records, view}
 use Rattle.std.specs.FinMap as maps
-use Rattle.std.specs.Io.KnownBytes.{Appends}
 use Rattle.mig_headers.specs.Contexts.{scan}
 use Rattle.mig_headers.specs.declared.unsound.Unsound.{Unsound}
 use Rattle.mig_headers.specs.declared.unsound.Unsound.TheVariants as unsounds
 use Rattle.mig_guest.specs.declared.part_code.PartCode.{PartCode}
 use Rattle.mig_guest.specs.declared.part_code.PartCode.TheVariants.{Tsc, HvmParam}
-use Rattle.mig_guest.specs.Guests.{GuestOf}
 use Rattle.mig_guest.specs.Hosts.{HostOf}
-use Rattle.mig_guest.specs.Parts.{PartMap}
 use Rattle.mig_guest.specs.PartKeys.{context_key}
-use Rattle.mig_records.specs.Records.{Record, text_of}
-use Rattle.mig_canon.specs.Canon.{headers, info_records, static_bodies, p2m_records, records_in_order, last_records}
 use Rattle.mig_records_pages.specs.Written.{AreRecordsWithin, WroteAll, WroteSome}
 use Rattle.mig_pvtables.specs.Faults.{first_cause}
 use Rattle.mig_host_view.specs.Sound.{absent, find_context_fault, unsoundness}
-use Rattle.mig_host_view.specs.View.{view}
 use Rattle.mig_dirtysave_parts.specs.KeptParts.{is_setting, kept_parts, parts_alone}
 
 -- the headers, and the records before the frames

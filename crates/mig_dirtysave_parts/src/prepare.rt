@@ -1,6 +1,6 @@
 ghost use Rattle.std.specs.Prelude.{◌≡◌, length, OnOk, IfOk, IfSome};
 ghost use Rattle.std.specs.FinMap as maps;
-ghost use Rattle.mig_headers.specs.declared.kind.Kind.TheVariants.{Pv};
+ghost use Rattle.mig_dirtysave_parts.specs.Common.{Pv};
 ghost use Rattle.mig_dirtysave_parts.specs.KeptParts.{is_early as is_early_code, is_setting as is_setting_code, kept_parts, parts_alone};
 
 use crate::settings::{is_early, is_setting};

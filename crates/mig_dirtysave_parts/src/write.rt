@@ -1,12 +1,8 @@
 ghost use Rattle.std.specs.Prelude.{◌+◌, ◌≤◌, length, [], ◌∷◌, ◌++◌, OnOk, OnErr};
-ghost use Rattle.std.specs.Io.KnownBytes.{Appends};
+ghost use Rattle.mig_dirtysave_parts.specs.Common.{Appends, IsFormed, spelled, text_of, Pv, last_records};
 ghost use Rattle.mig_bytes.specs.Bytes.{Puts};
 ghost use Rattle.mig_bytes.specs.Faults.{FaultHasCause};
 ghost use Rattle.mig_headers.specs.RecordTypes.{most_body};
-ghost use Rattle.mig_guest.specs.Formed.{IsFormed};
-ghost use Rattle.mig_records.specs.Records.{spelled, text_of};
-ghost use Rattle.mig_headers.specs.declared.kind.Kind.TheVariants.{Pv};
-ghost use Rattle.mig_canon.specs.Canon.{last_records};
 ghost use Rattle.mig_dirtysave_parts.specs.SaveTexts.{text_before, context_record, closing_records, StopsBehind};
 
 use mig_bytes::{Sink, WriteFailed, put_all};

@@ -1,17 +1,13 @@
 -- From the pause to the end, and the start.
-use Rattle.mig_dirtysave_rounds.proofs.Common.{arith, ◌≡◌, ℕ, ◌+◌, ◌<◌, ◌≤◌, List, [], ◌∷◌, ◌++◌, length, Bool, true, false, cond, Option, Some, None, refl, sym, ap, subst, ◌∙◌, inl, inr, append-nil, ◌||◌, ◌⊎◌, option_map, nat_cmp_total, cases_lt, nat_tests, fun_ext, HostOf, HostFrame, HostFrames, FrameTold, Pfns, no_pfns, joined, members, size, all_below, footprint, footprint_of, Since, History, nothing_asked, no_history, one_more, and_call, MachineState, IsValidState, LogTaken, Rounds, to_read, rounds_read, all_read, Worst, form_of_print, type_of_print, superpage_slot, lost_slot, judged, frame_sent, is_deferred, IsBelow, rest, entries_read, entries_read_before, frames_meant, Notes, no_notes, Current, ReadsFront, SendsFront, IsWorst, within_set, super_of, lost_of, LiveSent, SavedSent, table_fault, worst_fault}
+use Rattle.mig_dirtysave_rounds.proofs.Common.{arith, ◌≡◌, ℕ, ◌+◌, ◌<◌, ◌≤◌, List, [], ◌∷◌, ◌++◌, length, Bool, true, false, cond, Option, Some, None, refl, sym, ap, subst, ◌∙◌, inl, inr, append-nil, ◌||◌, ◌⊎◌, option_map, nat_cmp_total, cases_lt, nat_tests, fun_ext, HostOf, HostFrame, HostFrames, FrameTold, Pfns, no_pfns, joined, members, size, all_below, footprint, footprint_of, Since, History, nothing_asked, no_history, one_more, and_call, MachineState, IsValidState, LogTaken, Rounds, to_read, rounds_read, all_read, Worst, form_of_print, type_of_print, superpage_slot, lost_slot, judged, frame_sent, is_deferred, IsBelow, rest, entries_read, entries_read_before, frames_meant, Notes, no_notes, Current, ReadsFront, SendsFront, IsWorst, within_set, super_of, lost_of, LiveSent, SavedSent, table_fault, worst_fault, Paused, Tight, Ended, Saved, forms, type_in, tables_unsound, or_parts}
 use Rattle.std.specs.Ordering.{nat_cmp}
 use Rattle.std.specs.FinMap.{nat_cmp-IsAntisymmetric}
 use Rattle.mig_pvtables.proofs.EachValue.{get_each}
-use Rattle.mig_guest.specs.MachineCalls.{Paused}
-use Rattle.mig_guest.specs.Rounds.{Tight}
 use Rattle.mig_dirtysave_rounds.specs.Sends.{first_pfn}
-use Rattle.mig_dirtysave_rounds.specs.Live.{Ended, Saved, forms, type_in, tables_unsound}
 use Rattle.mig_dirtysave_rounds.proofs.Firsts.{first_none, first_same, super_is, lost_is, good_when, good_super, good_lost, good_form, no_fault, same_fault}
 use Rattle.mig_dirtysave_rounds.proofs.Parts.{members_below, joined_below}
 use Rattle.mig_dirtysave_rounds.proofs.Steps.{current_on, told_alike}
 use Rattle.mig_dirtysave_rounds.proofs.Saves.{front_all, rest_gone, taken_after, even, no_members, size_none}
-use Rattle.std.proofs.lemmas.Bool.{or_parts}
 use Rattle.std.specs.FinMap as fin
 use Rattle.mig_guest.specs.Hosts as hosts
 

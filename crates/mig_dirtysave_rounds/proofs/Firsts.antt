@@ -1,8 +1,7 @@
 -- The first tables that no stream can have, and what a finding says of them.
-use Rattle.mig_dirtysave_rounds.proofs.Common.{arith, ◌≡◌, ℕ, zero, suc, ◌<◌, Bool, true, false, cond, Option, Some, None, refl, sym, ap, subst, ◌∙◌, inl, inr, ⊎_elim, ◌⊎◌, ◌==◌, eqb-true, nat_tests, FrameOf, HostFrames, Pfns, Footprint, footprint, Worst, table_of, superpage_in, superpage_slot, lost_in, lost_slot, form_of_print, Finding, judge, judged, frame_sent, is_deferred, IsWorst, or_first, place, within_set, super_of, lost_of, table_fault, worst_fault}
+use Rattle.mig_dirtysave_rounds.proofs.Common.{arith, ◌≡◌, ℕ, zero, suc, ◌<◌, Bool, true, false, cond, Option, Some, None, refl, sym, ap, subst, ◌∙◌, inl, inr, ⊎_elim, ◌⊎◌, ◌==◌, eqb-true, nat_tests, FrameOf, HostFrames, Pfns, Footprint, footprint, Worst, table_of, superpage_in, superpage_slot, lost_in, lost_slot, form_of_print, Finding, judge, judged, frame_sent, is_deferred, IsWorst, or_first, place, within_set, super_of, lost_of, table_fault, worst_fault, IsUnsound}
 use Rattle.mig_headers.specs.declared.unsound.Unsound.{Unsound}
 use Rattle.mig_dirtysave_rounds.specs.Sends.{first_pfn}
-use Rattle.mig_dirtysave_rounds.specs.Live.{IsUnsound}
 use Rattle.mig_headers.specs.declared.unsound.Unsound.TheVariants as unsounds
 
 not_none : {A : Type 0} (x : A) → ◌≡◌ {A = Option A} None (Some x) → ⊥

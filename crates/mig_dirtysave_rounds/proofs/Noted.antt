@@ -1,6 +1,5 @@
 -- What is noted of one number more.
-use Rattle.mig_dirtysave_rounds.proofs.Common.{arith, ◌≡◌, ℕ, ◌<◌, List, length, get_or, Bool, true, false, cond, Option, None, refl, sym, ap, subst, ◌∙◌, ◌==◌, eqb-true, nat_tests, fun_ext, PageType, Pfns, pfns_of_words, IsBelow, put_pfn, Finding, is_deferred, type_found, Notes, notes_of, noted}
-use Rattle.std.proofs.Common.{◌≢◌, slice_set}
+use Rattle.mig_dirtysave_rounds.proofs.Common.{arith, ◌≡◌, ℕ, ◌<◌, List, length, get_or, Bool, true, false, cond, Option, None, refl, sym, ap, subst, ◌∙◌, ◌==◌, eqb-true, nat_tests, fun_ext, PageType, Pfns, pfns_of_words, IsBelow, put_pfn, Finding, is_deferred, type_found, Notes, notes_of, noted, ◌≢◌, slice_set}
 use Rattle.std.proofs.lemmas.Grind.{common_steps}
 use Rattle.mig_dirtysave_rounds.proofs.Parts.{put_below}
 

@@ -1,12 +1,7 @@
 -- What is read of one number.
-use Rattle.mig_dirtysave_rounds.proofs.Common.{arith, ◌≡◌, ℕ, ◌-◌, ◌≤◌, List, length, Bool, true, false, cond, Option, Some, None, Result, Ok, Err, refl, sym, ap, subst, ◌∙◌, IfOk, option_map, Kind, Pv, Hvm, PageType, Notab, Broken, Xalloc, level_of, type_has_data, FrameOf, HostFrame, HostFrames, HostOf, EachEntry, IsWithin, History, MachineState, IsValidState, Peeked, footprint, footprint_of, table_in, names_in, superpage_in, lost_in, form_page, Finding, judge, judged, found_as, frame_sent, NamesWithin, CanBeTold, Shows, Looks, IsRaw, IsRight, ReadsOne, most_calls}
-use Rattle.std.specs.Prelude.{unwrap_or, is_some}
-use Rattle.mig_guest.specs.Frames.{is_type_of}
-use Rattle.mig_guest.specs.Hosts.{IsHostFrame}
+use Rattle.mig_dirtysave_rounds.proofs.Common.{arith, ◌≡◌, ℕ, ◌-◌, ◌≤◌, List, length, Bool, true, false, cond, Option, Some, None, Result, Ok, Err, refl, sym, ap, subst, ◌∙◌, IfOk, option_map, Kind, Pv, Hvm, PageType, Notab, Broken, Xalloc, level_of, type_has_data, FrameOf, HostFrame, HostFrames, HostOf, EachEntry, IsWithin, History, MachineState, IsValidState, Peeked, footprint, footprint_of, table_in, names_in, superpage_in, lost_in, form_page, Finding, judge, judged, found_as, frame_sent, NamesWithin, CanBeTold, Shows, Looks, IsRaw, IsRight, ReadsOne, most_calls, unwrap_or, is_some, is_type_of, IsHostFrame, IsToldFrame, ShowsOnly, Gone}
 use Rattle.mig_guest.specs.declared.mig_machine_api.Seen.{Seen}
 use Rattle.mig_guest.specs.MachineCalls.{seen_of, seen_at, page_of, page_peeked}
-use Rattle.mig_dirtysave_rounds.specs.Findings.{IsToldFrame, ShowsOnly}
-use Rattle.mig_dirtysave_rounds.specs.Findings.Finding.{Gone}
 use Rattle.mig_dirtysave_rounds.proofs.Tables.{print_here, ran_on, data_of}
 use Rattle.std.specs.FinMap as maps
 use Rattle.mig_guest.specs.declared.mig_machine_api.Seen.TheVariants as seen

@@ -1,6 +1,5 @@
 -- Room that was made is unused.
-use Rattle.mig_dirtysave_rounds.proofs.Common.{arith, ◌≡◌, ℕ, ◌+◌, ◌/◌, ◌^◌, ◌≤◌, ◌<◌, List, [], length, get_or, Option, None, sym, ap, ◌∙◌, inl, inr, cases_lt, fun_ext, PageType, FrameTold, Pfns, no_pfns, all_below, pfns_of_words, Notes, notes_of, no_notes, IsUnused}
-use Rattle.std.proofs.lemmas.List.{get_or_past}
+use Rattle.mig_dirtysave_rounds.proofs.Common.{arith, ◌≡◌, ℕ, ◌+◌, ◌/◌, ◌^◌, ◌≤◌, ◌<◌, List, [], length, get_or, Option, None, sym, ap, ◌∙◌, inl, inr, cases_lt, fun_ext, PageType, FrameTold, Pfns, no_pfns, all_below, pfns_of_words, Notes, notes_of, no_notes, IsUnused, get_or_past}
 
 none_seen : (types : List (Option PageType)) → ((p : ℕ) → p < length types → get_or types p None ≡ None) → (p : ℕ) → get_or types p None ≡ None
 none_seen types none p = elim (cases_lt p (length types)) [ inl less ↦ none p less | inr past ↦ get_or_past types p None past ]

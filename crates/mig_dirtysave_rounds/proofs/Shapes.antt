@@ -1,6 +1,5 @@
 -- What stays the same of a machine, from call to call.
-use Rattle.mig_dirtysave_rounds.proofs.Common.{◌∙◌, refl, ℕ, HostOf, Pfns, MachineState, Ran, ReadsFront, KeepsShape}
-use Rattle.mig_guest.specs.MachineStates.{IsSameShape}
+use Rattle.mig_dirtysave_rounds.proofs.Common.{◌∙◌, refl, ℕ, HostOf, Pfns, MachineState, Ran, ReadsFront, KeepsShape, IsSameShape}
 
 pub shape_none : (h : HostOf) → IsSameShape h h
 shape_none h = record { kind = refl; width = refl; lengths = λ key. refl; fixed = λ key is. refl }

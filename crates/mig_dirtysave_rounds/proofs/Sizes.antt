@@ -1,6 +1,5 @@
 -- How many members parts of sets have.
-use Rattle.mig_dirtysave_rounds.proofs.Common.{arith, ◌≡◌, ℕ, zero, suc, ◌+◌, ◌-◌, ◌≤◌, ◌<◌, Bool, true, false, refl, ap, ◌∙◌, nat_tests, Pfns, size, size_more, size_stays, front}
-use Rattle.mig_guest.proofs.Sizes.{next, same_size}
+use Rattle.mig_dirtysave_rounds.proofs.Common.{arith, ◌≡◌, ℕ, zero, suc, ◌+◌, ◌-◌, ◌≤◌, ◌<◌, Bool, true, false, refl, ap, ◌∙◌, nat_tests, Pfns, size, size_more, size_stays, front, next, same_size}
 
 front_below : (set : Pfns) (i q : ℕ) → q < i → front i set q ≡ set q
 front_below set i q less = grind (arith, nat_tests)

@@ -1,16 +1,12 @@
 -- A raw table brought to its form in a stream, slot by slot, with a name for each slot.
-use Rattle.mig_dirtysave_rounds.proofs.Common.{◌≡◌, ℕ, ◌+◌, ◌-◌, ◌*◌, ◌/◌, ◌^◌, ◌<◌, ◌≤◌, nat_lt, Bool, true, false, cond, List, Option, Some, None, refl, sym, ap, subst, ◌∙◌, arith, Frame, long_at, entry, blanked_table, IsWithin, first_superpage, renamed_by, ChangedBelow, no_slot, is_lost, lost_at, put_slot}
+use Rattle.mig_dirtysave_rounds.proofs.Common.{◌≡◌, ℕ, ◌+◌, ◌-◌, ◌*◌, ◌/◌, ◌^◌, ◌<◌, ◌≤◌, nat_lt, Bool, true, false, cond, List, Option, Some, None, refl, sym, ap, subst, ◌∙◌, arith, Frame, long_at, entry, blanked_table, IsWithin, first_superpage, renamed_by, ChangedBelow, no_slot, is_lost, lost_at, put_slot, ltb-true, Blank, NotPresent, Superpage, is_superpage, with_frame, each_twice, next_below, still, one_changed, one_stays, walk_end}
 use Rattle.std.proofs.Common.{◌%◌, ◌==◌, ◌&&◌, nat_le}
-use Rattle.std.proofs.lemmas.Bool.{ltb-true}
 use Rattle.mig_bytes.proofs.ByteLists.{long_below}
 use Rattle.mig_guest.specs.declared.table.Entry.{Entry}
-use Rattle.mig_guest.specs.declared.table.Entry.TheVariants.{Blank, NotPresent, Superpage}
 use Rattle.mig_guest.specs.Tables.{entry_of, named_frame, is_present, is_large, is_blank_slot, blanked_entry}
 use Rattle.mig_guest.proofs.Longs.{same_longs}
-use Rattle.mig_pvtables.specs.Tables.{is_superpage, with_frame}
 use Rattle.mig_pvtables.specs.Renaming.{with_name, named_anew, renamed_entry}
 use Rattle.mig_pvtables.proofs.BlankSays.{blank_says, low_says}
-use Rattle.mig_pvtables.proofs.LongSteps.{each_twice, next_below, still, one_changed, one_stays, walk_end}
 use Rattle.mig_pvtables.proofs.Moduli.{long_of_each}
 use Rattle.mig_pvtables.proofs.Renamed.{says, blanked_small}
 use Rattle.mig_pvtables.proofs.RenameSteps.{blank_slot}

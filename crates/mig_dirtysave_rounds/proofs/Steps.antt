@@ -1,16 +1,9 @@
 -- What one more number does to the saver's invariant, and to a round.
-use Rattle.mig_dirtysave_rounds.proofs.Common.{arith, ◌≡◌, ℕ, suc, ◌+◌, ◌*◌, ◌^◌, ◌≤◌, ◌<◌, List, [], ◌∷◌, ◌++◌, length, Bool, true, false, cond, Option, Some, None, Result, Ok, Err, refl, sym, ap, subst, ◌∙◌, inl, inr, ⊎_elim, length-append, append-nil, ◌||◌, ◌==◌, ◌⊎◌, OnErr, nat_cmp_total, eqb-true, nat_tests, length-map, Kind, Pv, Hvm, FrameOf, HostOf, HostFrames, Pfns, no_pfns, members, size, with_pfn, Footprint, footprint, History, Since, nothing_asked, MachineState, Ran, table_of, superpage_in, lost_in, form_of_print, type_of_print, Worst, Finding, judge, judged, found_as, frame_sent, is_deferred, type_found, CanBeTold, ReadsOne, Strays, most_calls, rest, entries_read, entries_read_before, frames_meant, AreTold, IsBehind, FrameTold, Notes, Current, noted, behind_anyway, ReadsFront, SendsFront, IsWorst, or_first, within_set, place, super_of, lost_of, size-le, size_more, size_stays}
-use Rattle.std.proofs.Common.{map, append_assoc}
-use Rattle.std.specs.Cmp.{unsigned_tied}
-use Rattle.std.proofs.lemmas.List.{map-append}
+use Rattle.mig_dirtysave_rounds.proofs.Common.{arith, ◌≡◌, ℕ, suc, ◌+◌, ◌*◌, ◌^◌, ◌≤◌, ◌<◌, List, [], ◌∷◌, ◌++◌, length, Bool, true, false, cond, Option, Some, None, Result, Ok, Err, refl, sym, ap, subst, ◌∙◌, inl, inr, ⊎_elim, length-append, append-nil, ◌||◌, ◌==◌, ◌⊎◌, OnErr, nat_cmp_total, eqb-true, nat_tests, length-map, Kind, Pv, Hvm, FrameOf, HostOf, HostFrames, Pfns, no_pfns, members, size, with_pfn, Footprint, footprint, History, Since, nothing_asked, MachineState, Ran, table_of, superpage_in, lost_in, form_of_print, type_of_print, Worst, Finding, judge, judged, found_as, frame_sent, is_deferred, type_found, CanBeTold, ReadsOne, Strays, most_calls, rest, entries_read, entries_read_before, frames_meant, AreTold, IsBehind, FrameTold, Notes, Current, noted, behind_anyway, ReadsFront, SendsFront, IsWorst, or_first, within_set, place, super_of, lost_of, size-le, size_more, size_stays, map, append_assoc, unsigned_tied, map-append, FrameMap, entry_for, put_at, put_told, IsToldEntry, FallsBehind, members_yes, members_no}
 use Rattle.std.proofs.lemmas.List.Sums.{fold-append}
-use Rattle.mig_guest.specs.Frames.{FrameMap}
 use Rattle.mig_dirtysave_rounds.specs.declared.found.Found.{Found}
-use Rattle.mig_dirtysave_rounds.specs.Entries.{entry_for, put_at, put_told, IsToldEntry}
-use Rattle.mig_records_pages.specs.Batches.{FallsBehind}
 use Rattle.mig_dirtysave_rounds.specs.Sends.{first_pfn, found_super, found_lost}
 use Rattle.mig_dirtysave_rounds.proofs.Parts.{nothing_before, front_more, front_skip, not_itself, rest_more, rest_skip, rest_all, skip_to}
-use Rattle.mig_guest.proofs.Sizes.{members_yes, members_no}
 use Rattle.mig_dirtysave_rounds.proofs.Sizes.{size_front, one_more_at_most}
 use Rattle.mig_dirtysave_rounds.proofs.Shapes.{shape_none, shape_on}
 use Rattle.std.specs.FinMap as fin

@@ -1,12 +1,8 @@
 -- A table that is settled has kept its footprint, so names looked up at different moments belong together.
-use Rattle.mig_dirtysave_rounds.proofs.Common.{arith, ◌≡◌, ℕ, ◌+◌, ◌-◌, ◌≤◌, ◌<◌, List, length, true, false, Option, Some, None, cond, refl, sym, ap, subst, ◌∙◌, inl, inr, option_map, PageType, Broken, Xalloc, Xtab, level_of, type_has_data, HostFrame, HostFrames, MachineState, Ran, Frame, FrameOf, long_at, entry, blanked_table, EachEntry, IsWithin, renamed_by, first_superpage, ChangedBelow, no_slot, Footprint, footprint, footprint_of, names_in, table_in, lost_at, is_lost, superpage_in, lost_in, form_page, judge, judged, found_as, frame_sent, NamesWithin, Shows, Looks, IsRaw, IsRenamed, IsRight, put_slot}
+use Rattle.mig_dirtysave_rounds.proofs.Common.{arith, ◌≡◌, ℕ, ◌+◌, ◌-◌, ◌≤◌, ◌<◌, List, length, true, false, Option, Some, None, cond, refl, sym, ap, subst, ◌∙◌, inl, inr, option_map, PageType, Broken, Xalloc, Xtab, level_of, type_has_data, HostFrame, HostFrames, MachineState, Ran, Frame, FrameOf, long_at, entry, blanked_table, EachEntry, IsWithin, renamed_by, first_superpage, ChangedBelow, no_slot, Footprint, footprint, footprint_of, names_in, table_in, lost_at, is_lost, superpage_in, lost_in, form_page, judge, judged, found_as, frame_sent, NamesWithin, Shows, Looks, IsRaw, IsRenamed, IsRight, put_slot, pfn_in, walk_start, named_by, Settled, raw_print, NameIsInside}
 use Rattle.std.proofs.Common.{◌==◌, eq-eqb, ne_eqb, below_more}
 use Rattle.std.specs.Prelude.{option_and_then, get_or}
-use Rattle.mig_guest.specs.Hosts.{pfn_in}
 use Rattle.mig_guest.specs.Tables.{entry_of}
-use Rattle.mig_pvtables.proofs.LongSteps.{walk_start}
-use Rattle.mig_guest.specs.Footprints.{named_by}
-use Rattle.mig_dirtysave_rounds.specs.Step.{Settled, raw_print, NameIsInside}
 use Rattle.mig_dirtysave_rounds.proofs.Slots.{formed_long, same_long, names_alike, same_names, put_step, table_formed, entries_within}
 use Rattle.mig_dirtysave_rounds.proofs.Shapes.{shape_none, shape_on}
 use Rattle.std.specs.FinMap as maps

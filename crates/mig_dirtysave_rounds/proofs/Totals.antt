@@ -1,10 +1,6 @@
 -- How much is read in all, and how many records that makes.
-use Rattle.mig_dirtysave_rounds.proofs.Common.{arith, ◌≡◌, ℕ, zero, suc, ◌+◌, ◌*◌, ◌≤◌, ◌^◌, List, [], ◌∷◌, length, Option, false, sym, ap, subst, ◌∙◌, append-nil, length-append, nat_tests, length-map, Kind, PageType, FrameTold, IsSent, nothing_sent, Pfns, size, members, all_below, pfns_of_words, History, LogTook, no_history, MachineState, IsValidState, Rounds, rounds_read, all_read, Worst, IsBelow, entries_read, entries_read_before, AreTold, frames_meant, Notes, notes_of, LiveSent, SendsRounds, SavedSent, worst_fault, FramesSaved, IsUnused, size-le}
+use Rattle.mig_dirtysave_rounds.proofs.Common.{arith, ◌≡◌, ℕ, zero, suc, ◌+◌, ◌*◌, ◌≤◌, ◌^◌, List, [], ◌∷◌, length, Option, false, sym, ap, subst, ◌∙◌, append-nil, length-append, nat_tests, length-map, Kind, PageType, FrameTold, IsSent, nothing_sent, Pfns, size, members, all_below, pfns_of_words, History, LogTook, no_history, MachineState, IsValidState, Rounds, rounds_read, all_read, Worst, IsBelow, entries_read, entries_read_before, AreTold, frames_meant, Notes, notes_of, LiveSent, SendsRounds, SavedSent, worst_fault, FramesSaved, IsUnused, size-le, all_told, AreSized, AreFull, few_batches, pfns_sent}
 use Rattle.std.proofs.Math.Nat.{suc-mul}
-use Rattle.mig_records_pages.specs.Told.{all_told}
-use Rattle.mig_records_pages.specs.Batches.{AreSized, AreFull}
-use Rattle.mig_records_pages.proofs.Joins.{few_batches}
-use Rattle.mig_dirtysave_rounds.specs.Entries.{pfns_sent}
 use Rattle.mig_dirtysave_rounds.proofs.Ends.{sent_start}
 use Rattle.mig_dirtysave_rounds.proofs.Saves.{length_rounds, size_none}
 

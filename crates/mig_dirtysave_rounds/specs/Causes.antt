@@ -1,6 +1,6 @@
 -- Faults have causes: what is answered of a machine or a sink that fails, by the count of faults that each keeps.
 use Rattle.std.specs.Prelude.{◌≡◌, ℕ, ◌≤◌, Result, OnOk, IsErrOf}
-use Rattle.mig_bytes.specs.Faults.{Rose}
+use Rattle.mig_dirtysave_rounds.specs.Common.{Rose}
 
 -- The count never falls, after `Ok` it is as it was, and this fault is answered only where it rose.
 pub record AnswerHasCause {T E : Type 0} (fault : E) (before now : ℕ) (result : Result T E) : Type 0 where

@@ -1,11 +1,7 @@
 -- The saver's invariant.
 use Rattle.std.specs.Prelude.{◌≡◌, ℕ, List, false, get_or, ◌==◌, Option, None, if◌then◌else◌}
 use Rattle.std.specs.FinMap as maps
-use Rattle.mig_pagetypes.specs.declared.page_type.PageType.{PageType}
-use Rattle.mig_guest.specs.Hosts.{HostFrames}
-use Rattle.mig_records_pages.specs.Told.{FrameTold}
-use Rattle.mig_guest.specs.Pfns.{Pfns, pfns_of_words}
-use Rattle.mig_guest.specs.Footprints.{footprint}
+use Rattle.mig_dirtysave_rounds.specs.Common.{PageType, HostFrames, FrameTold, Pfns, pfns_of_words, footprint}
 use Rattle.mig_dirtysave_rounds.specs.Forms.{type_of_print}
 use Rattle.mig_dirtysave_rounds.specs.Findings.{Finding, judged, frame_sent, is_deferred, type_found}
 use Rattle.mig_dirtysave_rounds.specs.Entries.{frames_meant}

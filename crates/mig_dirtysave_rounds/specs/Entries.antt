@@ -2,9 +2,7 @@
 use Rattle.std.specs.Prelude.{◌<◌, ℕ, List, Option, Some, None, fold, map}
 use Rattle.std.specs.List.{AllByRecursion}
 use Rattle.std.specs.FinMap as maps
-use Rattle.mig_headers.specs.declared.kind.Kind.{Kind}
-use Rattle.mig_guest.specs.Frames.{FrameOf, FrameMap}
-use Rattle.mig_records_pages.specs.Told.{FrameTold}
+use Rattle.mig_dirtysave_rounds.specs.Common.{Kind, FrameOf, FrameMap, FrameTold}
 use Rattle.mig_dirtysave_rounds.specs.Findings.{Finding, frame_sent, CanBeTold}
 
 -- the entry of a PFN at which this was found

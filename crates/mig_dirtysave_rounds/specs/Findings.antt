@@ -1,11 +1,6 @@
 -- What a saver finds at a frame number (PFN), and what of it stands in the stream.
 use Rattle.std.specs.Prelude.{◌≡◌, ℕ, ◌-◌, Bool, true, false, List, length, Option, Some, None, is_some, if◌then◌else◌}
-use Rattle.mig_headers.specs.declared.kind.Kind.{Kind}
-use Rattle.mig_pagetypes.specs.declared.page_type.PageType.{PageType}
-use Rattle.mig_pagetypes.specs.PageTypes.{type_has_data}
-use Rattle.mig_guest.specs.Frames.{FrameOf, is_type_of}
-use Rattle.mig_guest.specs.Tables.{EachEntry, IsWithin}
-use Rattle.mig_guest.specs.Footprints.{Footprint}
+use Rattle.mig_dirtysave_rounds.specs.Common.{Kind, PageType, type_has_data, FrameOf, is_type_of, EachEntry, IsWithin, Footprint}
 use Rattle.mig_dirtysave_rounds.specs.Forms.{table_of, superpage_in, lost_in, form_of_print}
 use Rattle.mig_dirtysave_rounds.specs.declared.found.Found.{Found}
 use Rattle.mig_dirtysave_rounds.specs.declared.found.Found.TheVariants as found

@@ -1,16 +1,7 @@
 -- What a footprint says of a frame: the frame as a stream has it, and what of a table no stream can have.
 use Rattle.std.specs.Prelude.{ℕ, Bool, false, List, Option, Some, None, find, is_none}
-use Rattle.std.specs.Option.{option_map}
-use Rattle.mig_pagetypes.specs.declared.page_type.PageType.{PageType}
-use Rattle.mig_pagetypes.specs.PageTypes.{level_of}
-use Rattle.mig_guest.specs.declared.table.Entry.{Entry}
-use Rattle.mig_guest.specs.declared.table.Entry.TheVariants.{Frame}
-use Rattle.mig_guest.specs.Frames.{FrameOf}
-use Rattle.mig_guest.specs.Tables.{entry, blanked_table}
+use Rattle.mig_dirtysave_rounds.specs.Common.{option_map, PageType, level_of, Entry, Frame, FrameOf, entry, blanked_table, renamed_by, first_superpage, Footprint, table_in}
 use Rattle.mig_pvtables.specs.Faults.{slots}
-use Rattle.mig_pvtables.specs.Renaming.{renamed_by}
-use Rattle.mig_pvtables.specs.Tables.{first_superpage}
-use Rattle.mig_guest.specs.Footprints.{Footprint, table_in}
 
 -- the level and the raw page, where the frame is a table
 abbrev pub table_of : Footprint → Option (ℕ × List ℕ)

@@ -1,3 +1,4 @@
+mod Common
 pub mod Causes
 pub mod Forms
 pub mod Findings

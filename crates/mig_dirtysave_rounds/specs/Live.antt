@@ -1,21 +1,9 @@
 -- Where a save stands: while the guest runs, when the rounds are over, and in the end.
 use Rattle.std.specs.Prelude.{◌≡◌, ℕ, ◌+◌, ◌*◌, ◌^◌, ◌<◌, ◌≤◌, List, [], length, true, false, Option, Some, None, get_or}
-use Rattle.std.specs.Option.{option_map}
+use Rattle.mig_dirtysave_rounds.specs.Common.{option_map, Kind, Unsound, PageType, FrameMap, HostFrame, HostFrames, FrameTold, all_told, BatchesWritten, AreSized, IsSent, IsBehind, Pfns, size, footprint, footprint_of, LogTook, nothing_asked, MachineState, IsSameShape, OfEachLog, GoesOn, AreCalls, Rounds, Tight, to_read, rounds_read, all_read, least_log, most_rounds}
 use Rattle.std.specs.FinMap as maps
-use Rattle.mig_headers.specs.declared.kind.Kind.{Kind}
-use Rattle.mig_headers.specs.declared.unsound.Unsound.{Unsound}
 use Rattle.mig_headers.specs.declared.unsound.Unsound.TheVariants as unsounds
-use Rattle.mig_pagetypes.specs.declared.page_type.PageType.{PageType}
-use Rattle.mig_guest.specs.Frames.{FrameMap}
-use Rattle.mig_guest.specs.Hosts.{HostFrame, HostFrames}
 use Rattle.mig_pvtables.specs.Blank.{each_value}
-use Rattle.mig_records_pages.specs.Told.{FrameTold, all_told}
-use Rattle.mig_records_pages.specs.Batches.{BatchesWritten, AreSized, IsSent, IsBehind}
-use Rattle.mig_guest.specs.Pfns.{Pfns, size}
-use Rattle.mig_guest.specs.Footprints.{footprint, footprint_of}
-use Rattle.mig_guest.specs.History.{LogTook, nothing_asked}
-use Rattle.mig_guest.specs.MachineStates.{MachineState, IsSameShape}
-use Rattle.mig_guest.specs.Rounds.{OfEachLog, GoesOn, AreCalls, Rounds, Tight, to_read, rounds_read, all_read, least_log, most_rounds}
 use Rattle.mig_dirtysave_rounds.specs.declared.found.Worst.{Worst}
 use Rattle.mig_dirtysave_rounds.specs.Forms.{form_of_print, superpage_slot, lost_slot}
 use Rattle.mig_dirtysave_rounds.specs.Parts.{entries_read}

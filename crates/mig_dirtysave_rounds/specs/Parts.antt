@@ -1,7 +1,6 @@
 -- Parts of a set of frame numbers (PFN), and how much was read.
 use Rattle.std.specs.Prelude.{ℕ, ◌+◌, List, [], ◌∷◌, nat_lt, nat_le, ◌&&◌}
-use Rattle.mig_guest.specs.Pfns.{Pfns, size}
-use Rattle.mig_guest.specs.History.{LogTook, History}
+use Rattle.mig_dirtysave_rounds.specs.Common.{Pfns, size, LogTook, History}
 
 -- those of a set below i
 abbrev pub front : ℕ → Pfns → Pfns

@@ -1,12 +1,6 @@
 -- What reading and sending one PFN does, and what a set of them does.
 use Rattle.std.specs.Prelude.{◌≡◌, ℕ, zero, suc, ◌+◌, ◌*◌, ◌≤◌, List, [], ◌++◌, length, true, false, Option, Some, None, if◌then◌else◌}
-use Rattle.std.specs.Option.{option_map}
-use Rattle.mig_guest.specs.Hosts.{HostFrames}
-use Rattle.mig_records_pages.specs.Told.{FrameTold}
-use Rattle.mig_records_pages.specs.Batches.{IsSent, IsBehind}
-use Rattle.mig_guest.specs.Pfns.{Pfns, no_pfns, members, size}
-use Rattle.mig_guest.specs.Footprints.{footprint}
-use Rattle.mig_guest.specs.MachineStates.{MachineState, IsSameShape}
+use Rattle.mig_dirtysave_rounds.specs.Common.{option_map, HostFrames, FrameTold, IsSent, IsBehind, Pfns, no_pfns, members, size, footprint, MachineState, IsSameShape}
 use Rattle.mig_dirtysave_rounds.specs.declared.found.Found.{Found}
 use Rattle.mig_dirtysave_rounds.specs.declared.found.Found.TheVariants as found
 use Rattle.mig_dirtysave_rounds.specs.declared.found.Worst.{Worst}

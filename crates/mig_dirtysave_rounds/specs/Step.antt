@@ -2,20 +2,9 @@
 use Rattle.std.specs.Prelude.{◌≡◌, ℕ, ◌+◌, ◌*◌, ◌^◌, ◌-◌, ◌<◌, ◌≤◌, min, ◌||◌, ◌⊎◌, List, true, false, Option, Some, None}
 use Rattle.byteorder.specs.Endian.{little_bytes}
 use Rattle.mig_bytes.specs.Fields.{with_field}
-use Rattle.mig_headers.specs.declared.kind.Kind.{Kind}
+use Rattle.mig_dirtysave_rounds.specs.Common.{Kind, PageType, HostFrames, pfn_in, Entry, Blank, NotPresent, Superpage, Frame, entry, blanked_table, IsWithin, first_superpage, with_frame, renamed_by, with_pfn, Footprint, footprint, names_in, History, one_more, MachineState, Ran}
 use Rattle.mig_headers.specs.declared.kind.Kind.TheVariants.{Pv, Hvm}
-use Rattle.mig_pagetypes.specs.declared.page_type.PageType.{PageType}
-use Rattle.mig_guest.specs.Hosts.{HostFrames, pfn_in}
-use Rattle.mig_guest.specs.declared.table.Entry.{Entry}
-use Rattle.mig_guest.specs.declared.table.Entry.TheVariants.{Blank, NotPresent, Superpage, Frame}
 use Rattle.mig_guest.specs.Longs.{long_at}
-use Rattle.mig_guest.specs.Tables.{entry, blanked_table, IsWithin}
-use Rattle.mig_pvtables.specs.Tables.{first_superpage, with_frame}
-use Rattle.mig_pvtables.specs.Renaming.{renamed_by}
-use Rattle.mig_guest.specs.Pfns.{with_pfn}
-use Rattle.mig_guest.specs.Footprints.{Footprint, footprint, names_in}
-use Rattle.mig_guest.specs.History.{History, one_more}
-use Rattle.mig_guest.specs.MachineStates.{MachineState, Ran}
 use Rattle.mig_dirtysave_rounds.specs.Forms.{lost_in}
 use Rattle.mig_dirtysave_rounds.specs.Findings.{Finding, judged, frame_sent, CanBeTold}
 

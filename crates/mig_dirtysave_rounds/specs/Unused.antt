@@ -1,9 +1,6 @@
 -- What stands ready for a save.
 use Rattle.std.specs.Prelude.{◌≡◌, ◌+◌, ◌/◌, ◌≤◌, ℕ, List, [], length, Option}
-use Rattle.mig_pagetypes.specs.declared.page_type.PageType.{PageType}
-use Rattle.mig_guest.specs.Hosts.{most_saved_width}
-use Rattle.mig_records_pages.specs.Told.{FrameTold}
-use Rattle.mig_guest.specs.Pfns.{all_below, pfns_of_words}
+use Rattle.mig_dirtysave_rounds.specs.Common.{PageType, most_saved_width, FrameTold, all_below, pfns_of_words}
 use Rattle.mig_dirtysave_rounds.specs.Current.{notes_of, no_notes}
 
 -- nothing is held, every PFN is to be read, and nothing is noted of any; a set of them fits into each row of words

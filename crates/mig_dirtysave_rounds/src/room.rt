@@ -1,5 +1,5 @@
 ghost use Rattle.std.specs.Prelude.{◌≡◌, ℕ, ◌<◌, ◌≤◌, length, slice_index_or, IfOk, None};
-ghost use Rattle.mig_guest.specs.Hosts.{most_saved_width};
+ghost use Rattle.mig_dirtysave_rounds.specs.Common.{most_saved_width};
 
 use mig_bytes::Memory;
 use mig_pagetypes::PageType;

@@ -1,8 +1,5 @@
 ghost use Rattle.std.specs.Prelude.{◌≡◌, ◌+◌, ◌/◌, ◌≤◌, [], length, true, OnOk, OnErr, IfOk};
-ghost use Rattle.mig_guest.specs.Hosts.{most_saved_width};
-ghost use Rattle.mig_guest.specs.Pfns.{pfns_of_words};
-ghost use Rattle.mig_guest.specs.History.{nothing_asked};
-ghost use Rattle.mig_guest.specs.Changes.{IsBelow};
+ghost use Rattle.mig_dirtysave_rounds.specs.Common.{most_saved_width, pfns_of_words, nothing_asked, IsBelow};
 ghost use Rattle.mig_dirtysave_rounds.specs.Causes.{FaultsHaveCauses};
 ghost use Rattle.mig_dirtysave_rounds.specs.Current.{notes_of};
 ghost use Rattle.mig_dirtysave_rounds.specs.Sends.{ReadsFront, SendsSet, SetLeavesBehind, IsWorst};

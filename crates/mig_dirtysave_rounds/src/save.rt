@@ -1,14 +1,5 @@
 ghost use Rattle.std.specs.Prelude.{◌≡◌, ◌+◌, ◌*◌, ◌/◌, ◌^◌, ◌≤◌, [], length, true, false, OnOk, OnErr, IfOk, IsErrOf, Some, None};
-ghost use Rattle.mig_bytes.specs.Faults.{FaultHasCause};
-ghost use Rattle.mig_guest.specs.Hosts.{most_saved_width};
-ghost use Rattle.mig_headers.specs.declared.unsound.Unsound.{Unsound};
-ghost use Rattle.mig_records_pages.specs.Batches.{IsBehind};
-ghost use Rattle.mig_guest.specs.Pfns.{pfns_of_words, size};
-ghost use Rattle.mig_guest.specs.History.{no_history};
-ghost use Rattle.mig_guest.specs.MachineCalls.{Paused};
-ghost use Rattle.mig_guest.specs.MachineStates.{IsValidState, Stays};
-ghost use Rattle.mig_guest.specs.Rounds.{most_rounds};
-ghost use Rattle.mig_guest.specs.Changes.{IsBelow};
+ghost use Rattle.mig_dirtysave_rounds.specs.Common.{FaultHasCause, most_saved_width, Unsound, IsBehind, pfns_of_words, size, no_history, Paused, IsValidState, Stays, most_rounds, IsBelow};
 ghost use Rattle.mig_dirtysave_rounds.specs.Causes.{FaultsHaveCauses};
 ghost use Rattle.mig_dirtysave_rounds.specs.Parts.{entries_read, entries_read_before};
 ghost use Rattle.mig_dirtysave_rounds.specs.Current.{notes_of};

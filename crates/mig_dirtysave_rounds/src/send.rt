@@ -1,9 +1,6 @@
 ghost use Rattle.std.specs.Prelude.{◌≡◌, ℕ, ◌+◌, ◌/◌, ◌<◌, List, length, Option, Some, None, OnOk, OnErr, IfOk, IsErrOf, if◌then◌else◌};
-ghost use Rattle.std.specs.Option.{option_map};
-ghost use Rattle.mig_bytes.specs.Faults.{FaultHasCause};
+ghost use Rattle.mig_dirtysave_rounds.specs.Common.{option_map, FaultHasCause, type_has_data, SendsOn, FallsBehind};
 ghost use Rattle.mig_pagetypes.specs.Limits.{pfn_limit};
-ghost use Rattle.mig_pagetypes.specs.PageTypes.{type_has_data};
-ghost use Rattle.mig_records_pages.specs.Batches.{SendsOn, FallsBehind};
 ghost use Rattle.mig_records_pages.specs.PageData.{most_entries};
 ghost use Rattle.mig_dirtysave_rounds.specs.Causes.{FaultsHaveCauses};
 ghost use Rattle.mig_dirtysave_rounds.specs.Findings.{found_as, frame_sent, is_deferred, type_found};

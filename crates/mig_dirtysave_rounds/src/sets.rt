@@ -1,8 +1,5 @@
 ghost use Rattle.std.specs.Prelude.{◌≡◌, ◌+◌, ◌/◌, ◌<◌, length, OnOk, OnErr, IsErrOf};
-ghost use Rattle.mig_bytes.specs.Faults.{FaultHasCause};
-ghost use Rattle.mig_guest.specs.Pfns.{pfns_of_words, joined};
-ghost use Rattle.mig_guest.specs.MachineCalls.{LogTaken};
-ghost use Rattle.mig_guest.specs.MachineStates.{Stays};
+ghost use Rattle.mig_dirtysave_rounds.specs.Common.{FaultHasCause, pfns_of_words, joined, LogTaken, Stays};
 ghost use Rattle.mig_dirtysave_rounds.specs.declared.found.SendFault.TheVariants.{WriteFault};
 
 use crate::found::SendFault;

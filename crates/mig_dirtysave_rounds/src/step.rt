@@ -1,5 +1,5 @@
 ghost use Rattle.std.specs.Prelude.{◌<◌, IfOk, IsErrOf};
-ghost use Rattle.mig_bytes.specs.Faults.{FaultHasCause};
+ghost use Rattle.mig_dirtysave_rounds.specs.Common.{FaultHasCause};
 ghost use Rattle.mig_dirtysave_rounds.specs.Findings.{found_as};
 ghost use Rattle.mig_dirtysave_rounds.specs.Step.{ReadsOne, Strays};
 ghost use Rattle.mig_dirtysave_rounds.specs.Live.{KeepsShape};

@@ -1,8 +1,6 @@
 ghost use Rattle.std.specs.Prelude.{◌≡◌, ◌<◌, ◌≤◌, OnOk, IfOk, IsErrOf, Some};
-ghost use Rattle.mig_bytes.specs.Faults.{FaultHasCause};
-ghost use Rattle.mig_pagetypes.specs.PageTypes.{level_of};
+ghost use Rattle.mig_dirtysave_rounds.specs.Common.{FaultHasCause, level_of, names_in};
 ghost use Rattle.mig_guest.specs.Tables.{entry as what_is_said};
-ghost use Rattle.mig_guest.specs.Footprints.{names_in};
 ghost use Rattle.mig_dirtysave_rounds.specs.Forms.{lost_at};
 ghost use Rattle.mig_dirtysave_rounds.specs.Findings.{found_as, frame_sent, NamesWithin, ShowsOnly};
 ghost use Rattle.mig_dirtysave_rounds.specs.Step.{Looks, IsRaw, IsRenamed, IsRight, NameIsInside, put_slot};

@@ -1,12 +1,6 @@
 -- What a frame more asks of the host of the exercise, and what it gives.
-use Rattle.mig_exercise.proofs.Common.{◌≡◌, ℕ, zero, suc, ◌+◌, ◌-◌, ◌<◌, ◌≤◌, Bool, true, false, cond, nat_lt, List, length, Some, None, refl, sym, ap, subst, ◌∙◌, inl, inr, arith, min, cases_lt, le-ltb, ne_eqb, ◌==◌, nat_cmp_total, nat_cmp, Pv, Notab, HostOf, HostFrame, insert_len, p2m_page, data_count, exercise_frame, exercise_machine, exercise_machine_of, exercise_page, exercise_type, first_data, table_naming, page_of_zeros, host_begun, most_frames}
-use Rattle.std.proofs.lemmas.Option.{none-some}
+use Rattle.mig_exercise.proofs.Common.{◌≡◌, ℕ, zero, suc, ◌+◌, ◌-◌, ◌<◌, ◌≤◌, Bool, true, false, cond, nat_lt, List, length, Some, None, refl, sym, ap, subst, ◌∙◌, inl, inr, arith, min, cases_lt, le-ltb, ne_eqb, ◌==◌, nat_cmp_total, nat_cmp, Pv, Notab, HostOf, HostFrame, insert_len, p2m_page, data_count, exercise_frame, exercise_machine, exercise_machine_of, exercise_page, exercise_type, first_data, table_naming, page_of_zeros, host_begun, most_frames, none-some, L1Tab, L2Tab, L3Tab, L4Pinned, type_has_data, is_type_of, IsHostFrame, put_frame}
 use Rattle.mig_pagetypes.specs.declared.page_type.PageType.{PageType}
-use Rattle.mig_pagetypes.specs.declared.page_type.PageType.TheVariants.{L1Tab, L2Tab, L3Tab, L4Pinned}
-use Rattle.mig_pagetypes.specs.PageTypes.{type_has_data}
-use Rattle.mig_guest.specs.Frames.{is_type_of}
-use Rattle.mig_guest.specs.Hosts.{IsHostFrame}
-use Rattle.mig_host.specs.HostView.{put_frame}
 use Rattle.mig_exercise.specs.ExerciseHosts.{frames_up_to}
 use Rattle.mig_exercise.proofs.Frames.{frame_there, frame_none}
 use Rattle.std.specs.FinMap as maps

@@ -1,13 +1,8 @@
 -- How many bytes the canonical stream has of the guest that the host of the exercise is seen as.
-use Rattle.mig_exercise.proofs.Common.{◌≡◌, ℕ, zero, suc, ◌+◌, ◌-◌, ◌*◌, ◌/◌, List, [], length, map, Bool, true, false, cond, Option, Some, None, sym, ap, subst, ◌∙◌, inl, inr, is_some, arith, nat_lt, cases_lt, nat_cmp_total, nat_cmp-IsAntisymmetric, All, nat_cmp, ◌==◌, unwrap_or, level_of, FrameOf, FrameMap, HostFrame, HostFrames, pfn_in, longs, part_cmp, p2m_key, vcpu_key, shared_key, PartMap, length_longs, part_total, part_exact, each_value, is_used_somewhere, from_each, without_machine, view, Frame, batches, canon_any, IsExerciseSize, ArePages, p2m_frame_count, first_data, exercise_page, exercise_frame, exercise_p2m_list, exercise_context, page_of_zeros, host_with}
-use Rattle.std.proofs.lemmas.List.{length-replicate}
+use Rattle.mig_exercise.proofs.Common.{◌≡◌, ℕ, zero, suc, ◌+◌, ◌-◌, ◌*◌, ◌/◌, List, [], length, map, Bool, true, false, cond, Option, Some, None, sym, ap, subst, ◌∙◌, inl, inr, is_some, arith, nat_lt, cases_lt, nat_cmp_total, nat_cmp-IsAntisymmetric, All, nat_cmp, ◌==◌, unwrap_or, level_of, FrameOf, FrameMap, HostFrame, HostFrames, pfn_in, longs, part_cmp, p2m_key, vcpu_key, shared_key, PartMap, length_longs, part_total, part_exact, each_value, is_used_somewhere, from_each, without_machine, view, Frame, batches, canon_any, IsExerciseSize, ArePages, p2m_frame_count, first_data, exercise_page, exercise_frame, exercise_p2m_list, exercise_context, page_of_zeros, host_with, length-replicate, all_found, place_of, blanked_context, blanked_shared, shown, entries_each, len_each}
 use Rattle.std.specs.FinMap.Entries.{put}
 use Rattle.std.specs.Int.{div_ceil}
-use Rattle.mig_guest.proofs.Found.{all_found}
 use Rattle.mig_pvtables.specs.Blank.{zero_page as blank_page, blanked_page, blanked_frame, blanked_part}
-use Rattle.mig_pvtables.specs.P2mFrames.{place_of}
-use Rattle.mig_pvtables.specs.VcpuContexts.{blanked_context, blanked_shared}
-use Rattle.mig_pvtables.proofs.EachValue.{shown, entries_each, len_each}
 use Rattle.mig_host_view.specs.Localised.{renamed_page, renamed_frame, renamed_part}
 use Rattle.mig_host_view.specs.RenamedContexts.{renamed_context}
 use Rattle.mig_host.proofs.InOrder.{no_entries}

@@ -1,24 +1,13 @@
 -- How many bytes the canonical stream has of a PV guest that has no parts but a list of P2M frames, the context of one vCPU
 -- and the shared page, and of which each frame has a page.
-use Rattle.mig_exercise.proofs.Common.{◌≡◌, ◌≢◌, ℕ, zero, suc, ◌+◌, ◌*◌, List, [], ◌∷◌, ◌++◌, length, take, drop, map, Some, None, true, false, cond, refl, sym, ap, ◌∙◌, arith, All, little_bytes, Pv, FrameMap, part_cmp, p2m_key, vcpu_key, shared_key, PartMap, VcpuBasic, PartKey, part_exact, Frame, batches}
+use Rattle.mig_exercise.proofs.Common.{◌≡◌, ◌≢◌, ℕ, zero, suc, ◌+◌, ◌*◌, List, [], ◌∷◌, ◌++◌, length, take, drop, map, Some, None, true, false, cond, refl, sym, ap, ◌∙◌, arith, All, little_bytes, Pv, FrameMap, part_cmp, p2m_key, vcpu_key, shared_key, PartMap, VcpuBasic, PartKey, part_exact, Frame, batches, find, flat_map, list_any, eq_by_cmp, if◌then◌else◌, is_emulator_code, code_number, Part, parts_of, PartCode, tied, page_in, pages_of, body_of, batch, frame_bodies, records_in_order, static_codes, pv_last_codes, static_bodies, p2m_body, p2m_record, p2m_records, part_record, key_of, vcpu_codes, records_of_vcpu, vcpus_below, all_vcpus, last_records, info_records, headers, canon}
 use Rattle.std.proofs.Common.{replicate, append-nil, length-append}
 use Rattle.std.proofs.lemmas.List.Elements.{All-head, All-tail, All-take, All-drop}
 use Rattle.std.proofs.lemmas.List.FromFn.{map-range_with_len_more}
-use Rattle.std.specs.FinMap.{find}
-use Rattle.std.specs.List.{flat_map, list_any}
-use Rattle.std.specs.Ordering.{eq_by_cmp}
-use Rattle.std.specs.Prelude.{if◌then◌else◌}
 use Rattle.mig_headers.specs.Headers.{image_header_of, domain_header_of}
-use Rattle.mig_guest.specs.Formed.{is_emulator_code}
 use Rattle.mig_guest.specs.Guests.{GuestOf}
-use Rattle.mig_guest.specs.PartCodes.{code_number}
-use Rattle.mig_guest.specs.Parts.{Part, parts_of}
-use Rattle.mig_guest.specs.declared.part_code.PartCode.{PartCode}
-use Rattle.mig_guest.proofs.KeyedMaps.{tied}
 use Rattle.mig_records.specs.Shapes.{canonical_bodies}
 use Rattle.mig_records.specs.Records.{head_of, spelled, Record, text_of}
-use Rattle.mig_records_pages.specs.PageData.{page_in, pages_of, body_of}
-use Rattle.mig_canon.specs.Canon.{batch, frame_bodies, records_in_order, static_codes, pv_last_codes, static_bodies, p2m_body, p2m_record, p2m_records, part_record, key_of, vcpu_codes, records_of_vcpu, vcpus_below, all_vcpus, last_records, info_records, headers, canon}
 use Rattle.mig_records_pages.proofs.PageTexts.{words_len}
 use Rattle.mig_canon.proofs.PvRecords.{vcpus_end}
 use Rattle.mig_records.proofs.RecordTexts.{spelled_flat, text_one, text_join}

@@ -1,11 +1,7 @@
 -- What the lines of the exercise log are frames of data, so a round behind the first reads at most all of these.
-use Rattle.mig_exercise.proofs.Common.{◌≡◌, ℕ, zero, suc, ◌+◌, ◌-◌, ◌*◌, ◌≤◌, ◌<◌, Bool, true, false, cond, nat_eq, List, [], ◌∷◌, length, Some, None, inl, inr, refl, sym, ap, ◌∙◌, arith, AllByRecursion, HostOf, LineOf, Write, Dot, ran, ran_between, applies, after_line, after, IsExerciseSize, first_data, data_count, host_of_exercise, IsDataWrite, script_of_exercise}
-use Rattle.std.proofs.Common.{filter, mul-le-mul_right}
-use Rattle.std.specs.List.{range_with_len}
-use Rattle.std.proofs.lemmas.Bool.{or_cases, eqb-true, false≢true}
+use Rattle.mig_exercise.proofs.Common.{◌≡◌, ℕ, zero, suc, ◌+◌, ◌-◌, ◌*◌, ◌≤◌, ◌<◌, Bool, true, false, cond, nat_eq, List, [], ◌∷◌, length, Some, None, inl, inr, refl, sym, ap, ◌∙◌, arith, AllByRecursion, HostOf, LineOf, Write, Dot, ran, ran_between, applies, after_line, after, IsExerciseSize, first_data, data_count, host_of_exercise, IsDataWrite, script_of_exercise, filter, mul-le-mul_right, range_with_len, or_cases, eqb-true, false≢true, logs, with_logged, logged_after}
 use Rattle.mig_headers.specs.declared.kind.Kind.{Kind}
 use Rattle.mig_guest.specs.Pfns.{Pfns, no_pfns, with_pfn, joined, size}
-use Rattle.mig_machine_script.specs.HostLines.{logs, with_logged, logged_after}
 use Rattle.mig_machine_script.specs.Touched.{touched}
 use Rattle.mig_machine.specs.Paced.{Pace, pace_before, ArePaces, Paced, sizes, sent_again}
 use Rattle.mig_exercise.proofs.DataWrites.{script_writes, between_writes}

@@ -1,12 +1,9 @@
 -- The lines of the exercise write into frames of data alone, and leave a host of its kind.
-use Rattle.mig_exercise.proofs.Common.{◌≡◌, ◌≢◌, ℕ, zero, suc, ◌+◌, ◌-◌, ◌*◌, ◌%◌, ◌≤◌, ◌<◌, Bool, true, false, cond, nat_eq, nat_lt, min, List, [], ◌∷◌, ◌++◌, take, drop, length, Option, Some, refl, sym, ap, ◌∙◌, inl, inr, arith, AllByRecursion, option_map, cases_lt, eq-eqb, ne_eqb, le-ltb, HostOf, HostFrame, HostFrames, length_longs, p2m_page, LineOf, Write, Dot, ran, ran_between, applies, after_line, after, number, IsExerciseSize, ArePages, first_data, data_count, exercise_machine_of, exercise_machine, exercise_type, exercise_page, frames_up_to, table_naming, page_of_zeros, host_with, host_of_exercise, first_contents, IsDataWrite, script_of_exercise}
-use Rattle.std.proofs.lemmas.Bool.{ltb-false}
+use Rattle.mig_exercise.proofs.Common.{◌≡◌, ◌≢◌, ℕ, zero, suc, ◌+◌, ◌-◌, ◌*◌, ◌%◌, ◌≤◌, ◌<◌, Bool, true, false, cond, nat_eq, nat_lt, min, List, [], ◌∷◌, ◌++◌, take, drop, length, Option, Some, refl, sym, ap, ◌∙◌, inl, inr, arith, AllByRecursion, option_map, cases_lt, eq-eqb, ne_eqb, le-ltb, HostOf, HostFrame, HostFrames, length_longs, p2m_page, LineOf, Write, Dot, ran, ran_between, applies, after_line, after, number, IsExerciseSize, ArePages, first_data, data_count, exercise_machine_of, exercise_machine, exercise_type, exercise_page, frames_up_to, table_naming, page_of_zeros, host_with, host_of_exercise, first_contents, IsDataWrite, script_of_exercise, ltb-false, is_inserted, ends_group, first_group, lines_up_to}
 use Rattle.std.proofs.lemmas.Grind.{common_steps}
 use Rattle.byteorder.specs.Numbers.{length-bytes_low_first}
-use Rattle.mig_bytes.proofs.NumberMaps.{is_inserted}
 use Rattle.mig_pagestore.specs.Pages.{spliced}
 use Rattle.mig_host.specs.Changes.{put_or_stay, page_written}
-use Rattle.mig_machine_script.specs.Groups.{ends_group, first_group, lines_up_to}
 use Rattle.mig_exercise.specs.ExerciseScripts.{exercise_write, writes_up_to}
 use Rattle.mig_exercise.proofs.Frames.{frame_there, frame_none}
 use Rattle.std.specs.FinMap as maps

@@ -1,10 +1,8 @@
 -- The tables of the exercise: what each of their slots says is known, where each frame of the host is.
-use Rattle.mig_exercise.proofs.Common.{◌≡◌, ℕ, zero, suc, ◌+◌, ◌/◌, ◌%◌, ◌^◌, ◌<◌, true, false, cond, not, nat_lt, List, Option, Some, None, refl, sym, ap, subst, ◌∙◌, arith, lit<, eq-eqb, ne_eqb, ltb-true, ◌==◌, level_of, Notab, long_of_longs, NamesKnown, first_data, data_count, exercise_type, exercise_machine, table_naming, exercise_page}
-use Rattle.std.proofs.Common.{IsSome}
+use Rattle.mig_exercise.proofs.Common.{◌≡◌, ℕ, zero, suc, ◌+◌, ◌/◌, ◌%◌, ◌^◌, ◌<◌, true, false, cond, not, nat_lt, List, Option, Some, None, refl, sym, ap, subst, ◌∙◌, arith, lit<, eq-eqb, ne_eqb, ltb-true, ◌==◌, level_of, Notab, long_of_longs, NamesKnown, first_data, data_count, exercise_type, exercise_machine, table_naming, exercise_page, IsSome, present_entry}
 use Rattle.std.specs.Prelude.{min, nat_le, ◌&&◌}
 use Rattle.mig_guest.specs.declared.table.Entry.TheVariants.{Blank, NotPresent, Superpage, Frame}
 use Rattle.mig_guest.specs.Tables.{is_present, is_large, named_frame, is_blank_slot, entry_of, entry}
-use Rattle.mig_exercise.specs.ExerciseHosts.{present_entry}
 
 -- a machine frame fits into an entry
 pub machine_small : (n pfn : ℕ) → n < 65537 → exercise_machine n pfn < 2 ^ 40

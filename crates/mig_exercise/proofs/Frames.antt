@@ -1,6 +1,5 @@
 -- What stands in the host of the exercise.
-use Rattle.mig_exercise.proofs.Common.{◌≡◌, ◌≢◌, ℕ, zero, suc, ◌<◌, ◌≤◌, List, Some, None, sym, ap, ◌∙◌, inl, inr, arith, cases_eq, p2m_key, vcpu_key, shared_key, exercise_frame, exercise_p2m_list, exercise_context, page_of_zeros}
-use Rattle.mig_bytes.proofs.NumberMaps.{inserted, inserted_other}
+use Rattle.mig_exercise.proofs.Common.{◌≡◌, ◌≢◌, ℕ, zero, suc, ◌<◌, ◌≤◌, List, Some, None, sym, ap, ◌∙◌, inl, inr, arith, cases_eq, p2m_key, vcpu_key, shared_key, exercise_frame, exercise_p2m_list, exercise_context, page_of_zeros, inserted, inserted_other}
 use Rattle.mig_guest.proofs.PartSets.{put_there, put_other}
 use Rattle.mig_exercise.specs.ExerciseHosts.{frames_up_to, exercise_parts}
 use Rattle.std.specs.FinMap as maps

@@ -1,10 +1,7 @@
 -- Bytes made of numbers, and what writing some of them makes.
-use Rattle.mig_exercise.proofs.Common.{◌≡◌, ℕ, zero, suc, ◌+◌, ◌-◌, ◌*◌, ◌^◌, ◌<◌, ◌≤◌, Bool, true, false, cond, nat_lt, List, ◌++◌, Some, None, refl, sym, ap, ◌∙◌, inl, inr, arith, min, cases_lt, le-ltb, eq-eqb, ne_eqb, unwrap_or, ◌==◌, little_bytes, with_field, p2m_page, exercise_context, exercise_machine, exercise_machine_of, exercise_page, table_naming, page_of_zeros, number_page}
-use Rattle.std.proofs.lemmas.Bool.{cond_below, lt-ltb}
-use Rattle.std.proofs.lemmas.List.{replicate-append-replicate}
+use Rattle.mig_exercise.proofs.Common.{◌≡◌, ℕ, zero, suc, ◌+◌, ◌-◌, ◌*◌, ◌^◌, ◌<◌, ◌≤◌, Bool, true, false, cond, nat_lt, List, ◌++◌, Some, None, refl, sym, ap, ◌∙◌, inl, inr, arith, min, cases_lt, le-ltb, eq-eqb, ne_eqb, unwrap_or, ◌==◌, little_bytes, with_field, p2m_page, exercise_context, exercise_machine, exercise_machine_of, exercise_page, table_naming, page_of_zeros, number_page, cond_below, lt-ltb, replicate-append-replicate, same_longs, put_long}
 use Rattle.std.specs.Prelude.{replicate}
 use Rattle.mig_guest.specs.Longs.{longs}
-use Rattle.mig_guest.proofs.Longs.{same_longs, put_long}
 use Rattle.mig_pvtables.proofs.LongSteps.{one_more_below}
 
 -- equal bytes, as numbers that are all the same

@@ -1,14 +1,7 @@
 -- What the parts of the exercise ask of its host, and what setting them makes.
-use Rattle.mig_exercise.proofs.Common.{◌≡◌, ℕ, suc, true, ◌+◌, ◌*◌, ◌^◌, ◌<◌, ◌≤◌, List, ◌++◌, length, refl, sym, ap, subst, ◌∙◌, arith, eq-eqb, ◌==◌, little_bytes, Pv, VcpuBasic, PartKey, HostOf, part_cmp, p2m_key, vcpu_key, shared_key, PartMap, insert_len, length_longs, part_total, exercise_context, exercise_p2m_list, p2m_frame_count, page_of_zeros, most_policy_entries}
+use Rattle.mig_exercise.proofs.Common.{◌≡◌, ℕ, suc, true, ◌+◌, ◌*◌, ◌^◌, ◌<◌, ◌≤◌, List, ◌++◌, length, refl, sym, ap, subst, ◌∙◌, arith, eq-eqb, ◌==◌, little_bytes, Pv, VcpuBasic, PartKey, HostOf, part_cmp, p2m_key, vcpu_key, shared_key, PartMap, insert_len, length_longs, part_total, exercise_context, exercise_p2m_list, p2m_frame_count, page_of_zeros, most_policy_entries, PartCode, P2mFrames, SharedInfo, IsRawContent, IsHostPart, code_number, row_of, FitsPolicy, put_part_in}
 use Rattle.std.proofs.lemmas.List.Sums.{length-filter, count_by-le-length}
-use Rattle.mig_guest.specs.declared.part_code.PartCode.{PartCode}
-use Rattle.mig_guest.specs.declared.part_code.PartCode.TheVariants.{P2mFrames, SharedInfo}
-use Rattle.mig_guest.specs.Formed.{IsRawContent}
-use Rattle.mig_guest.specs.Hosts.{IsHostPart}
 use Rattle.mig_guest.specs.Longs.{longs}
-use Rattle.mig_guest.specs.PartCodes.{code_number, row_of}
-use Rattle.mig_guest.specs.Parts.{FitsPolicy}
-use Rattle.mig_host.specs.HostView.{put_part_in}
 use Rattle.mig_exercise.specs.ExerciseHosts.{exercise_parts}
 use Rattle.std.specs.FinMap as maps
 

@@ -1,19 +1,8 @@
 -- Whatever its frames of data hold, the host of the exercise can be seen as a guest.
-use Rattle.mig_exercise.proofs.Common.{◌≡◌, ◌≢◌, ℕ, ◌+◌, ◌-◌, ◌*◌, ◌/◌, ◌^◌, ◌<◌, ◌≤◌, true, false, cond, not, nat_lt, List, length, Some, None, is_some, refl, sym, ap, subst, ◌∙◌, inl, inr, arith, lit<, cases_eq, cases_lt, ne_eqb, le-ltb, ltb-true, nat_cmp_total, nat_cmp-IsAntisymmetric, option_map, ◌==◌, level_of, PartKey, FrameOf, FrameMap, HostFrame, HostFrames, pfn_in, longs, part_cmp, p2m_key, vcpu_key, shared_key, length_longs, long_of_longs, part_total, part_exact, NamesKnown, each_value, is_used_somewhere, from_each, unsoundness, without_machine, p2m_frame_count, exercise_type, exercise_machine, exercise_page, exercise_frame, frames_up_to, exercise_context, exercise_p2m_list, page_of_zeros, host_with, ArePages, IsExerciseSize, most_gdt_entries}
-use Rattle.std.proofs.lemmas.Bool.{le-leb}
-use Rattle.std.proofs.lemmas.Option.{cond_some}
-use Rattle.std.specs.Prelude.{option_and_then}
-use Rattle.mig_guest.specs.Formed.{gdt_ents}
-use Rattle.mig_guest.specs.Hosts.{IsOneToOne}
-use Rattle.mig_guest.specs.Longs.{long_at}
+use Rattle.mig_exercise.proofs.Common.{◌≡◌, ◌≢◌, ℕ, ◌+◌, ◌-◌, ◌*◌, ◌/◌, ◌^◌, ◌<◌, ◌≤◌, true, false, cond, not, nat_lt, List, length, Some, None, is_some, refl, sym, ap, subst, ◌∙◌, inl, inr, arith, lit<, cases_eq, cases_lt, ne_eqb, le-ltb, ltb-true, nat_cmp_total, nat_cmp-IsAntisymmetric, option_map, ◌==◌, level_of, PartKey, FrameOf, FrameMap, HostFrame, HostFrames, pfn_in, longs, part_cmp, p2m_key, vcpu_key, shared_key, length_longs, long_of_longs, part_total, part_exact, NamesKnown, each_value, is_used_somewhere, from_each, unsoundness, without_machine, p2m_frame_count, exercise_type, exercise_machine, exercise_page, exercise_frame, frames_up_to, exercise_context, exercise_p2m_list, page_of_zeros, host_with, ArePages, IsExerciseSize, most_gdt_entries, le-leb, cond_some, option_and_then, gdt_ents, IsOneToOne, long_at, insert_holds, listed_in, listed, field_value, frame_of_field, to_each, machine_type, IsSound}
 use Rattle.mig_guest.specs.Tables.{EachEntry}
-use Rattle.mig_guest.proofs.Found.{insert_holds}
 use Rattle.mig_pvtables.specs.Faults.{type_at, fits_field}
-use Rattle.mig_pvtables.specs.P2mFrames.{listed_in, listed}
-use Rattle.mig_pvtables.specs.VcpuContexts.{field_value, frame_of_field}
 use Rattle.mig_pvtables.specs.WholePv.{AreP2mFrames}
-use Rattle.mig_pvtables.proofs.EachValue.{to_each}
-use Rattle.mig_host_view.specs.Sound.{machine_type, IsSound}
 use Rattle.mig_host_view.proofs.SoundRows.{sound_is_faultless}
 use Rattle.mig_host.proofs.Machines.{pfn_of_machine}
 use Rattle.mig_exercise.specs.ExerciseHosts.{exercise_parts}

@@ -1,6 +1,5 @@
 -- How the script of the exercise grows.
-use Rattle.mig_exercise.proofs.Common.{◌≡◌, ℕ, suc, ◌+◌, ◌*◌, ◌%◌, List, [], ◌∷◌, ◌++◌, map, ap, ◌∙◌, arith, little_bytes, line_said, Write, Dot, next_number, first_data, data_count}
-use Rattle.std.proofs.lemmas.List.{map-append}
+use Rattle.mig_exercise.proofs.Common.{◌≡◌, ℕ, suc, ◌+◌, ◌*◌, ◌%◌, List, [], ◌∷◌, ◌++◌, map, ap, ◌∙◌, arith, little_bytes, line_said, Write, Dot, next_number, first_data, data_count, map-append}
 use Rattle.mig_machine_script.specs.declared.script.Line.{Line}
 use Rattle.mig_exercise.specs.Numbers.{number}
 use Rattle.mig_exercise.specs.ExerciseScripts.{writes_up_to}

@@ -1,11 +1,9 @@
 -- The host of the exercise: a PV guest with so many frames, one tree of page tables, and frames of data.
 use Rattle.std.specs.Prelude.{◌≡◌, ℕ, zero, suc, ◌+◌, ◌-◌, ◌*◌, ◌/◌, ◌^◌, ◌<◌, List, length, min, Option, Some, None, ◌==◌, nat_lt, if◌then◌else◌}
 use Rattle.std.specs.FinMap as maps
-use Rattle.mig_headers.specs.declared.kind.Kind.TheVariants.{Pv}
+use Rattle.mig_exercise.specs.Common.{Pv, HostOf, HostFrame, HostFrames, longs}
 use Rattle.mig_pagetypes.specs.declared.page_type.PageType.{PageType}
 use Rattle.mig_pagetypes.specs.declared.page_type.PageType.TheVariants.{Notab, L1Tab, L2Tab, L3Tab, L4Pinned}
-use Rattle.mig_guest.specs.Hosts.{HostOf, HostFrame, HostFrames}
-use Rattle.mig_guest.specs.Longs.{longs}
 use Rattle.mig_guest.specs.Parts.{PartMap}
 use Rattle.mig_guest.specs.PartKeys.{p2m_key, vcpu_key, shared_key}
 use Rattle.mig_pvtables.specs.P2mPages.{p2m_page}

@@ -1,7 +1,6 @@
 -- The script of the exercise: writes into frames of data, one between two calls of a machine.
 use Rattle.std.specs.Prelude.{◌≡◌, ◌≤◌, ◌<◌, ⊤, ℕ, zero, suc, ◌+◌, ◌*◌, ◌%◌, List, [], ◌∷◌, ◌++◌, length}
-use Rattle.byteorder.specs.Endian.{little_bytes}
-use Rattle.mig_machine_script.specs.ScriptLines.{LineOf}
+use Rattle.mig_exercise.specs.Common.{little_bytes, LineOf}
 use Rattle.mig_machine_script.specs.ScriptLines.LineOf.{Write, Dot}
 use Rattle.mig_exercise.specs.Numbers.{number}
 use Rattle.mig_exercise.specs.ExerciseHosts.{first_data, data_count}

@@ -1,9 +1,7 @@
 -- What stands while the host of the exercise is built.
 use Rattle.std.specs.Prelude.{ℕ, List, ◌==◌, if◌then◌else◌}
 use Rattle.std.specs.FinMap as maps
-use Rattle.mig_headers.specs.declared.kind.Kind.TheVariants.{Pv}
-use Rattle.mig_guest.specs.Hosts.{HostOf}
-use Rattle.mig_guest.specs.Longs.{longs}
+use Rattle.mig_exercise.specs.Common.{Pv, HostOf, longs}
 use Rattle.mig_exercise.specs.ExerciseHosts.{frames_up_to}
 
 -- the host with its first m frames, and without parts

@@ -1,5 +1,5 @@
 ghost use Rattle.std.specs.Prelude.{◌≡◌, ℕ, ◌+◌, ◌-◌, ◌*◌, ◌<◌, ◌≤◌, List, nat_lt, if◌then◌else◌};
-ghost use Rattle.mig_guest.specs.Longs.{longs};
+ghost use Rattle.mig_exercise.specs.Common.{longs};
 ghost use Rattle.mig_pvtables.specs.P2mPages.{p2m_page as page_of_p2m};
 ghost use Rattle.mig_exercise.specs.ExerciseHosts.{IsExerciseSize, p2m_frame_count as count_of_p2m, first_data as first_of_data, exercise_type, exercise_machine, exercise_machine_of, exercise_page, table_naming};
 ghost use Rattle.mig_exercise.specs.ExerciseSteps.{number_page};

@@ -1,7 +1,6 @@
 ghost use Rattle.std.specs.Prelude.{◌≡◌, ◌++◌, IfOk, OnOk};
 ghost use Rattle.std.specs.FinMap as maps;
-ghost use Rattle.byteorder.specs.Endian.{little_bytes};
-ghost use Rattle.mig_headers.specs.declared.kind.Kind.TheVariants.{Pv};
+ghost use Rattle.mig_exercise.specs.Common.{little_bytes, Pv};
 ghost use Rattle.mig_exercise.specs.ExerciseHosts.{IsExerciseSize, exercise_context, exercise_p2m_list, exercise_parts};
 
 use crate::pages::{machine_of, p2m_frame_count};

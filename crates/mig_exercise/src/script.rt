@@ -1,6 +1,5 @@
 ghost use Rattle.std.specs.Prelude.{◌≡◌, IfOk, OnOk, [], ◌∷◌, ◌++◌};
-ghost use Rattle.byteorder.specs.Endian.{little_bytes};
-ghost use Rattle.mig_machine_script.specs.ScriptLines.{line_said};
+ghost use Rattle.mig_exercise.specs.Common.{little_bytes, line_said};
 ghost use Rattle.mig_machine_script.specs.ScriptLines.LineOf.{Write};
 ghost use Rattle.mig_machine_script.specs.declared.script.Line.TheVariants.{Dot};
 ghost use Rattle.mig_exercise.specs.ExerciseHosts.{IsExerciseSize};

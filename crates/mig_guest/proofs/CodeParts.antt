@@ -1,8 +1,6 @@
 -- The parts of a code that a well formed guest has: each by its row, and how many there are at most.
-use Rattle.mig_guest.proofs.Common.{◌≡◌, ℕ, ◌+◌, ◌≤◌, ◌<◌, List, [], ◌∷◌, length, true, refl, sym, ap, subst, ◌∙◌, arith, T, nat_lt, ◌==◌, and_parts, eqb-true, ltb-true, nat_cmp_total, ranked, tied_itself, All-nil, All-cons, All-head, All-tail, All-filter, filter_passes, All, is_lt, nat_cmp, ordering_then, Ordering, Less, Equal, Greater, is_sorted, below_all, is_sorted-where_key, IsPart, IsFormed, width_of, GuestOf, part_cmp, Part, parts_of, vcpu_limit}
+use Rattle.mig_guest.proofs.Common.{◌≡◌, ℕ, ◌+◌, ◌≤◌, ◌<◌, List, [], ◌∷◌, length, true, refl, sym, ap, subst, ◌∙◌, arith, T, nat_lt, ◌==◌, and_parts, eqb-true, ltb-true, nat_cmp_total, ranked, tied_itself, All-nil, All-cons, All-head, All-tail, All-filter, filter_passes, All, is_lt, nat_cmp, ordering_then, Ordering, Less, Equal, Greater, is_sorted, below_all, is_sorted-where_key, IsPart, IsFormed, width_of, GuestOf, part_cmp, Part, parts_of, vcpu_limit, PartCode, code_number, row_of, small_number}
 use Rattle.std.specs.FinMap as maps
-use Rattle.mig_guest.specs.declared.part_code.PartCode.{PartCode}
-use Rattle.mig_guest.specs.PartCodes.{code_number, row_of, small_number}
 use Rattle.mig_guest.proofs.Found.{all_found}
 use Rattle.mig_guest.proofs.PartCursor.{both_of}
 use Rattle.mig_guest.proofs.PartOrder.{part_total, part_exact}

@@ -1,14 +1,8 @@
 -- Sets of all numbers below a width.
+use Rattle.mig_guest.proofs.Common.{bit_at, cases_lt, lt-ltb, le-ltb, get_or_past, one_shl, bit_at-zero, bit_at_ones, bit_at_ones_above, common_steps, pfns_of_words, all_below}
 use Rattle.std.proofs.Common.{arith, ◌≡◌, ◌≢◌, ℕ, ◌+◌, ◌-◌, ◌*◌, ◌/◌, ◌%◌, ◌^◌, ◌≤◌, ◌<◌, List, length, get_or, slice_set, false, nat_lt, sym, ap, ◌∙◌, inl, inr}
 use Rattle.std.specs.Prelude.{◌==◌}
-use Rattle.std.specs.Int.{bit_at}
-use Rattle.std.proofs.lemmas.Bool.{cases_lt, lt-ltb, le-ltb}
-use Rattle.std.proofs.lemmas.List.{get_or_past}
-use Rattle.std.proofs.lemmas.Nat.{one_shl}
-use Rattle.std.proofs.lemmas.Nat.Bits.{bit_at-zero, bit_at_ones, bit_at_ones_above}
-use Rattle.std.proofs.lemmas.Grind.{common_steps}
 use Rattle.std.proofs.Math.Path.{fun_ext}
-use Rattle.mig_guest.specs.Pfns.{pfns_of_words, all_below}
 
 -- ---- a word
 

@@ -1,11 +1,6 @@
 -- What is kept of a well formed guest where parts are set: one lemma over the table, whatever the code.
-use Rattle.mig_guest.proofs.Common.{◌≡◌, ◌≢◌, ℕ, ◌≤◌, List, [], ◌∷◌, length, Bool, true, false, not, nat_eq, Option, Some, None, refl, sym, ap, subst, ◌∙◌, arith, nat_cmp, AllByRecursion, nat_cmp-IsAntisymmetric, nat_cmp_total, eqb-true, eq-eqb, PartKey, FrameOf, FrameMap, framed, GuestOf, part_cmp, Part, PartMap, put_part, put_parts, replace_code, parts_of, FitsPolicy, IsPart, IsTop, IsGuestFrame, is_policy, width_of, IsFormed, AreParts, is_emulator_code, HasNoEmulators, most_policy_entries}
-use Rattle.std.proofs.lemmas.List.{nil_from_length}
+use Rattle.mig_guest.proofs.Common.{◌≡◌, ◌≢◌, ℕ, ◌≤◌, List, [], ◌∷◌, length, Bool, true, false, not, nat_eq, Option, Some, None, refl, sym, ap, subst, ◌∙◌, arith, nat_cmp, AllByRecursion, nat_cmp-IsAntisymmetric, nat_cmp_total, eqb-true, eq-eqb, PartKey, FrameOf, FrameMap, framed, GuestOf, part_cmp, Part, PartMap, put_part, put_parts, replace_code, parts_of, FitsPolicy, IsPart, IsTop, IsGuestFrame, is_policy, width_of, IsFormed, AreParts, is_emulator_code, HasNoEmulators, most_policy_entries, nil_from_length, Kind, Pv, Hvm, PageType, Xtab}
 use Rattle.std.specs.FinMap as fin
-use Rattle.mig_headers.specs.declared.kind.Kind.{Kind}
-use Rattle.mig_headers.specs.declared.kind.Kind.TheVariants.{Pv, Hvm}
-use Rattle.mig_pagetypes.specs.declared.page_type.PageType.{PageType}
-use Rattle.mig_pagetypes.specs.declared.page_type.PageType.TheVariants.{Xtab}
 use Rattle.mig_guest.proofs.PartOrder.{part_total, part_exact}
 use Rattle.mig_guest.proofs.PartSets.{puts_other, cleared_other}
 use Rattle.mig_guest.proofs.Counts.{same_parts, set_len, none_left}

@@ -1,10 +1,8 @@
 -- The entries of an ordered map seen as a finite map, each value through f, which may look at its key.
-use Rattle.mig_guest.proofs.Common.{◌≡◌, ◌+◌, ◌≤◌, Bool, true, false, cond, List, [], ◌∷◌, map, Option, Some, None, is_some, refl, sym, ap, subst, ◌∙◌, arith, T, ◌&&◌, Ordering, Less, Equal, Greater, eq_by_cmp, is_eq, is_lt, option_map, IsTotalOrder, AllByRecursion, lookup, keys_of, FinMap, find, is_sorted, IsAntisymmetric, same_map, get-from_entries, get-from_sorted, entries-from_sorted, get-insert, get-retain_keys, len-insert, below_all, eq_by_cmp_equiv}
+use Rattle.mig_guest.proofs.Common.{◌≡◌, ◌+◌, ◌≤◌, Bool, true, false, cond, List, [], ◌∷◌, map, Option, Some, None, is_some, refl, sym, ap, subst, ◌∙◌, arith, T, ◌&&◌, Ordering, Less, Equal, Greater, eq_by_cmp, is_eq, is_lt, option_map, IsTotalOrder, AllByRecursion, lookup, keys_of, FinMap, find, is_sorted, IsAntisymmetric, same_map, get-from_entries, get-from_sorted, entries-from_sorted, get-insert, get-retain_keys, len-insert, below_all, eq_by_cmp_equiv, is_at, lookup-filter-keys}
 use Rattle.std.specs.List.{filter}
 use Rattle.std.specs.List.Sorted.{IsStrictlySortedBy}
-use Rattle.std.specs.BTreeMap.{is_at}
 use Rattle.std.specs.FinMap as maps
-use Rattle.std.proofs.lemmas.Map.Entries.{lookup-filter-keys}
 
 -- an entry, with its value as it is seen
 abbrev pub shown : {K X Y : Type 0} → (K → X → Y) → K × X → K × Y

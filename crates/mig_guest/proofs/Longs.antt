@@ -1,7 +1,6 @@
 -- Bytes that are made of numbers of 8 bytes.
-use Rattle.mig_guest.proofs.Common.{◌≡◌, ◌≢◌, ℕ, zero, suc, ◌+◌, ◌*◌, ◌^◌, ◌<◌, ◌≤◌, List, [], ◌++◌, length, take, drop, refl, sym, ap, subst, ◌∙◌, inl, inr, arith, length-drop, length-append, append-nil, append_assoc, drop-drop, replicate, cases_lt}
+use Rattle.mig_guest.proofs.Common.{◌≡◌, ◌≢◌, ℕ, zero, suc, ◌+◌, ◌*◌, ◌^◌, ◌<◌, ◌≤◌, List, [], ◌++◌, length, take, drop, refl, sym, ap, subst, ◌∙◌, inl, inr, arith, length-drop, length-append, append-nil, append_assoc, drop-drop, replicate, cases_lt, take_all, drop_all, take_at, take-append-le, drop-append-le, drop_at, replicate-append-replicate}
 use Rattle.std.proofs.Math.Seq.{take-add}
-use Rattle.std.proofs.lemmas.List.{take_all, drop_all, take_at, take-append-le, drop-append-le, drop_at, replicate-append-replicate}
 use Rattle.byteorder.specs.Endian.{little_bytes, little_number}
 use Rattle.byteorder.specs.Numbers.{little_from-append, little_number-reads_back, length-bytes_low_first}
 use Rattle.mig_bytes.specs.Fields.{le64, with_field}

@@ -1,11 +1,7 @@
 -- A word has as many members as bits that are set.
-use Rattle.std.proofs.Common.{arith, ◌≡◌, ℕ, zero, suc, ◌+◌, ◌*◌, ◌/◌, ◌%◌, ◌^◌, ◌≤◌, ◌<◌, List, get_or, Bool, true, false, refl, sym, ap, ◌∙◌}
+use Rattle.mig_guest.proofs.Common.{arith, ◌≡◌, ℕ, zero, suc, ◌+◌, ◌*◌, ◌/◌, ◌%◌, ◌^◌, ◌≤◌, ◌<◌, List, get_or, Bool, true, false, refl, sym, ap, ◌∙◌, bit_at, ones-le, ones_cat, shr_split, shr_below, bit_at_cat_low, Pfns, size, pfns_of_words}
 use Rattle.std.specs.Prelude.{◌==◌}
-use Rattle.std.specs.Int.{bit_at}
 use Rattle.std.specs.Int.Count.{ones, ones_in}
-use Rattle.std.proofs.lemmas.Nat.{ones-le, ones_cat, shr_split, shr_below}
-use Rattle.std.proofs.lemmas.Nat.Bits.{bit_at_cat_low}
-use Rattle.mig_guest.specs.Pfns.{Pfns, size, pfns_of_words}
 use Rattle.mig_guest.proofs.Sizes.{next, size_more, size_stays, same_size}
 
 abbrev pub bits_of : ℕ → Pfns

@@ -1,13 +1,9 @@
 -- The members of a set are those below the width, and they ascend.
+use Rattle.mig_guest.proofs.Common.{All, range_with_len, cases_lt, lt-ltb, All-contains, All-filter, filter_passes, Contains-append_right, length-range_with_len, get_or-range_with_len, Pfns, all_below, members}
 use Rattle.std.proofs.Common.{◌≡◌, ℕ, zero, suc, ◌+◌, ◌<◌, ◌≤◌, Bool, true, false, cond, List, [], ◌∷◌, get_or, refl, ap, subst, ◌∙◌, arith, inl, inr, nat_lt}
 use Rattle.std.specs.Prelude.{filter, Contains}
-use Rattle.std.specs.List.{All, range_with_len}
 use Rattle.std.specs.List.Sorted.{IsStrictlyIncreasing}
-use Rattle.std.proofs.lemmas.Bool.{cases_lt, lt-ltb}
-use Rattle.std.proofs.lemmas.List.Elements.{All-contains, All-filter, filter_passes, Contains-append_right}
-use Rattle.std.proofs.lemmas.List.FromFn.{length-range_with_len, get_or-range_with_len}
 use Rattle.std.proofs.lemmas.List.Kept.{IsStrictlyIncreasing-filter}
-use Rattle.mig_guest.specs.Pfns.{Pfns, all_below, members}
 
 pub ascending : (width : ℕ) (set : Pfns) → IsStrictlyIncreasing (members width set)
 ascending width set =

@@ -1,9 +1,7 @@
 -- The first entry from a number on, told by what the map has at each number.
-use Rattle.mig_guest.proofs.Common.{◌≡◌, ℕ, ◌+◌, ◌<◌, ◌≤◌, cond, List, [], ◌∷◌, nat_le, Option, Some, None, IfSome, IfNone, refl, sym, ap, ◌∙◌, arith, le-leb, nat_cmp, is_le, is_lt, option_map, Less, FinMap, nat_cmp-IsAntisymmetric, leb-true, common_steps, filter_agree, entries_from, NextEntry}
+use Rattle.mig_guest.proofs.Common.{◌≡◌, ℕ, ◌+◌, ◌<◌, ◌≤◌, cond, List, [], ◌∷◌, nat_le, Option, Some, None, IfSome, IfNone, refl, sym, ap, ◌∙◌, arith, le-leb, nat_cmp, is_le, is_lt, option_map, Less, FinMap, nat_cmp-IsAntisymmetric, leb-true, common_steps, filter_agree, entries_from, NextEntry, Included, is_from_start}
 use Rattle.std.specs.List.{filter}
 use Rattle.std.specs.Cmp.{nat_cmp_total}
-use Rattle.std.specs.declared.ops.Bound.TheVariants.{Included}
-use Rattle.std.specs.BTreeMap.Range.{is_from_start}
 use Rattle.std.specs.FinMap as maps
 use Rattle.mig_guest.proofs.PartCursor.{next_from}
 use Rattle.mig_guest.proofs.Found.{none_passes, first_passes}

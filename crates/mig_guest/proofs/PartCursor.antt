@@ -1,10 +1,8 @@
 -- Walks over the entries of a finite map in the order of their keys, and over the parts of one code.
-use Rattle.mig_guest.proofs.Common.{◌≡◌, ℕ, ◌≤◌, List, [], ◌∷◌, map, filter, Bool, true, false, cond, not, Option, Some, None, IfSome, IfNone, refl, sym, ap, subst, ◌∙◌, arith, T, ◌&&◌, ◌==◌, and_right, eqb-true, tied_itself, common_steps, All-head, filter_agree, filter_passes, All, IsTotalOrder, nat_cmp, is_lt, is_le, ordering_then, Ordering, Less, Equal, Greater, keys_of, FinMap, is_sorted, IsAntisymmetric, below_all, PartKey, part_cmp, Part, parts_of, parts_after, parts_behind}
+use Rattle.mig_guest.proofs.Common.{◌≡◌, ℕ, ◌≤◌, List, [], ◌∷◌, map, filter, Bool, true, false, cond, not, Option, Some, None, IfSome, IfNone, refl, sym, ap, subst, ◌∙◌, arith, T, ◌&&◌, ◌==◌, and_right, eqb-true, tied_itself, common_steps, All-head, filter_agree, filter_passes, All, IsTotalOrder, nat_cmp, is_lt, is_le, ordering_then, Ordering, Less, Equal, Greater, keys_of, FinMap, is_sorted, IsAntisymmetric, below_all, PartKey, part_cmp, Part, parts_of, parts_after, parts_behind, Included, Excluded, Unbounded, is_from_start, entries_between}
 use Rattle.std.proofs.Math.Bool.{and_comm}
 use Rattle.std.proofs.lemmas.Map.Keys.{le_from_is_le}
 use Rattle.std.specs.declared.ops.Bound.{Bound}
-use Rattle.std.specs.declared.ops.Bound.TheVariants.{Included, Excluded, Unbounded}
-use Rattle.std.specs.BTreeMap.Range.{is_from_start, entries_between}
 use Rattle.std.specs.List.Sorted.{IsStrictlySortedBy}
 use Rattle.std.specs.FinMap as maps
 use Rattle.mig_guest.proofs.PartOrder.{part_total}

@@ -1,7 +1,5 @@
 -- What a search among the keys of the parts finds holds of the parts as they are seen.
-use Rattle.mig_guest.proofs.Common.{cond, ◌≡◌, ℕ, List, Option, Some, None, is_some, MutBor, refl, sym, ap, ◌∙◌, option_map, option_copied_mut, lookup, PartKey, PartMap, parts_seen, part_cmp}
-use Rattle.std.specs.declared.vec.Vec.{Vec}
-use Rattle.std.specs.BTreeMap.{is_at}
+use Rattle.mig_guest.proofs.Common.{cond, ◌≡◌, ℕ, List, Option, Some, None, is_some, MutBor, refl, sym, ap, ◌∙◌, option_map, option_copied_mut, lookup, PartKey, PartMap, parts_seen, part_cmp, Vec, is_at}
 use Rattle.std.specs.FinMap as maps
 use Rattle.mig_guest.proofs.PartOrder.{part_total, part_exact}
 use Rattle.mig_guest.proofs.KeyedMaps.{get_seen, seen_insert}

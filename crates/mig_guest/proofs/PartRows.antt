@@ -1,18 +1,7 @@
 -- Each row of the table of parts has a number of its own, and each part the row of its code.
-use Rattle.mig_guest.proofs.Common.{◌≡◌, ℕ, ◌<◌, ◌^◌, true, false, cond, List, [], ◌∷◌, length, Some, None, refl, sym, ap, subst, ◌∙◌, ◌==◌, ◌&&◌, eqb-true, and_parts, PartKey, FrameOf, IsFrame, is_hvm_type, is_type_of, IsPart, IsContent, IsRawContent, IsInside, IsGuestFrame}
+use Rattle.mig_guest.proofs.Common.{◌≡◌, ℕ, ◌<◌, ◌^◌, true, false, cond, List, [], ◌∷◌, length, Some, None, refl, sym, ap, subst, ◌∙◌, ◌==◌, ◌&&◌, eqb-true, and_parts, PartKey, FrameOf, IsFrame, is_hvm_type, is_type_of, IsPart, IsContent, IsRawContent, IsInside, IsGuestFrame, Hvm, Kind, PartCode, row_of, code_number, part_codes, code_of_number, level_of, PageType, Notab, Broken, Xalloc, Entry, IsHostPart, IsRowPart, EachEntry, IsWithin}
 use Rattle.std.specs.Prelude.{find}
-use Rattle.mig_headers.specs.declared.kind.Kind.TheVariants.{Hvm}
-use Rattle.mig_headers.specs.declared.kind.Kind.{Kind}
-use Rattle.mig_guest.specs.declared.part_code.PartCode.{PartCode}
 use Rattle.mig_guest.specs.declared.part_code.PartCode.TheVariants.{P2mFrames, EmulatorPairs}
-use Rattle.mig_guest.specs.PartCodes.{row_of, code_number, part_codes, code_of_number}
-use Rattle.mig_pagetypes.specs.PageTypes.{level_of}
-use Rattle.mig_pagetypes.specs.declared.page_type.PageType.{PageType}
-use Rattle.mig_pagetypes.specs.declared.page_type.PageType.TheVariants.{Notab, Broken, Xalloc}
-use Rattle.mig_guest.specs.declared.table.Entry.{Entry}
-use Rattle.mig_guest.specs.Hosts.{IsHostPart}
-use Rattle.mig_guest.specs.Formed.{IsRowPart}
-use Rattle.mig_guest.specs.Tables.{EachEntry, IsWithin}
 use Rattle.mig_pagetypes.specs.Limits.{pfn_limit}
 
 pub number_back : (c : PartCode) → code_of_number (code_number c) ≡ Some c

@@ -1,15 +1,10 @@
 -- What a footprint depends on.
-use Rattle.std.proofs.Common.{◌≡◌, ℕ, List, Option, Some, sym, ap, ◌∙◌}
+use Rattle.mig_guest.proofs.Common.{◌≡◌, ℕ, List, Option, Some, sym, ap, ◌∙◌, option_map, level_of, Entry, HostFrame, HostFrames, pfn_in, entry}
 use mathlib.Core.Path.{fun_ext}
 use Rattle.std.specs.Prelude.{option_and_then}
-use Rattle.std.specs.Option.{option_map}
 use Rattle.std.specs.FinMap as maps
-use Rattle.mig_pagetypes.specs.PageTypes.{level_of}
-use Rattle.mig_guest.specs.declared.table.Entry.{Entry}
 use Rattle.mig_guest.specs.declared.table.Entry.TheVariants.{Frame}
-use Rattle.mig_guest.specs.Hosts.{HostFrame, HostFrames, pfn_in}
 use Rattle.mig_guest.specs.Longs.{long_at}
-use Rattle.mig_guest.specs.Tables.{entry}
 use Rattle.mig_guest.specs.Footprints.{Footprint, footprint, footprint_of, named_by, names_in, table_in}
 
 same_names : (frame : HostFrame) (a b : ℕ → Option ℕ) → ((slot : ℕ) → a slot ≡ b slot) → ◌≡◌ {A = Option Footprint} (Some (record { type = frame.type; page = frame.page; names = a })) (Some (record { type = frame.type; page = frame.page; names = b }))

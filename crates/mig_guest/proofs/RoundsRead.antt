@@ -1,10 +1,7 @@
 -- What the rounds read begins with all PFNs below the width.
-use Rattle.std.proofs.Common.{◌≡◌, ℕ, ◌≤◌, List, [], ◌∷◌, ◌++◌, length, sym, ap, ◌∙◌, arith, append_assoc}
+use Rattle.mig_guest.proofs.Common.{◌≡◌, ℕ, ◌≤◌, List, [], ◌∷◌, ◌++◌, length, sym, ap, ◌∙◌, arith, append_assoc, range_with_len, Kind, members}
 use mathlib.Core.List.{append-nil}
-use Rattle.std.specs.List.{range_with_len}
-use Rattle.mig_headers.specs.declared.kind.Kind.{Kind}
 use Rattle.mig_guest.specs.History.{History, LogTook}
-use Rattle.mig_guest.specs.Pfns.{members}
 use Rattle.mig_guest.specs.Rounds.{Rounds, OfEachLog, to_read, rounds_read, all_read}
 use Rattle.mig_guest.proofs.Members.{all_members}
 

@@ -1,12 +1,7 @@
 -- The least member from a frame number on.
+use Rattle.mig_guest.proofs.Common.{bit_at, trailing_zeros, cases_lt, get_or_past, shr-shr, shr_le, bit_at-zero, bit_at_above, bit_at-trailing_zeros, pfns_of_words}
 use Rattle.std.proofs.Common.{arith, ◌≡◌, ℕ, ◌+◌, ◌-◌, ◌*◌, ◌/◌, ◌%◌, ◌^◌, ◌≤◌, ◌<◌, List, length, get_or, false, w64, refl, sym, ap, ◌∙◌, inl, inr}
 use Rattle.std.specs.Prelude.{◌==◌}
-use Rattle.std.specs.Int.{bit_at, trailing_zeros}
-use Rattle.std.proofs.lemmas.Bool.{cases_lt}
-use Rattle.std.proofs.lemmas.List.{get_or_past}
-use Rattle.std.proofs.lemmas.Nat.{shr-shr, shr_le}
-use Rattle.std.proofs.lemmas.Nat.Bits.{bit_at-zero, bit_at_above, bit_at-trailing_zeros}
-use Rattle.mig_guest.specs.Pfns.{pfns_of_words}
 
 -- ---- a bit of a word
 

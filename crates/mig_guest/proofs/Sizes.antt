@@ -1,12 +1,7 @@
 -- How many members sets have.
+use Rattle.mig_guest.proofs.Common.{range_with_len, map-id, filter_of_map_range_with_len_more, length-range_with_len, cases_lt, Pfns, members, size, IsBelow}
 use Rattle.std.proofs.Common.{arith, ◌≡◌, ℕ, zero, suc, ◌+◌, ◌-◌, ◌≤◌, ◌<◌, [], ◌∷◌, ◌++◌, length, filter, Bool, true, false, cond, refl, sym, ap, ◌∙◌, inl, inr, append-nil, length-append}
-use Rattle.std.specs.List.{range_with_len}
-use Rattle.std.proofs.lemmas.List.{map-id}
-use Rattle.std.proofs.lemmas.List.FromFn.{filter_of_map_range_with_len_more, length-range_with_len}
 use Rattle.std.proofs.lemmas.List.Sums.{length-filter, count_by-le-length}
-use Rattle.std.proofs.lemmas.Bool.{cases_lt}
-use Rattle.mig_guest.specs.Pfns.{Pfns, members, size}
-use Rattle.mig_guest.specs.Changes.{IsBelow}
 
 members_more : (set : Pfns) (i : ℕ) → members (i + 1) set ≡ members i set ++ cond (set i) (i ∷ []) []
 members_more set i =

@@ -1,9 +1,7 @@
 -- What of a frame must be logged where it changes while the guest runs, and which parts of a host never change.
 use Rattle.std.specs.Prelude.{ℕ, List, Option, Some, None, option_and_then}
-use Rattle.std.specs.Option.{option_map}
+use Rattle.mig_guest.specs.Common.{option_map, PageType, level_of}
 use Rattle.std.specs.FinMap as maps
-use Rattle.mig_pagetypes.specs.declared.page_type.PageType.{PageType}
-use Rattle.mig_pagetypes.specs.PageTypes.{level_of}
 use Rattle.mig_guest.specs.declared.table.Entry.{Entry}
 use Rattle.mig_guest.specs.declared.table.Entry.TheVariants.{Blank, NotPresent, Superpage, Frame}
 use Rattle.mig_guest.specs.Hosts.{HostFrame, HostFrames, pfn_in}

@@ -1,12 +1,9 @@
 -- Guests that are well formed: what a guest on its way to a whole one keeps, whatever records come.
 use Rattle.std.specs.Prelude.{◌≡◌, ◌≤◌, ◌<◌, ℕ, ◌+◌, ◌^◌, ⊤, Bool, true, false, List, [], ◌∷◌, length, Some, Ok, ◌==◌, ◌||◌}
 use Rattle.std.specs.FinMap as maps
-use Rattle.mig_bytes.specs.Fields.{le64}
+use Rattle.mig_guest.specs.Common.{le64, Kind, Pv, Hvm, pfn_limit, top_limit}
 use Rattle.mig_headers.specs.Contexts.{scan, cut_at}
 use Rattle.mig_headers.specs.Pairs.{AreCanonicalPairs}
-use Rattle.mig_headers.specs.declared.kind.Kind.{Kind}
-use Rattle.mig_headers.specs.declared.kind.Kind.TheVariants.{Pv, Hvm}
-use Rattle.mig_pagetypes.specs.Limits.{pfn_limit, top_limit}
 use Rattle.mig_guest.specs.declared.part_code.PartCode.{PartCode}
 use Rattle.mig_guest.specs.declared.part_code.PartCode.TheVariants.{VcpuBasic, HvmContext, EmulatorPairs}
 use Rattle.mig_guest.specs.declared.part_key.PartKey.{PartKey}

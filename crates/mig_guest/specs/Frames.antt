@@ -1,12 +1,7 @@
 -- The frames of a guest: those of its store, how many a guest may have, of which types, and in which order they come.
 use Rattle.std.specs.Prelude.{◌≡◌, ℕ, ◌+◌, ◌≤◌, Bool, true, false, List, [], ◌∷◌, length, filter, nat_le, Option, Some, None}
-use Rattle.std.specs.Ordering.{nat_cmp}
+use Rattle.mig_guest.specs.Common.{nat_cmp, Kind, Pv, Hvm, PageType, Notab, Broken, Xalloc, Xtab, most_frames}
 use Rattle.std.specs.FinMap as maps
-use Rattle.mig_headers.specs.declared.kind.Kind.{Kind}
-use Rattle.mig_headers.specs.declared.kind.Kind.TheVariants.{Pv, Hvm}
-use Rattle.mig_pagetypes.specs.declared.page_type.PageType.{PageType}
-use Rattle.mig_pagetypes.specs.declared.page_type.PageType.TheVariants.{Notab, Broken, Xalloc, Xtab}
-use Rattle.mig_pagetypes.specs.Limits.{most_frames}
 pub use Rattle.mig_pagestore.specs.Frames.{FrameOf, FrameMap, IsFrame, IsSized, framed, frame_code, frames_code}
 
 -- no more frames than a guest may have

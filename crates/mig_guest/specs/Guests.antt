@@ -1,7 +1,6 @@
 -- What a guest is: a kind, a number, a finite map of frames and a finite map of parts.
 use Rattle.std.specs.Prelude.{ℕ, refl}
-use Rattle.std.specs.Coded.{Coded, code_by, coded×, coded_ℕ}
-use Rattle.mig_headers.specs.declared.kind.Kind.{Kind}
+use Rattle.mig_guest.specs.Common.{Coded, code_by, coded×, coded_ℕ, Kind}
 use Rattle.mig_headers.specs.contracts.kind.Kind as kind
 use Rattle.mig_guest.specs.Frames.{FrameMap, frames_code}
 use Rattle.mig_guest.specs.Parts.{PartMap, parts_code}

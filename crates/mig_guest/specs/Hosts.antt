@@ -1,16 +1,9 @@
 -- What a host is: a guest as it stands in a machine, where each frame number has a machine frame.
 use Rattle.std.specs.Prelude.{◌≡◌, ℕ, ◌≤◌, ◌<◌, ◌^◌, true, List, length, Option, Some, is_some, refl, ◌==◌, find}
-use Rattle.std.specs.Option.{option_map}
-use Rattle.std.specs.Ordering.{nat_cmp}
+use Rattle.mig_guest.specs.Common.{option_map, nat_cmp, Coded, code_by, coded×, coded_ℕ, coded_list, coded_option, Kind, Pv, PageType, type_has_data, top_limit, machine_limit}
 use Rattle.std.specs.FinMap as maps
-use Rattle.std.specs.Coded.{Coded, code_by, coded×, coded_ℕ, coded_list, coded_option}
-use Rattle.mig_headers.specs.declared.kind.Kind.{Kind}
-use Rattle.mig_headers.specs.declared.kind.Kind.TheVariants.{Pv}
 use Rattle.mig_headers.specs.contracts.kind.Kind as kind
-use Rattle.mig_pagetypes.specs.declared.page_type.PageType.{PageType}
 use Rattle.mig_pagetypes.specs.contracts.page_type.PageType as page_type
-use Rattle.mig_pagetypes.specs.PageTypes.{type_has_data}
-use Rattle.mig_pagetypes.specs.Limits.{top_limit, machine_limit}
 use Rattle.mig_guest.specs.declared.part_key.PartKey.{PartKey}
 use Rattle.mig_guest.specs.Frames.{IsFew, is_type_of}
 use Rattle.mig_guest.specs.Formed.{IsRowPart, IsRawContent}

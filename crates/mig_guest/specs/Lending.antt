@@ -1,8 +1,7 @@
 -- What a guest ends as, where a `&mut` to one of its pages or parts is returned.
 use Rattle.std.specs.Prelude.{ℕ, List, ◌++◌, length, take, drop, Option, Some, None}
 use Rattle.std.specs.FinMap as maps
-use Rattle.std.specs.Borrow.{Lends, LendsIf, MutBor, Fml, RattleType, Array, u8}
-use Rattle.std.specs.declared.vec.Vec.{Vec}
+use Rattle.mig_guest.specs.Common.{Lends, LendsIf, MutBor, Fml, RattleType, Array, u8, Vec}
 use Rattle.std.specs.declared.alloc.Global.{Global}
 use Rattle.std.specs.Vec.{with_items}
 use Rattle.std.specs.contracts.vec.Vec as vec

@@ -1,3 +1,4 @@
+mod Common
 pub mod Order
 pub mod Limits
 pub mod Frames

@@ -1,7 +1,7 @@
 -- Bytes as numbers of 8 bytes each, the lowest byte first: tables, contexts of vCPUs, lists of frame numbers.
 use Rattle.std.specs.Prelude.{ℕ, zero, suc, ◌*◌, List, [], ◌++◌}
 use Rattle.byteorder.specs.Endian.{little_bytes}
-use Rattle.mig_bytes.specs.Fields.{le64}
+use Rattle.mig_guest.specs.Common.{le64}
 
 -- the number at place i
 abbrev pub long_at : List ℕ → ℕ → ℕ

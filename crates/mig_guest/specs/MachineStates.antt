@@ -1,6 +1,6 @@
 -- A machine as contracts see it, and what may happen to it while a call runs.
 use Rattle.std.specs.Prelude.{◌≡◌, ℕ, ◌≤◌, Bool, true, false, List, length}
-use Rattle.std.specs.Option.{option_map}
+use Rattle.mig_guest.specs.Common.{option_map}
 use Rattle.std.specs.FinMap as maps
 use Rattle.mig_guest.specs.declared.part_key.PartKey.{PartKey}
 use Rattle.mig_guest.specs.Hosts as hosts

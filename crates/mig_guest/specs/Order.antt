@@ -1,8 +1,7 @@
 -- The order of part keys: by code, then by the two keys.
 use Rattle.std.specs.Prelude.{◌≡◌, Option, Some, None}
 use Rattle.std.specs.declared.cmp.Ordering.{Ordering}
-use Rattle.std.specs.declared.cmp.Ordering.TheVariants.{Less}
-use Rattle.std.specs.Ordering.{nat_cmp, on, then_cmp}
+use Rattle.mig_guest.specs.Common.{Less, nat_cmp, on, then_cmp}
 use Rattle.mig_guest.specs.declared.part_key.PartKey.{PartKey}
 
 -- compares the codes, then key1, then key2

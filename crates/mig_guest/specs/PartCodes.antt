@@ -1,8 +1,7 @@
 -- What parts there are, a row each: the number of the code, the kinds of guest that have such parts, their keys, and
 -- the lengths of their bytes (libxc migration stream, "Records", and libxl migration stream, the emulator records).
 use Rattle.std.specs.Prelude.{ℕ, ◌+◌, ◌-◌, ◌*◌, ◌/◌, ◌%◌, Bool, true, List, [], ◌∷◌, Option, ◌==◌, ◌&&◌, ◌||◌, nat_le, nat_lt, find}
-use Rattle.mig_headers.specs.declared.kind.Kind.{Kind}
-use Rattle.mig_headers.specs.RecordTypes.{both, pv, hvm, exactly, most_body, vcpu_limit}
+use Rattle.mig_guest.specs.Common.{Kind, both, pv, hvm, exactly, most_body, vcpu_limit}
 use Rattle.mig_guest.specs.Limits.{most_pairs}
 use Rattle.mig_guest.specs.declared.part_code.PartCode.{PartCode}
 use Rattle.mig_guest.specs.declared.part_code.PartCode.TheVariants.{P2mFrames, VcpuBasic, VcpuExtended, VcpuXsave, SharedInfo, Tsc, HvmContext, HvmParam, VcpuMsrs, CpuidLeaf, Msr, EmulatorPairs, EmulatorContext}

@@ -1,11 +1,7 @@
 -- The parts of a guest: a finite map from keys to bytes.
 use Rattle.std.specs.Prelude.{◌≡◌, ◌≤◌, ℕ, length, List, [], ◌∷◌, map, filter, fold, not, ◌==◌, Option, Some, None, IsSome}
-use Rattle.std.specs.declared.cmp.Ordering.TheVariants.{Less}
-use Rattle.std.specs.Ordering.{is_lt}
+use Rattle.mig_guest.specs.Common.{Less, is_lt, Coded, coded_ℕ, coded_list, Vec, most_policy_entries}
 use Rattle.std.specs.FinMap as maps
-use Rattle.std.specs.Coded.{Coded, coded_ℕ, coded_list}
-use Rattle.std.specs.declared.vec.Vec.{Vec}
-use Rattle.mig_headers.specs.RecordTypes.{most_policy_entries}
 use Rattle.mig_guest.specs.declared.part_key.PartKey.{PartKey}
 use Rattle.mig_guest.specs.contracts.part_key.PartKey as part_key
 use Rattle.mig_guest.specs.Order.{part_cmp, IsAbove}

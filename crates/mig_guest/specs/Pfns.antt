@@ -1,7 +1,6 @@
 -- Sets of frame numbers (PFN).
 use Rattle.std.specs.Prelude.{ℕ, ◌/◌, ◌%◌, ◌==◌, ◌||◌, List, length, Bool, false, filter, nat_lt, get_or}
-use Rattle.std.specs.List.{range_with_len}
-use Rattle.std.specs.Int.{bit_at}
+use Rattle.mig_guest.specs.Common.{range_with_len, bit_at}
 
 -- tells of each number whether it is in the set
 abbrev pub Pfns : Type 0

@@ -1,8 +1,7 @@
 -- The rounds of a save, in a history. L1 to Ln are the logs taken before the pause, M is the log taken after it. Ri is what
 -- was read before Li and since the log before it, F is what was read after M.
 use Rattle.std.specs.Prelude.{◌≡◌, ℕ, ◌+◌, ◌*◌, ◌≤◌, ◌<◌, ◌⊎◌, List, [], ◌∷◌, ◌++◌, length, true, false, ⊤}
-use Rattle.mig_headers.specs.declared.kind.Kind.{Kind}
-use Rattle.mig_headers.specs.declared.kind.Kind.TheVariants.{Pv, Hvm}
+use Rattle.mig_guest.specs.Common.{Kind, Pv, Hvm}
 use Rattle.mig_guest.specs.Pfns.{Pfns, no_pfns, all_below, joined, members, size}
 use Rattle.mig_guest.specs.History.{LogTook, History}
 

@@ -2,7 +2,7 @@
 -- slots 0 to 511. Bit 0 says that an entry is present, bit 7 that it is a superpage (levels 2 to 4), and bits 12 to 51
 -- name a frame.
 use Rattle.std.specs.Prelude.{◌≡◌, ◌≤◌, ◌<◌, ⊤, ℕ, ◌/◌, ◌%◌, ◌^◌, Bool, List, Some, ◌==◌, ◌&&◌, not, nat_le, if◌then◌else◌}
-use Rattle.mig_pagetypes.specs.PageTypes.{level_of}
+use Rattle.mig_guest.specs.Common.{level_of}
 use Rattle.mig_guest.specs.declared.table.Entry.{Entry}
 use Rattle.mig_guest.specs.declared.table.Entry.TheVariants.{Blank, NotPresent, Superpage, Frame}
 use Rattle.mig_guest.specs.Longs.{long_at, each_long}

@@ -1,12 +1,8 @@
 ghost use Rattle.std.specs.Prelude.{◌≡◌, ◌==◌, ℕ, ◌+◌, ◌<◌, ◌≤◌, ◌⊎◌, List, [], length, take, drop, flat_map, not, IsOk, OnOk, OnErr, IfSome, IfNone, IsSome, None, Some, Err, true, is_some, option_and_then};
 ghost use Rattle.std.specs.Option.{option_copied, option_copied_mut, option_map, unwrap_or};
 ghost use Rattle.std.specs.FinMap as maps;
-ghost use Rattle.std.specs.Borrow.{sem};
+ghost use Rattle.mig_guest.specs.Common.{sem, type_has_data, pfn_limit, Xtab, spliced};
 ghost use Rattle.mig_bytes.specs.declared.stop.Stop.TheVariants as stops;
-ghost use Rattle.mig_pagetypes.specs.PageTypes.{type_has_data};
-ghost use Rattle.mig_pagetypes.specs.Limits.{pfn_limit};
-ghost use Rattle.mig_pagetypes.specs.declared.page_type.PageType.TheVariants.{Xtab};
-ghost use Rattle.mig_pagestore.specs.Pages.{spliced};
 ghost use Rattle.mig_guest.specs.declared.part_key.PartKey.{PartKey};
 ghost use Rattle.mig_guest.specs.Frames.{framed, IsSized, entries_from, NextEntry};
 ghost use Rattle.mig_guest.specs.Parts.{NextPart, NextBehind, NextKey};

@@ -1,9 +1,6 @@
 ghost use Rattle.std.specs.Prelude.{◌≡◌, ◌≢◌, ◌≤◌, ℕ, List, length, false, Option};
 ghost use Rattle.std.specs.FinMap as maps;
-ghost use Rattle.mig_headers.specs.declared.kind.Kind.{Kind};
-ghost use Rattle.mig_headers.specs.RecordTypes.{most_policy_entries};
-ghost use Rattle.mig_pagetypes.specs.declared.page_type.PageType.{PageType};
-ghost use Rattle.mig_pagetypes.specs.declared.page_type.PageType.TheVariants.{Xtab};
+ghost use Rattle.mig_guest.specs.Common.{Kind, most_policy_entries, PageType, Xtab};
 ghost use Rattle.mig_guest.specs.declared.part_key.PartKey.{PartKey};
 ghost use Rattle.mig_guest.specs.Frames.{framed};
 ghost use Rattle.mig_guest.specs.Guests.{GuestOf};

@@ -1,9 +1,7 @@
 ghost use Rattle.std.specs.Prelude.{◌≡◌, ◌<◌, ◌≤◌, ◌↔◌, ◌++◌, ℕ, true, List, Contains, Some, None};
-ghost use Rattle.std.specs.List.{range_with_len};
+ghost use Rattle.mig_guest.specs.Common.{range_with_len, Kind, level_of};
 ghost use Rattle.std.specs.List.Sorted.{IsStrictlyIncreasing};
 ghost use Rattle.std.specs.FinMap as maps;
-ghost use Rattle.mig_headers.specs.declared.kind.Kind.{Kind};
-ghost use Rattle.mig_pagetypes.specs.PageTypes.{level_of};
 ghost use Rattle.mig_guest.specs.Hosts.{HostFrame, HostFrames, pfn_in};
 ghost use Rattle.mig_guest.specs.Tables.{entry};
 ghost use Rattle.mig_guest.specs.declared.table.Entry.TheVariants.{Frame};

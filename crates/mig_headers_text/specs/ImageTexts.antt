@@ -1,6 +1,6 @@
 -- The printed texts of the places and causes of a guest image's refusal: number, name and argument, parted by one space.
 use Rattle.std.specs.Prelude.{ℕ, List, [], ◌∷◌, ◌++◌, codes, decimal}
-use Rattle.mig_headers.specs.CauseNumbers.{number_of_image_cause}
+use Rattle.mig_headers_text.specs.Common.{number_of_image_cause}
 use Rattle.mig_headers.specs.declared.image_fault.ImagePlace.{ImagePlace}
 use Rattle.mig_headers.specs.declared.image_fault.ImagePlace.TheVariants.{Head, Frame, Parts, Part}
 use Rattle.mig_headers.specs.declared.image_fault.ImageCause.{ImageCause}

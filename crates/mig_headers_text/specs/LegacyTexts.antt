@@ -1,6 +1,6 @@
 -- The printed texts of the places and causes of a legacy stream's refusal: number, name and arguments, parted by one space.
 use Rattle.std.specs.Prelude.{ℕ, List, [], ◌∷◌, ◌++◌, codes, decimal}
-use Rattle.mig_headers.specs.CauseNumbers.{number_of_legacy_cause}
+use Rattle.mig_headers_text.specs.Common.{number_of_legacy_cause}
 use Rattle.mig_headers.specs.declared.legacy_fault.LegacyPlace.{LegacyPlace}
 use Rattle.mig_headers.specs.declared.legacy_fault.LegacyPlace.TheVariants.{Start, Chunk, Tail, Device}
 use Rattle.mig_headers.specs.declared.legacy_fault.LegacyCause.{LegacyCause}

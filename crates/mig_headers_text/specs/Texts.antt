@@ -1,6 +1,6 @@
 -- The printed texts of places and causes: number, name and arguments, parted by one space.
 use Rattle.std.specs.Prelude.{ℕ, List, [], ◌∷◌, ◌++◌, codes, decimal}
-use Rattle.mig_headers.specs.CauseNumbers.{number_of_cause}
+use Rattle.mig_headers_text.specs.Common.{number_of_cause}
 use Rattle.mig_headers.specs.declared.fault.Place.{Place}
 use Rattle.mig_headers.specs.declared.fault.Place.TheVariants.{ImageHeader, DomainHeader, Record, LibxlHeader, LibxlRecord}
 use Rattle.mig_headers.specs.declared.fault.ContextFault.{ContextFault}

@@ -1,6 +1,4 @@
-ghost use Rattle.mig_bytes.specs.Bytes.{Puts};
-ghost use Rattle.mig_bytes.specs.Faults.{FaultHasCause};
-ghost use Rattle.mig_headers.specs.CauseNumbers.{number_of_image_cause};
+ghost use Rattle.mig_headers_text.specs.Common.{Puts, FaultHasCause, number_of_image_cause};
 ghost use Rattle.mig_headers_text.specs.ImageTexts.{name_of_image_cause, arguments_of_image_cause, text_of_image_cause, text_of_image_place};
 
 use crate::text::{Arguments, Printed, put_numbered, put_words};

@@ -1,6 +1,4 @@
-ghost use Rattle.mig_bytes.specs.Bytes.{Puts};
-ghost use Rattle.mig_bytes.specs.Faults.{FaultHasCause};
-ghost use Rattle.mig_headers.specs.CauseNumbers.{number_of_legacy_cause};
+ghost use Rattle.mig_headers_text.specs.Common.{Puts, FaultHasCause, number_of_legacy_cause};
 ghost use Rattle.mig_headers_text.specs.LegacyTexts.{name_of_legacy_cause, arguments_of_legacy_cause, text_of_legacy_cause, text_of_legacy_place};
 
 use crate::text::{Arguments, Printed, put_numbered, put_words};

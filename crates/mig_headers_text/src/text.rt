@@ -1,10 +1,8 @@
 #![tactic(auto, using(mig_bytes::proofs::Texts::puts_then, mig_bytes::proofs::Texts::puts_part, mig_bytes::proofs::Texts::puts_part_behind, crate::proofs::Writing::two_words))]
 
 ghost use Rattle.std.specs.Prelude.{◌≡◌, ℕ, List, [], ◌∷◌, ◌++◌, codes, decimal};
-ghost use Rattle.mig_bytes.specs.Bytes.{Puts};
-ghost use Rattle.mig_bytes.specs.Faults.{FaultHasCause};
+ghost use Rattle.mig_headers_text.specs.Common.{Puts, FaultHasCause, number_of_cause};
 ghost use Rattle.mig_headers_text.specs.Arguments.{argument_texts};
-ghost use Rattle.mig_headers.specs.CauseNumbers.{number_of_cause};
 ghost use Rattle.mig_headers_text.specs.Texts.{name_of, arguments_of, words_of_context, spaced, text_of_cause, text_of_place};
 
 use itoa::Buffer;

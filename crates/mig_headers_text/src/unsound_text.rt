@@ -1,5 +1,4 @@
-ghost use Rattle.mig_bytes.specs.Bytes.{Puts};
-ghost use Rattle.mig_bytes.specs.Faults.{FaultHasCause};
+ghost use Rattle.mig_headers_text.specs.Common.{Puts, FaultHasCause};
 ghost use Rattle.mig_headers_text.specs.UnsoundTexts.{number_of_unsound, name_of_unsound, arguments_of_unsound, text_of_unsound};
 
 use crate::text::{Arguments, Printed, put_words};

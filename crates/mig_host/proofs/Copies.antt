@@ -1,8 +1,5 @@
 -- A map that is copied entry by entry, in the order of the keys, each value changed by its key.
-use Rattle.mig_host.proofs.Common.{◌≡◌, false, List, [], ◌∷◌, ◌++◌, map, Some, refl, sym, ap, subst, ◌∙◌, append-nil, T, Ordering, IsTotalOrder, FinMap, IsAntisymmetric, find, get-entries, entries_sorted, is_sorted, same_map, each_value, entries_each}
-use Rattle.std.proofs.Common.{append_assoc}
-use Rattle.std.proofs.lemmas.List.{map-append}
-use Rattle.mig_pvtables.proofs.EachValue.{shown}
+use Rattle.mig_host.proofs.Common.{◌≡◌, false, List, [], ◌∷◌, ◌++◌, map, Some, refl, sym, ap, subst, ◌∙◌, append-nil, T, Ordering, IsTotalOrder, FinMap, IsAntisymmetric, find, get-entries, entries_sorted, is_sorted, same_map, each_value, entries_each, append_assoc, map-append, shown}
 use Rattle.mig_host.proofs.InOrder.{has_from, entries_behind, front_below, get_at, no_entries}
 use Rattle.std.specs.FinMap as maps
 

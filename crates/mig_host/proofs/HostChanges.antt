@@ -1,17 +1,6 @@
 -- A host stays valid where a frame is changed in place, or taken away.
-use Rattle.mig_host.proofs.Common.{◌≡◌, ℕ, ◌+◌, ◌-◌, ◌<◌, ◌≤◌, Bool, true, false, cond, length, List, Option, Some, None, is_some, refl, sym, ap, subst, ◌∙◌, arith, option_map, option_and_then, nat_cmp, eq_by_cmp, nat_cmp_total, nat_cmp-IsAntisymmetric, same_map, len-entries, none-some, same_Some, Kind, FrameOf, FrameMap, HostOf, HostFrame, HostFrames, IsHostFrame, IsValid, PartMap, is_type_of, type_has_data, PageType, MachineMap, with_machine, machine_in, host_seen, AreMatched, IsMade, put_frame, Pv, Hvm, PartKey, part_cmp, part_total, part_exact, FitsPolicy, IsHostPart, IfSome, ◌++◌, ◌==◌, append-nil, row_of, code_number, PartCode, tied, each_value, get_each, is_inserted, remove_holds, raw_page_at, retyped, exchanged, without_frame, machine_limit}
-use Rattle.mig_guest.proofs.PartRows.{with_bytes}
-use Rattle.mig_pagetypes.specs.Limits.{pfn_limit}
-use Rattle.mig_pagetypes.specs.declared.page_type.PageType.TheVariants.{Notab}
-use Rattle.std.proofs.Common.{replicate}
-use Rattle.std.proofs.lemmas.List.{drop_all, length-replicate}
-use Rattle.std.specs.FinMap.{len-insert, len-remove}
+use Rattle.mig_host.proofs.Common.{◌≡◌, ℕ, ◌+◌, ◌-◌, ◌<◌, ◌≤◌, Bool, true, false, cond, length, List, Option, Some, None, is_some, refl, sym, ap, subst, ◌∙◌, arith, option_map, option_and_then, nat_cmp, eq_by_cmp, nat_cmp_total, nat_cmp-IsAntisymmetric, same_map, len-entries, none-some, same_Some, Kind, FrameOf, FrameMap, HostOf, HostFrame, HostFrames, IsHostFrame, IsValid, PartMap, is_type_of, type_has_data, PageType, MachineMap, with_machine, machine_in, host_seen, AreMatched, IsMade, put_frame, Pv, Hvm, PartKey, part_cmp, part_total, part_exact, FitsPolicy, IsHostPart, IfSome, ◌++◌, ◌==◌, append-nil, row_of, code_number, PartCode, tied, each_value, get_each, is_inserted, remove_holds, raw_page_at, retyped, exchanged, without_frame, machine_limit, with_bytes, pfn_limit, Notab, replicate, drop_all, length-replicate, len-insert, len-remove, IsRawContent, is_fixed, EmulatorPairs, count_each, put_or_stay}
 use Rattle.mig_pagestore.specs.Pages.{spliced}
-use Rattle.mig_guest.specs.Formed.{IsRawContent}
-use Rattle.mig_guest.specs.PartCodes.{is_fixed}
-use Rattle.mig_guest.specs.declared.part_code.PartCode.TheVariants.{EmulatorPairs}
-use Rattle.mig_pvtables.proofs.EachValue.{count_each}
-use Rattle.mig_host.specs.Changes.{put_or_stay}
 use Rattle.mig_host.proofs.HostMaps.{joined, get_with_machines, machine_joined, there_joined}
 use Rattle.mig_host.proofs.HostsMade.{joined_at, matched_at, joined_put, matched_put, valid_frame, made_part}
 use Rattle.std.specs.FinMap as maps

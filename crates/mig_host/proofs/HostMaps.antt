@@ -1,8 +1,5 @@
 -- The frames of a host, which are those of a guest with their machine frames.
-use Rattle.mig_host.proofs.Common.{◌≡◌, ℕ, ◌+◌, ◌<◌, ◌≤◌, length, true, false, [], ◌∷◌, map, Option, Some, None, is_some, IfSome, IfNone, option_and_then, refl, sym, ap, ◌∙◌, ◌==◌, unwrap_or, list_any, eq-eqb, ne_eqb, option_map, nat_cmp_total, nat_cmp-IsAntisymmetric, FrameOf, FrameMap, entries_from, HostFrame, HostFrames, MachineMap, with_machine, with_machines, machine_in, AreMatched, each_same, get_each, entries_each, each_value, without_machine, is_some-mapped}
-use Rattle.std.proofs.lemmas.List.{length-map}
-use Rattle.mig_pvtables.proofs.EachValue.{each_each}
-use Rattle.mig_guest.proofs.NextEntries.{next_entry}
+use Rattle.mig_host.proofs.Common.{◌≡◌, ℕ, ◌+◌, ◌<◌, ◌≤◌, length, true, false, [], ◌∷◌, map, Option, Some, None, is_some, IfSome, IfNone, option_and_then, refl, sym, ap, ◌∙◌, ◌==◌, unwrap_or, list_any, eq-eqb, ne_eqb, option_map, nat_cmp_total, nat_cmp-IsAntisymmetric, FrameOf, FrameMap, entries_from, HostFrame, HostFrames, MachineMap, with_machine, with_machines, machine_in, AreMatched, each_same, get_each, entries_each, each_value, without_machine, is_some-mapped, length-map, each_each, next_entry}
 use Rattle.mig_host.proofs.InOrder.{some_entry, no_entry}
 use Rattle.std.specs.FinMap as maps
 

@@ -1,7 +1,5 @@
 -- The host that a whole HVM guest becomes holds no machine frames but those of its frames, and is seen as this guest.
-use Rattle.mig_host.proofs.Common.{◌≡◌, ℕ, ◌+◌, sym, ap, subst, ◌∙◌, Kind, Hvm, HostOf, IsTop, with_machines, rank_in, least_width, hosted, GuestOf, IsWhole, localised_of, mfn_in, hosted_width}
-use Rattle.mig_host_view.specs.View.{hvm_view}
-use Rattle.mig_host_view.proofs.GuestsBack.{parts_stay}
+use Rattle.mig_host.proofs.Common.{◌≡◌, ℕ, ◌+◌, sym, ap, subst, ◌∙◌, Kind, Hvm, HostOf, IsTop, with_machines, rank_in, least_width, hosted, GuestOf, IsWhole, localised_of, mfn_in, hosted_width, hvm_view, parts_stay}
 use Rattle.mig_host.proofs.HostMaps.{without_machines}
 use Rattle.std.specs.FinMap as maps
 

@@ -1,18 +1,9 @@
 -- The host that a whole guest becomes is valid and, where the guest is in blank form, sound, and means this guest.
-use Rattle.mig_host.proofs.Common.{◌≡◌, ◌≢◌, ℕ, ◌+◌, ◌<◌, ◌≤◌, length, List, Option, Some, None, IsSome, refl, sym, ap, subst, ◌∙◌, inl, inr, arith, option_map, nat_cmp_total, nat_cmp-IsAntisymmetric, cases_lt, Kind, Pv, Hvm, PartKey, FrameOf, is_type_of, HostFrame, HostFrames, IsHostFrame, IsHostPart, IsOneToOne, IsValid, IsTop, FitsPolicy, part_total, part_exact, with_machine, with_machines, rank_in, hosted, top_limit, GuestOf, pfn_in, most_width, blank, IsWhole, to_each, localised_of, localised, normalised, IsSound, unsoundness, without_machine, top_of, guest_in, view, sound_is_faultless, mfn_in, hosted_width, machine_limit}
-use Rattle.std.proofs.lemmas.Bool.{cases_order}
-use Rattle.mig_guest.specs.Formed.{IsPart, width_of, IsInside}
-use Rattle.mig_guest.proofs.PartRows.{host_part}
-use Rattle.mig_host.specs.Hosted.{IsBaseOutside}
-use Rattle.mig_guest.specs.Frames.{IsFrame, IsFew}
+use Rattle.mig_host.proofs.Common.{◌≡◌, ◌≢◌, ℕ, ◌+◌, ◌<◌, ◌≤◌, length, List, Option, Some, None, IsSome, refl, sym, ap, subst, ◌∙◌, inl, inr, arith, option_map, nat_cmp_total, nat_cmp-IsAntisymmetric, cases_lt, Kind, Pv, Hvm, PartKey, FrameOf, is_type_of, HostFrame, HostFrames, IsHostFrame, IsHostPart, IsOneToOne, IsValid, IsTop, FitsPolicy, part_total, part_exact, with_machine, with_machines, rank_in, hosted, top_limit, GuestOf, pfn_in, most_width, blank, IsWhole, to_each, localised_of, localised, normalised, IsSound, unsoundness, without_machine, top_of, guest_in, view, sound_is_faultless, mfn_in, hosted_width, machine_limit, cases_order, IsPart, width_of, IsInside, host_part, IsBaseOutside, IsFrame, IsFew, from_each, renamed_part, CanBeSeen, guest_back}
 use Rattle.mig_pvtables.specs.Renaming.{GoesBack}
 use Rattle.mig_pvtables.specs.VcpuContexts.{is_used}
-use Rattle.mig_pvtables.proofs.EachValue.{from_each}
 use Rattle.mig_pvtables.proofs.HvmGuests.{hvm_complete}
 use Rattle.mig_pvtables.proofs.PvGuests.{pv_complete}
-use Rattle.mig_host_view.specs.Localised.{renamed_part}
-use Rattle.mig_host_view.specs.Sound.{CanBeSeen}
-use Rattle.mig_host_view.proofs.GuestsBack.{guest_back}
 use Rattle.mig_host_view.proofs.LocalisedGuests.{from_localised, to_localised, count_localised, renamed_is_part, renamed_policy}
 use Rattle.mig_host_view.proofs.SoundGuests.{localised_seen}
 use Rattle.mig_host.proofs.HostMaps.{count_with_machines, without_machines}

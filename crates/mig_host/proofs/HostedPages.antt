@@ -1,6 +1,5 @@
 -- The P2M frames of the host that a whole PV guest becomes.
-use Rattle.mig_host.proofs.Common.{◌≡◌, ℕ, Some, ap, option_map, nat_cmp_total, nat_cmp-IsAntisymmetric, Pv, FrameOf, HostFrame, with_machine, hosted, GuestOf, IsWhole, to_each, localised, mfn_in}
-use Rattle.mig_pvtables.specs.P2mFrames.{listed}
+use Rattle.mig_host.proofs.Common.{◌≡◌, ℕ, Some, ap, option_map, nat_cmp_total, nat_cmp-IsAntisymmetric, Pv, FrameOf, HostFrame, with_machine, hosted, GuestOf, IsWhole, to_each, localised, mfn_in, listed}
 use Rattle.mig_pvtables.specs.P2mPages.{p2m_page}
 use Rattle.mig_host_view.proofs.ListedPages.{listed_page}
 use Rattle.mig_host.proofs.HostedGuests.{machine_of}

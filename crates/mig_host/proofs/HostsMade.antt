@@ -1,8 +1,5 @@
 -- A host stays valid where a frame or a part is added, and stays what its guest and its machine frames make.
-use Rattle.mig_host.proofs.Common.{◌≡◌, ℕ, ◌<◌, ◌≤◌, Bool, true, false, cond, length, List, Option, Some, None, is_some, refl, sym, ap, subst, ◌∙◌, ◌⊎◌, inl, inr, arith, unwrap_or, option_map, nat_cmp, eq_by_cmp, nat_cmp_total, nat_cmp-IsAntisymmetric, same_map, get-empty, len-entries, none-some, same_Some, Kind, Pv, PartKey, FrameOf, FrameMap, HostOf, HostFrame, HostFrames, IsHostFrame, IsHostPart, IsOneToOne, IsValid, part_cmp, PartMap, FitsPolicy, part_total, part_exact, MachineMap, with_machine, machine_in, host_seen, AreMatched, IsMade, put_frame, put_part_in, top_limit, most_width, insert_holds, most_policy_entries, most_frames}
-use Rattle.std.specs.FinMap.{len-empty, empty_of_len}
-use Rattle.mig_guest.specs.Parts.{parts_of}
-use Rattle.mig_guest.proofs.KeyedMaps.{insert_len}
+use Rattle.mig_host.proofs.Common.{◌≡◌, ℕ, ◌<◌, ◌≤◌, Bool, true, false, cond, length, List, Option, Some, None, is_some, refl, sym, ap, subst, ◌∙◌, ◌⊎◌, inl, inr, arith, unwrap_or, option_map, nat_cmp, eq_by_cmp, nat_cmp_total, nat_cmp-IsAntisymmetric, same_map, get-empty, len-entries, none-some, same_Some, Kind, Pv, PartKey, FrameOf, FrameMap, HostOf, HostFrame, HostFrames, IsHostFrame, IsHostPart, IsOneToOne, IsValid, part_cmp, PartMap, FitsPolicy, part_total, part_exact, MachineMap, with_machine, machine_in, host_seen, AreMatched, IsMade, put_frame, put_part_in, top_limit, most_width, insert_holds, most_policy_entries, most_frames, len-empty, empty_of_len, parts_of, insert_len}
 use Rattle.mig_host.proofs.HostMaps.{joined, get_with_machines, count_with_machines, machine_joined}
 use Rattle.mig_host.proofs.InOrder.{found_more, no_entries}
 use Rattle.std.specs.FinMap as maps

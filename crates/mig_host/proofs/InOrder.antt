@@ -1,18 +1,9 @@
 -- Entries in the order of their keys, tests of them, and maps that grow behind all entries.
-use Rattle.mig_host.proofs.Common.{◌≡◌, ℕ, ◌+◌, ◌<◌, ◌≤◌, Bool, true, false, cond, List, [], ◌∷◌, ◌++◌, Option, Some, refl, sym, ap, subst, ◌∙◌, length, arith, ◌⊎◌, inl, inr, T, ◌||◌, All, AllByRecursion, list_any, or_parts, All-weaker, none-some, same_Some, IsTotalOrder, is_lt, eq_by_cmp, Ordering, FinMap, IsAntisymmetric, find, is_sorted, below_all, nat_cmp, tied, both_of}
-use Rattle.std.proofs.lemmas.List.{nil_from_length}
-use Rattle.std.proofs.Common.{not}
-use Rattle.std.proofs.lemmas.Bool.{or_left, or_right, or_from, false_from_ne_true, true≢false, not-false}
-use Rattle.std.proofs.lemmas.List.Elements.{recursion_from_All}
-use Rattle.std.specs.Ordering.{is_eq, ordering_reverse}
+use Rattle.mig_host.proofs.Common.{◌≡◌, ℕ, ◌+◌, ◌<◌, ◌≤◌, Bool, true, false, cond, List, [], ◌∷◌, ◌++◌, Option, Some, refl, sym, ap, subst, ◌∙◌, length, arith, ◌⊎◌, inl, inr, T, ◌||◌, All, AllByRecursion, list_any, or_parts, All-weaker, none-some, same_Some, IsTotalOrder, is_lt, eq_by_cmp, Ordering, FinMap, IsAntisymmetric, find, is_sorted, below_all, nat_cmp, tied, both_of, nil_from_length, not, or_left, or_right, or_from, false_from_ne_true, true≢false, not-false, recursion_from_All, is_eq, ordering_reverse, put, by_order, all_found, less, true_of}
 use Rattle.std.specs.declared.cmp.Ordering.TheVariants.{Less, Greater}
-use Rattle.std.specs.FinMap.{put}
-use Rattle.std.specs.FinMap.Entries.{by_order}
 use Rattle.std.proofs.lemmas.Grind.{common_steps}
 use Rattle.std.proofs.lemmas.Cmp.{eq_by_cmp_equiv}
 use Rattle.std.proofs.lemmas.List.Folds.{list_any_none}
-use Rattle.mig_guest.proofs.Found.{all_found}
-use Rattle.mig_guest.proofs.PartCursor.{less, true_of}
 use Rattle.std.specs.List as list
 use Rattle.std.specs.FinMap as maps
 

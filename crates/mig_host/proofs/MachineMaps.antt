@@ -1,7 +1,5 @@
 -- Maps from numbers to numbers, and a map with a function that is its inverse.
-use Rattle.mig_host.proofs.Common.{subst, ◌≢◌, ◌≡◌, ℕ, ◌<◌, IfSome, Option, Some, None, refl, sym, ap, ◌∙◌, inl, inr, nat_cmp, nat_cmp_total, FinMap, nat_cmp-IsAntisymmetric, get-empty, none-some, same_Some, MachineMap, AreInverse, pfn_of_machine_in, AreBelowLimit, insert_holds, remove_holds, machine_limit, inserted, inserted_other, removed, removed_other, is_inserted}
-use Rattle.std.proofs.lemmas.Bool.{cases_eq}
-use Rattle.mig_bytes.proofs.NumberMaps.{is_removed}
+use Rattle.mig_host.proofs.Common.{subst, ◌≢◌, ◌≡◌, ℕ, ◌<◌, IfSome, Option, Some, None, refl, sym, ap, ◌∙◌, inl, inr, nat_cmp, nat_cmp_total, FinMap, nat_cmp-IsAntisymmetric, get-empty, none-some, same_Some, MachineMap, AreInverse, pfn_of_machine_in, AreBelowLimit, insert_holds, remove_holds, machine_limit, inserted, inserted_other, removed, removed_other, is_inserted, cases_eq, is_removed}
 use Rattle.mig_host.proofs.Machines.{only_pfn, no_pfn}
 use Rattle.std.specs.FinMap as maps
 

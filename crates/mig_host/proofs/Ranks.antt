@@ -1,8 +1,5 @@
 -- How many entries lie below a number, and the width of entries.
-use Rattle.mig_host.proofs.Common.{◌≡◌, ℕ, ◌+◌, ◌<◌, ◌≤◌, Bool, true, false, cond, length, List, [], ◌∷◌, Option, Some, None, refl, sym, ap, subst, ◌∙◌, ◌⊎◌, inl, inr, arith, T, AllByRecursion, nat_cmp, is_lt, eq_by_cmp, nat_cmp_total, find, is_sorted, nat_cmp-IsAntisymmetric, get-entries, entries_sorted, below_all, cases_lt, eqb-true, none-some, FrameOf, FrameMap, rank_in, least_width, both_of}
-use Rattle.std.proofs.Common.{max, nat_eq, nat_lt, filter}
-use Rattle.std.specs.Cmp.{unsigned_tied}
-use Rattle.std.proofs.lemmas.Bool.{lt-ltb, le-ltb, eqb-false}
+use Rattle.mig_host.proofs.Common.{◌≡◌, ℕ, ◌+◌, ◌<◌, ◌≤◌, Bool, true, false, cond, length, List, [], ◌∷◌, Option, Some, None, refl, sym, ap, subst, ◌∙◌, ◌⊎◌, inl, inr, arith, T, AllByRecursion, nat_cmp, is_lt, eq_by_cmp, nat_cmp_total, find, is_sorted, nat_cmp-IsAntisymmetric, get-entries, entries_sorted, below_all, cases_lt, eqb-true, none-some, FrameOf, FrameMap, rank_in, least_width, both_of, max, nat_eq, nat_lt, filter, unsigned_tied, lt-ltb, le-ltb, eqb-false}
 use Rattle.mig_host.proofs.InOrder.{each_entry, nat_rises}
 use Rattle.std.specs.FinMap as maps
 

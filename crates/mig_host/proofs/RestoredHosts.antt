@@ -1,6 +1,5 @@
 -- Machine frames that are counted up from a base, and the host that a whole guest becomes with them.
-use Rattle.mig_host.proofs.Common.{◌≡◌, ℕ, ◌+◌, ◌<◌, ◌≤◌, length, Option, Some, None, is_some, refl, sym, ap, subst, ◌∙◌, inl, inr, arith, unwrap_or, option_map, nat_cmp, nat_cmp_total, nat_cmp-IsAntisymmetric, same_map, get-empty, cases_lt, true, false, Kind, Pv, Hvm, FrameOf, FrameMap, IsValid, MachineMap, with_machine, with_machines, machine_in, host_seen, AreMatched, IsMade, rank_in, least_width, hosted, none-some, same_Some, GuestOf, IsWhole, get_each, localised_of, localised, is_some-mapped, inserted, inserted_other, mfn_in, hosted_width}
-use Rattle.mig_host_view.specs.Localised.{localised_frame}
+use Rattle.mig_host.proofs.Common.{◌≡◌, ℕ, ◌+◌, ◌<◌, ◌≤◌, length, Option, Some, None, is_some, refl, sym, ap, subst, ◌∙◌, inl, inr, arith, unwrap_or, option_map, nat_cmp, nat_cmp_total, nat_cmp-IsAntisymmetric, same_map, get-empty, cases_lt, true, false, Kind, Pv, Hvm, FrameOf, FrameMap, IsValid, MachineMap, with_machine, with_machines, machine_in, host_seen, AreMatched, IsMade, rank_in, least_width, hosted, none-some, same_Some, GuestOf, IsWhole, get_each, localised_of, localised, is_some-mapped, inserted, inserted_other, mfn_in, hosted_width, localised_frame}
 use Rattle.mig_host.proofs.HostMaps.{joined, get_with_machines}
 use Rattle.mig_host.proofs.HostedGuests.{IsBaseInside, machine_of, valid_inside}
 use Rattle.mig_host.proofs.Ranks.{rank_small, rank_strict, rank_step, rank_gap, rank_zero, frame_inside}

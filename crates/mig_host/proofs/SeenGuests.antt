@@ -1,13 +1,7 @@
 -- The guest that stands in a host, copied frame by frame and part by part.
-use Rattle.mig_host.proofs.Common.{◌≡◌, ℕ, ◌+◌, ◌<◌, Bool, true, false, cond, ◌==◌, List, ◌∷◌, length, Option, Some, None, IsSome, IfSome, is_some, refl, sym, ap, subst, ◌∙◌, arith, eqb-true, nat_cmp_total, nat_cmp-IsAntisymmetric, Kind, Pv, Hvm, PageType, type_has_data, FrameOf, FrameMap, entries_from, HostFrame, HostOf, IsHostFrame, IsHostPart, IsValid, PartKey, PartMap, parts_behind, part_total, part_exact, one_code, Xtab, PartCode, framed, GuestOf, row_of, code_number, pfn_in, each_value, each_same, part_seen, normalised, IsSound, without_machine, top_of, guest_in, view, machine_limit}
-use Rattle.std.specs.Prelude.{◌&&◌}
-use Rattle.std.proofs.lemmas.Bool.{and_parts}
+use Rattle.mig_host.proofs.Common.{◌≡◌, ℕ, ◌+◌, ◌<◌, Bool, true, false, cond, ◌==◌, List, ◌∷◌, length, Option, Some, None, IsSome, IfSome, is_some, refl, sym, ap, subst, ◌∙◌, arith, eqb-true, nat_cmp_total, nat_cmp-IsAntisymmetric, Kind, Pv, Hvm, PageType, type_has_data, FrameOf, FrameMap, entries_from, HostFrame, HostOf, IsHostFrame, IsHostPart, IsValid, PartKey, PartMap, parts_behind, part_total, part_exact, one_code, Xtab, PartCode, framed, GuestOf, row_of, code_number, pfn_in, each_value, each_same, part_seen, normalised, IsSound, without_machine, top_of, guest_in, view, machine_limit, ◌&&◌, and_parts, SharedInfo, HvmContext, context_key, shared_key, from_zero, cut_by}
 use Rattle.std.specs.Result.{IsOk}
 use Rattle.mig_headers.specs.Contexts.{scan}
-use Rattle.mig_guest.specs.declared.part_code.PartCode.TheVariants.{SharedInfo, HvmContext}
-use Rattle.mig_guest.specs.PartKeys.{context_key, shared_key}
-use Rattle.mig_guest.proofs.NextEntries.{from_zero}
-use Rattle.mig_host_view.specs.Normalised.{cut_by}
 use Rattle.mig_host_view.proofs.HostViews.{hvm_viewed}
 use Rattle.mig_host_view.proofs.ViewedFrames.{not_absent, pfn_small}
 use Rattle.mig_host.proofs.Copies.{IsCopied, copy_start, copy_there, copy_next}

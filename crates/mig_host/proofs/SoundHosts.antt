@@ -1,11 +1,7 @@
 -- A valid host meets what the test of whether it can be seen as a guest requires.
-use Rattle.mig_host.proofs.Common.{◌≡◌, ℕ, ◌+◌, ◌-◌, ◌≤◌, ◌^◌, true, length, List, Option, Some, None, Result, Ok, Err, refl, sym, subst, ◌∙◌, arith, eqb-true, one_code, FrameMap, HostOf, IsHostPart, IsValid, PartKey, PartMap, MachineMap, machine_in, Kind, row_of, code_number, p2m_key, PartCode, pfn_in, each_value, count_in, IsSound, unsoundness, without_machine, guest_in, sound_is_faultless}
-use Rattle.std.proofs.Common.{◌*◌, ◌/◌}
-use Rattle.std.specs.Prelude.{IfOk}
+use Rattle.mig_host.proofs.Common.{◌≡◌, ℕ, ◌+◌, ◌-◌, ◌≤◌, ◌^◌, true, length, List, Option, Some, None, Result, Ok, Err, refl, sym, subst, ◌∙◌, arith, eqb-true, one_code, FrameMap, HostOf, IsHostPart, IsValid, PartKey, PartMap, MachineMap, machine_in, Kind, row_of, code_number, p2m_key, PartCode, pfn_in, each_value, count_in, IsSound, unsoundness, without_machine, guest_in, sound_is_faultless, ◌*◌, ◌/◌, IfOk, P2mFrames, VcpuBasic, unsound_rows}
 use Rattle.mig_headers.specs.declared.unsound.Unsound.{Unsound}
-use Rattle.mig_guest.specs.declared.part_code.PartCode.TheVariants.{P2mFrames, VcpuBasic}
 use Rattle.mig_pvtables.specs.Faults.{first_cause}
-use Rattle.mig_host_view.specs.Sound.{unsound_rows}
 use Rattle.mig_host.proofs.HostMaps.{joined, without_machines}
 use Rattle.std.specs.FinMap as maps
 

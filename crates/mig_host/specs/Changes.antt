@@ -3,9 +3,8 @@ use Rattle.std.specs.Prelude.{ℕ, List, Option, Some, None, option_and_then, re
 use Rattle.std.specs.Option.{option_map, unwrap_or}
 use Rattle.std.specs.FinMap as maps
 use Rattle.mig_pagetypes.specs.declared.page_type.PageType.{PageType}
-use Rattle.mig_pagetypes.specs.PageTypes.{type_has_data}
+use Rattle.mig_host.specs.Common.{type_has_data, HostOf, HostFrame, HostFrames}
 use Rattle.mig_pagestore.specs.Pages.{spliced}
-use Rattle.mig_guest.specs.Hosts.{HostOf, HostFrame, HostFrames}
 
 -- the page of a frame that is there
 abbrev pub raw_page_at : HostFrames → ℕ → Option (List ℕ)

@@ -1,16 +1,10 @@
 -- How frames, their machine frames and parts are seen as a host.
 use Rattle.std.specs.Prelude.{◌≡◌, ℕ, ◌<◌, Bool, List, map, Option, Some, is_some, unwrap_or, refl, ◌==◌, find}
 use Rattle.std.specs.List.{list_any}
-use Rattle.std.specs.Option.{option_map}
+use Rattle.mig_host.specs.Common.{option_map, Kind, PartKey, FrameMap, FrameOf, HostOf, HostFrame, HostFrames, IsValid, host_code, PartMap, machine_limit}
 use Rattle.std.specs.Ordering.{nat_cmp}
 use Rattle.std.specs.FinMap as maps
 use Rattle.std.specs.Coded.{Coded, code_by, coded×, coded_ℕ}
-use Rattle.mig_headers.specs.declared.kind.Kind.{Kind}
-use Rattle.mig_guest.specs.declared.part_key.PartKey.{PartKey}
-use Rattle.mig_guest.specs.Frames.{FrameMap, FrameOf}
-use Rattle.mig_guest.specs.Hosts.{HostOf, HostFrame, HostFrames, IsValid, host_code}
-use Rattle.mig_guest.specs.Parts.{PartMap}
-use Rattle.mig_pagetypes.specs.Limits.{machine_limit}
 
 -- machine frames by PFN
 abbrev pub MachineMap : Type 0

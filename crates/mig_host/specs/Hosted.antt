@@ -1,16 +1,10 @@
 -- The host that a restored guest becomes: machine frames are counted up from a base.
 use Rattle.std.specs.Prelude.{ℕ, ◌+◌, ◌<◌, ◌⊎◌, ◌≡◌, List, [], ◌∷◌, length, max, filter, nat_lt, Option}
-use Rattle.std.specs.Option.{option_map}
+use Rattle.mig_host.specs.Common.{option_map, Kind, Pv, Hvm, FrameMap, GuestOf, HostOf, machine_limit}
 use Rattle.std.specs.FinMap as maps
-use Rattle.mig_headers.specs.declared.kind.Kind.{Kind}
-use Rattle.mig_headers.specs.declared.kind.Kind.TheVariants.{Pv, Hvm}
 use Rattle.mig_guest.specs.Formed.{width_of}
-use Rattle.mig_guest.specs.Frames.{FrameMap}
-use Rattle.mig_guest.specs.Guests.{GuestOf}
-use Rattle.mig_guest.specs.Hosts.{HostOf}
 use Rattle.mig_host_view.specs.Localised.{localised}
 use Rattle.mig_host.specs.HostView.{with_machines}
-use Rattle.mig_pagetypes.specs.Limits.{machine_limit}
 
 -- how many of the frames have a smaller PFN
 abbrev pub rank_in : FrameMap → ℕ → ℕ

@@ -2,10 +2,7 @@ ghost use Rattle.std.specs.Prelude.{◌≡◌, ℕ, ◌+◌, ◌≤◌, ◌<◌,
 ghost use Rattle.std.specs.Option.{option_copied, option_map, unwrap_or};
 ghost use Rattle.std.specs.FinMap as maps;
 ghost use Rattle.mig_pagetypes.specs.declared.page_type.PageType.TheVariants.{Notab};
-ghost use Rattle.mig_pagetypes.specs.PageTypes.{type_has_data};
-ghost use Rattle.mig_pagetypes.specs.Limits.{most_frames, machine_limit};
-ghost use Rattle.mig_guest.specs.Frames.{is_type_of};
-ghost use Rattle.mig_guest.specs.Hosts.{HostFrame, IsValid};
+ghost use Rattle.mig_host.specs.Common.{type_has_data, most_frames, machine_limit, is_type_of, HostFrame, IsValid};
 ghost use Rattle.mig_host.specs.HostView.{put_frame, put_part_in};
 ghost use Rattle.mig_host.specs.Changes.{raw_page_at, retyped, page_written, typed, exchanged, without_frame};
 ghost use Rattle.mig_guest.specs.PartCodes.{is_fixed};

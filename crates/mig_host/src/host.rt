@@ -1,13 +1,6 @@
 ghost use Rattle.std.specs.Prelude.{◌≡◌, ℕ, ◌+◌, ◌≤◌, ◌<◌, OnOk, OnErr, IfSome, IfNone, IsSome, IsOk, Some, None, option_and_then, length, min};
-ghost use Rattle.std.specs.Option.{option_copied, option_map};
+ghost use Rattle.mig_host.specs.Common.{option_copied, option_map, Pv, pfn_limit, top_limit, most_frames, machine_limit, PartKey, NextEntry, IsHostFrame, IsHostPart, IsValid, most_width, pfn_in, FitsPolicy, NextBehind, NextKey, guest_in};
 ghost use Rattle.std.specs.FinMap as maps;
-ghost use Rattle.mig_headers.specs.declared.kind.Kind.TheVariants.{Pv};
-ghost use Rattle.mig_pagetypes.specs.Limits.{pfn_limit, top_limit, most_frames, machine_limit};
-ghost use Rattle.mig_guest.specs.declared.part_key.PartKey.{PartKey};
-ghost use Rattle.mig_guest.specs.Frames.{NextEntry};
-ghost use Rattle.mig_guest.specs.Hosts.{IsHostFrame, IsHostPart, IsValid, most_width, pfn_in};
-ghost use Rattle.mig_guest.specs.Parts.{FitsPolicy, NextBehind, NextKey};
-ghost use Rattle.mig_host_view.specs.View.{guest_in};
 ghost use Rattle.mig_host.specs.HostView.{has_machine, put_frame, put_part_in};
 
 use crate::machine_frames::MachineFrames;

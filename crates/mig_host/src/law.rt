@@ -1,14 +1,8 @@
 ghost use Rattle.std.specs.Prelude.{◌≡◌, ℕ, Some, None};
 ghost use Rattle.std.specs.FinMap as maps;
-ghost use Rattle.mig_headers.specs.declared.kind.Kind.TheVariants.{Pv, Hvm};
-ghost use Rattle.mig_guest.specs.Guests.{GuestOf};
-ghost use Rattle.mig_guest.specs.Hosts.{HostFrame, IsValid};
-ghost use Rattle.mig_pvtables.specs.Blank.{blank};
+ghost use Rattle.mig_host.specs.Common.{Pv, Hvm, GuestOf, HostFrame, IsValid, blank, IsWhole, IsSound, unsoundness, view, hvm_view};
 ghost use Rattle.mig_pvtables.specs.P2mFrames.{listed};
 ghost use Rattle.mig_pvtables.specs.P2mPages.{p2m_page};
-ghost use Rattle.mig_pvtables.specs.Whole.{IsWhole};
-ghost use Rattle.mig_host_view.specs.Sound.{IsSound, unsoundness};
-ghost use Rattle.mig_host_view.specs.View.{view, hvm_view};
 ghost use Rattle.mig_host.specs.Hosted.{mfn_in, hosted, IsBaseOutside};
 
 /// What a whole guest becomes is a valid host, where the base isn't out of range.

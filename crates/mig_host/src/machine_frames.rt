@@ -1,6 +1,6 @@
 ghost use Rattle.std.specs.Prelude.{◌≡◌, ℕ, ◌+◌, ◌≤◌, ◌<◌, IsOk, IsSome, OnOk, OnErr, IfOk, IfSome, IfNone, Some, None};
 ghost use Rattle.std.specs.FinMap as maps;
-ghost use Rattle.mig_pagetypes.specs.Limits.{pfn_limit, machine_limit};
+ghost use Rattle.mig_host.specs.Common.{pfn_limit, machine_limit};
 ghost use Rattle.mig_host.specs.HostView.{pfn_of_machine_in};
 
 use mig_bytes::Memory;

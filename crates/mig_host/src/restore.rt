@@ -1,8 +1,6 @@
 ghost use Rattle.std.specs.Prelude.{◌≡◌, ◌⊎◌, ℕ, ◌+◌, ◌<◌, ◌≤◌, ◌↔◌, true, false, IfOk, Err, IsSome, length};
 ghost use Rattle.std.specs.FinMap as maps;
-ghost use Rattle.std.specs.Option.{option_map};
-ghost use Rattle.mig_pagetypes.specs.Limits.{top_limit, machine_limit};
-ghost use Rattle.mig_pvtables.specs.Whole.{IsWhole};
+ghost use Rattle.mig_host.specs.Common.{option_map, top_limit, machine_limit, IsWhole};
 ghost use Rattle.mig_host.specs.Hosted.{hosted, hosted_width, rank_in, least_width, IsBaseOutside};
 ghost use Rattle.mig_host.specs.declared.restore.HostAnswer.TheVariants.{BaseRange};
 

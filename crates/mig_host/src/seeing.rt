@@ -1,18 +1,12 @@
 ghost use Rattle.std.specs.Prelude.{◌≡◌, ◌<◌, Some, Err, OnOk, IfOk, IfSome};
-ghost use Rattle.std.specs.Option.{option_copied};
+ghost use Rattle.mig_host.specs.Common.{option_copied, Pv, IsValid, each_value, IsOfBytes, IsStreamed, IsSound, unsoundness, without_machine, top_of, guest_in, view};
 ghost use Rattle.std.specs.Result.{IsOk};
 ghost use Rattle.std.specs.FinMap as maps;
 ghost use Rattle.mig_bytes.specs.Bytes.{AreBytes};
 ghost use Rattle.mig_headers.specs.Contexts.{scan};
-ghost use Rattle.mig_headers.specs.declared.kind.Kind.TheVariants.{Pv};
-ghost use Rattle.mig_guest.specs.Hosts.{IsValid};
 ghost use Rattle.mig_guest.specs.PartKeys.{context_key};
 ghost use Rattle.mig_headers.specs.declared.unsound.Unsound.{Unsound as Cause};
-ghost use Rattle.mig_pvtables.specs.Blank.{each_value, IsOfBytes};
-ghost use Rattle.mig_pvtables.specs.Whole.{IsStreamed};
 ghost use Rattle.mig_host_view.specs.Normalised.{part_seen};
-ghost use Rattle.mig_host_view.specs.Sound.{IsSound, unsoundness};
-ghost use Rattle.mig_host_view.specs.View.{without_machine, top_of, guest_in, view};
 ghost use Rattle.mig_host.specs.declared.sound.SoundAnswer.TheVariants as answers;
 
 use crate::host::Host;

@@ -1,6 +1,5 @@
 -- The fault of a PV guest at the end of its stream is the first of what is wrong with it there.
-use Rattle.mig_host_laws.proofs.Common.{◌⊎◌, number_of_cause, Cause, Unsound, number_of_unsound, ◌≡◌, inl, inr, ℕ, ◌+◌, ◌/◌, ◌%◌, ◌<◌, ◌≤◌, length, nat_lt, true, refl, sym, ap, subst, arith, ltb-true, lt-ltb, GuestOf, Pv, fault_of_guest, first_cause, IsNamedBefore, NamesFirst, in_stream, cause_in_stream, is_left_at_end, IsWrongAtEnd}
-use Rattle.mig_pvtables.proofs.Common.{TooManyFrames, most_frames}
+use Rattle.mig_host_laws.proofs.Common.{◌⊎◌, number_of_cause, Cause, Unsound, number_of_unsound, ◌≡◌, inl, inr, ℕ, ◌+◌, ◌/◌, ◌%◌, ◌<◌, ◌≤◌, length, nat_lt, true, refl, sym, ap, subst, arith, ltb-true, lt-ltb, GuestOf, Pv, fault_of_guest, first_cause, IsNamedBefore, NamesFirst, in_stream, cause_in_stream, is_left_at_end, IsWrongAtEnd, TooManyFrames, most_frames}
 use Rattle.mig_host_laws.specs.Unsoundness.IsWrongAtEnd.{stands_wrong, many_frames}
 use Rattle.mig_host_laws.proofs.Instances.{rows_left, fault_is_row, left_first}
 use Rattle.mig_host_laws.proofs.Rows.{Left}

@@ -1,13 +1,7 @@
 -- What is looked for in a guest at the end of its stream, and in a host, are rows of how it stands.
 use Rattle.std.specs.FinMap as maps
-use Rattle.mig_host_laws.proofs.Common.{Cause, Kind, Unsound, number_of_unsound, HostOf, HostFrame, IsValid, pfn_in, ◌≡◌, ℕ, ◌<◌, List, [], ◌∷◌, true, false, cond, not, is_none, Option, Some, None, refl, sym, ap, ◌∙◌, ◌&&◌, option_map, option_or, option_and_then, nat_cmp_total, nat_cmp-IsAntisymmetric, gdt_ents, FrameOf, FrameMap, GuestOf, PartMap, PartKey, p2m_key, vcpu_key, shared_key, Entry, Blank, NotPresent, Superpage, Frame, Pv, first_cause, first_some, find_entry, type_at, fits_field, is_superpage, field_value, frame_of_field, is_used, fault_of_guest, is_unknown, absent, needed_keys, unsoundness, guest_in, NamesFirst, Standing, said_of, in_stream, in_host, names_ill, row_1, row_2, row_6, first_row, IsWide, cause_in_stream, IsWrong, UnsoundHas, NamesFirstRow}
-use Rattle.mig_pvtables.proofs.Common.{find_p2m, is_absent, faults_for}
+use Rattle.mig_host_laws.proofs.Common.{Cause, Kind, Unsound, number_of_unsound, HostOf, HostFrame, IsValid, pfn_in, ◌≡◌, ℕ, ◌<◌, List, [], ◌∷◌, true, false, cond, not, is_none, Option, Some, None, refl, sym, ap, ◌∙◌, ◌&&◌, option_map, option_or, option_and_then, nat_cmp_total, nat_cmp-IsAntisymmetric, gdt_ents, FrameOf, FrameMap, GuestOf, PartMap, PartKey, p2m_key, vcpu_key, shared_key, Entry, Blank, NotPresent, Superpage, Frame, Pv, first_cause, first_some, find_entry, type_at, fits_field, is_superpage, field_value, frame_of_field, is_used, fault_of_guest, is_unknown, absent, needed_keys, unsoundness, guest_in, NamesFirst, Standing, said_of, in_stream, in_host, names_ill, row_1, row_2, row_6, first_row, IsWide, cause_in_stream, IsWrong, UnsoundHas, NamesFirstRow, find_p2m, is_absent, faults_for, get_each, unsound_rows, without_machine, itself_in, in_machine, type_named, find_ill_listed}
 use Rattle.mig_pvtables.specs.Faults.{find_field, find_in_contexts, missing, too_many}
-use Rattle.mig_pvtables.proofs.EachValue.{get_each}
-use Rattle.mig_host_view.specs.Sound.{unsound_rows}
-use Rattle.mig_host_view.specs.View.{without_machine}
-use Rattle.mig_host_laws.specs.Standing.{itself_in, in_machine, type_named}
-use Rattle.mig_host_laws.specs.FirstRow.{find_ill_listed}
 use Rattle.mig_host_laws.proofs.NamedFirst.{one_named, told_twice}
 use Rattle.mig_host_laws.proofs.Rows.{Left, frames_named, rows_name, first_row_named, left_named}
 use Rattle.mig_headers.specs.declared.fault.Cause.TheVariants as faults

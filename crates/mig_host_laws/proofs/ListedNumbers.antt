@@ -1,9 +1,7 @@
 -- What is listed in a list of P2M frames.
 use Rattle.std.specs.FinMap as maps
-use Rattle.mig_host_laws.proofs.Common.{◌≡◌, ℕ, ◌/◌, ◌^◌, ◌<◌, ◌≤◌, Bool, cond, length, nat_lt, Option, Some, None, ap, ◌∙◌, arith, lt-ltb, PartMap, p2m_key, listed, long_at, long_of_longs}
+use Rattle.mig_host_laws.proofs.Common.{◌≡◌, ℕ, ◌/◌, ◌^◌, ◌<◌, ◌≤◌, Bool, cond, length, nat_lt, Option, Some, None, ap, ◌∙◌, arith, lt-ltb, PartMap, p2m_key, listed, long_at, long_of_longs, longs, le-ltb, listed_in}
 use Rattle.mig_guest.proofs.Longs.{length_longs}
-use Rattle.mig_guest.specs.Longs.{longs}
-use Rattle.mig_pvtables.proofs.Common.{le-ltb, listed_in}
 
 module _ (parts : PartMap) (n : ℕ) (pfn_at : ℕ → ℕ) (is : maps.get parts p2m_key ≡ Some (longs n pfn_at)) where
   counted : length (longs n pfn_at) / 8 ≡ n

@@ -1,15 +1,12 @@
 -- What a search along a list names is the first of what stands in the list; for causes of any type.
-use Rattle.mig_host_laws.proofs.Common.{◌⊎◌, false≢true, IsTotalOrder, IsAntisymmetric, eq_by_cmp, is_lt, Ordering, Less, tied, less, IsNamedBefore, NamesFirst}
+use Rattle.mig_host_laws.proofs.Common.{◌⊎◌, false≢true, IsTotalOrder, IsAntisymmetric, eq_by_cmp, is_lt, Ordering, Less, tied, less, IsNamedBefore, NamesFirst, All-head, All-tail, FinMap, both_of, true_of}
 use Rattle.std.proofs.Common.{◌≡◌, inl, inr, ℕ, zero, suc, ◌+◌, ◌<◌, ◌≤◌, List, [], ◌∷◌, Bool, true, false, cond, Option, Some, None, refl, sym, ap, subst, ◌∙◌, ◌↔◌, arith}
 use Rattle.std.proofs.lemmas.Bool.{cases_eq}
-use Rattle.std.proofs.lemmas.List.Elements.{All-head, All-tail}
 use Rattle.std.specs.Prelude.{find, T}
 use Rattle.std.specs.List.{All, range_with_len}
 use Rattle.std.specs.Option.{option_map, option_or}
-use Rattle.std.specs.FinMap.{FinMap}
 use Rattle.std.specs.FinMap.Entries.{is_sorted, below_all}
 use Rattle.mig_guest.proofs.Found.{all_found}
-use Rattle.mig_guest.proofs.PartCursor.{both_of, true_of}
 use Rattle.mig_pvtables.specs.Faults.{first_some}
 use Rattle.std.specs.FinMap as maps
 

@@ -1,6 +1,5 @@
 -- Where nothing is wrong, a host is sound, and a PV guest that is well formed is whole; and the other way round.
-use Rattle.mig_host_laws.proofs.Common.{number_of_cause, Cause, Unsound, number_of_unsound, HostOf, ◌≡◌, ℕ, ◌↔◌, GuestOf, Pv, fault_of_guest, IsSound, unsoundness, UnsoundHas, IsWrongAtEnd}
-use Rattle.mig_pvtables.proofs.Common.{IsFormed, IsWhole}
+use Rattle.mig_host_laws.proofs.Common.{number_of_cause, Cause, Unsound, number_of_unsound, HostOf, ◌≡◌, ℕ, ◌↔◌, GuestOf, Pv, fault_of_guest, IsSound, unsoundness, UnsoundHas, IsWrongAtEnd, IsFormed, IsWhole}
 use Rattle.mig_host_view.proofs.SoundRows.{sound_is_faultless}
 use Rattle.mig_host_laws.proofs.AtEnd.{fault_named}
 use Rattle.mig_host_laws.proofs.Instances.{unsoundness_named}

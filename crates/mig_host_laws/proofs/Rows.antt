@@ -1,21 +1,13 @@
 -- Each row names the first of what its line says, and the rows together the first of all that is wrong.
-use Rattle.mig_host_laws.proofs.Common.{◌⊎◌, false≢true, Less, Kind, Unsound, number_of_unsound, ◌≡◌, inl, inr, ℕ, zero, suc, ◌+◌, ◌*◌, ◌<◌, ◌≤◌, List, [], ◌∷◌, Bool, true, false, cond, not, nat_lt, is_none, is_some, Option, Some, None, refl, sym, ap, subst, ◌∙◌, arith, ltb-true, lt-ltb, eqb-true, eq-eqb, cases_lt, nat_cmp, ◌==◌, ◌&&◌, ◌||◌, find, list_any, range_with_len, option_map, option_or, option_and_then, nat_cmp_total, nat_cmp-IsAntisymmetric, PageType, gdt_ents, FrameOf, FrameMap, PartKey, part_cmp, p2m_key, vcpu_key, shared_key, Entry, Superpage, Frame, NotPresent, Pv, part_total, part_exact, first_cause, first_some, is_notab, is_this, find_entry, is_superpage, count_in, listed, field_value, is_unknown, needed_keys, absent, NamesFirst, Standing, said_of, names_ill, row_1, row_2, row_5, row_6, row_7, first_row, IsWide, IsWrong, NamesFirstRow, is_left_at_end, no_context, no_p2m, no_shared, no_vcpu, other_type, listed_twice, large, nameless, many_descriptors, field_ill, bad_context, most_gdt_entries}
-use Rattle.std.proofs.lemmas.Bool.{and_from, and_parts, not-true, or_cases, or_left, or_right}
+use Rattle.mig_host_laws.proofs.Common.{◌⊎◌, false≢true, Less, Kind, Unsound, number_of_unsound, ◌≡◌, inl, inr, ℕ, zero, suc, ◌+◌, ◌*◌, ◌<◌, ◌≤◌, List, [], ◌∷◌, Bool, true, false, cond, not, nat_lt, is_none, is_some, Option, Some, None, refl, sym, ap, subst, ◌∙◌, arith, ltb-true, lt-ltb, eqb-true, eq-eqb, cases_lt, nat_cmp, ◌==◌, ◌&&◌, ◌||◌, find, list_any, range_with_len, option_map, option_or, option_and_then, nat_cmp_total, nat_cmp-IsAntisymmetric, PageType, gdt_ents, FrameOf, FrameMap, PartKey, part_cmp, p2m_key, vcpu_key, shared_key, Entry, Superpage, Frame, NotPresent, Pv, part_total, part_exact, first_cause, first_some, is_notab, is_this, find_entry, is_superpage, count_in, listed, field_value, is_unknown, needed_keys, absent, NamesFirst, Standing, said_of, names_ill, row_1, row_2, row_5, row_6, row_7, first_row, IsWide, IsWrong, NamesFirstRow, is_left_at_end, no_context, no_p2m, no_shared, no_vcpu, other_type, listed_twice, large, nameless, many_descriptors, field_ill, bad_context, most_gdt_entries, and_from, and_parts, not-true, or_cases, or_left, or_right, Result, Ok, Err, ranked, IsSome, level_of, entry, Hvm, find_slot, fault_in, said_in, says_in, find_said, row_3, row_4, key_rank}
 use Rattle.std.proofs.lemmas.List.Folds.{list_any_at}
 use Rattle.std.proofs.lemmas.List.FromFn.{length-range_with_len, get_or-range_with_len}
-use Rattle.std.specs.Prelude.{Result, Ok, Err}
-use Rattle.std.specs.Cmp.{ranked}
 use Rattle.mig_headers.specs.Contexts.{scan}
 use Rattle.mig_guest.specs.PartKeys.{context_key}
 use Rattle.mig_headers.specs.declared.fault.ContextFault.{ContextFault}
 use Rattle.mig_pagetypes.specs.declared.page_type.PageType.TheVariants.{Notab}
-use Rattle.mig_pvtables.proofs.Common.{IsSome, level_of, entry, Hvm, find_slot}
 use Rattle.mig_pvtables.specs.Faults.{slots, field_numbers, is_needed, is_misplaced}
 use Rattle.mig_pvtables.proofs.PvGuests.{counted}
-use Rattle.mig_host_view.specs.Sound.{fault_in}
-use Rattle.mig_host_laws.specs.Standing.{said_in, says_in}
-use Rattle.mig_host_laws.specs.FirstRow.{find_said, row_3, row_4}
-use Rattle.mig_host_laws.specs.Unsoundness.{key_rank}
 use Rattle.mig_host_laws.proofs.KeyRanks.{rank_lt}
 use Rattle.mig_host_laws.proofs.NamedFirst.{told_first, told_twice}
 use Rattle.std.specs.FinMap as maps

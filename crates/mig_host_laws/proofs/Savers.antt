@@ -1,6 +1,5 @@
 -- What a saver finds with types that it saw last.
-use Rattle.mig_host_laws.proofs.Common.{Unsound, number_of_unsound, HostOf, ◌≡◌, ℕ, true, Option, subst, sym, ◌∙◌, ◌↔◌, PageType, type_at, unsoundness, guest_in, Standing, in_host, first_row, IsWide, IsWrong, UnsoundHas, NamesFirstRow, no_context, no_p2m, no_shared, no_vcpu, other_type, listed_twice, large, nameless, many_descriptors, field_ill, bad_context}
-use Rattle.mig_host_laws.specs.Standing.{before_saver, is_of_no_type}
+use Rattle.mig_host_laws.proofs.Common.{Unsound, number_of_unsound, HostOf, ◌≡◌, ℕ, true, Option, subst, sym, ◌∙◌, ◌↔◌, PageType, type_at, unsoundness, guest_in, Standing, in_host, first_row, IsWide, IsWrong, UnsoundHas, NamesFirstRow, no_context, no_p2m, no_shared, no_vcpu, other_type, listed_twice, large, nameless, many_descriptors, field_ill, bad_context, before_saver, is_of_no_type}
 use Rattle.mig_host_laws.proofs.Instances.{unsoundness_named, unsoundness_is_row}
 use Rattle.mig_host_laws.proofs.NamedFirst.{one_named}
 

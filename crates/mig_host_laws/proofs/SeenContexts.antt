@@ -1,8 +1,7 @@
 -- What the contexts of a sound host say in the guest that it is seen as.
 use Rattle.std.specs.FinMap as maps
-use Rattle.mig_host_laws.proofs.Common.{both_ways, recursion_from_All, AreBytes, HostOf, IsValid, pfn_in, ◌≡◌, ℕ, ◌<◌, ◌≤◌, Bool, true, false, cond, List, Option, Some, None, refl, sym, ap, subst, ◌∙◌, arith, option_and_then, gdt_ents, long_at, field_at, field_value, frame_of_field, blanked_context, value_blanked, fits_field, PartKey, Pv, eq-eqb, ◌==◌, part_total, part_exact, blanked_part, each_value, is_used_somewhere, place_field, to_each, renamed_part, renamed_context, IsSound, guest_in, view, Field, field_row, IsField, field_numbered, said_by, Uses, AreNamesSmall, SaysAnew, IsSeenAs}
+use Rattle.mig_host_laws.proofs.Common.{both_ways, recursion_from_All, AreBytes, HostOf, IsValid, pfn_in, ◌≡◌, ℕ, ◌<◌, ◌≤◌, Bool, true, false, cond, List, Option, Some, None, refl, sym, ap, subst, ◌∙◌, arith, option_and_then, gdt_ents, long_at, field_at, field_value, frame_of_field, blanked_context, value_blanked, fits_field, PartKey, Pv, eq-eqb, ◌==◌, part_total, part_exact, blanked_part, each_value, is_used_somewhere, place_field, to_each, renamed_part, renamed_context, IsSound, guest_in, view, Field, field_row, IsField, field_numbered, said_by, Uses, AreNamesSmall, SaysAnew, IsSeenAs, each_stays, blanked_shared}
 use Rattle.mig_pagetypes.specs.declared.page_type.PageType.{PageType}
-use Rattle.mig_pvtables.proofs.Common.{each_stays, blanked_shared}
 use Rattle.mig_pvtables.specs.VcpuContexts.{blanked_value}
 use Rattle.mig_pvtables.proofs.BlankWhole.{unfit}
 use Rattle.mig_host_view.specs.Normalised.{normalised_of}

@@ -3,10 +3,7 @@
 use Rattle.std.specs.Prelude.{◌≡◌, ◌<◌, ⊤, ℕ, ◌+◌, ◌-◌, ◌*◌, ◌/◌, ◌%◌, Bool, true, List, Option, Some, ◌==◌, not, nat_le, nat_lt, if◌then◌else◌}
 use Rattle.byteorder.specs.Endian.{little_bytes}
 use Rattle.mig_bytes.specs.Fields.{with_field}
-use Rattle.mig_pagetypes.specs.declared.page_type.PageType.{PageType}
-use Rattle.mig_guest.specs.Longs.{long_at}
-use Rattle.mig_pvtables.specs.Faults.{is_notab, is_root, fits_field}
-use Rattle.mig_pvtables.specs.VcpuContexts.{field_place, frame_of_field, field_of_frame, is_used, is_used_somewhere, value_blanked}
+use Rattle.mig_host_laws.specs.Common.{PageType, long_at, is_notab, is_root, fits_field, field_place, frame_of_field, field_of_frame, is_used, is_used_somewhere, value_blanked}
 
 -- rdx; the GDT's frames, from 0 on; ctrlreg[3], the root; ctrlreg[1], the root of user space
 pub data Field : Type 0 where

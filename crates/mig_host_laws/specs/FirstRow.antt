@@ -1,17 +1,10 @@
 -- What is in the way of seeing a guest where it stands, looked for row by row: each row's first cause, and the first of the rows.
 use Rattle.std.specs.Prelude.{◌≡◌, ◌<◌, ℕ, Bool, List, [], ◌∷◌, Option, find}
-use Rattle.std.specs.List.{range_with_len}
-use Rattle.std.specs.Option.{option_map}
+use Rattle.mig_host_laws.specs.Common.{range_with_len, option_map, Unsound, Entry, NotPresent, p2m_key, first_some, first_cause, slots, find_misplaced, find_in_contexts, misses, needed_keys, absent, find_gdt, find_context_fault}
 use Rattle.std.specs.FinMap as maps
-use Rattle.mig_headers.specs.declared.unsound.Unsound.{Unsound}
 use Rattle.mig_headers.specs.declared.unsound.Unsound.TheVariants.{P2mFrame, Superpage, NoFrame, GdtEnts, VcpuFrame, BadContext}
-use Rattle.mig_guest.specs.declared.table.Entry.{Entry}
-use Rattle.mig_guest.specs.declared.table.Entry.TheVariants.{NotPresent}
-use Rattle.mig_guest.specs.PartKeys.{p2m_key}
 use Rattle.mig_pvtables.specs.BadEntries.{is_unknown}
-use Rattle.mig_pvtables.specs.Faults.{first_some, first_cause, slots, find_misplaced, find_in_contexts, misses}
 use Rattle.mig_pvtables.specs.Tables.{is_superpage}
-use Rattle.mig_host_view.specs.Sound.{needed_keys, absent, find_gdt, find_context_fault}
 use Rattle.mig_host_laws.specs.Standing.{Standing, type_named}
 
 -- the least index at which the list of the P2M frames is wrong

@@ -1,3 +1,4 @@
+mod Common
 pub mod Fields
 pub mod NamedAnew
 pub mod NamedFirst

@@ -1,8 +1,6 @@
 -- What a vCPU's context says once its fields have other names.
 use Rattle.std.specs.Prelude.{◌≡◌, ◌<◌, ◌^◌, ℕ, true, List, length, Option, Some, None}
-use Rattle.mig_bytes.specs.Bytes.{AreBytes}
-use Rattle.mig_guest.specs.Formed.{gdt_ents}
-use Rattle.mig_guest.specs.Longs.{long_at}
+use Rattle.mig_host_laws.specs.Common.{AreBytes, gdt_ents, long_at}
 use Rattle.mig_host_laws.specs.Fields.{Field, FieldRow, UsedWhere, field_row, IsField, said_by}
 
 -- vCPU id uses the field of its context

@@ -1,22 +1,11 @@
 -- How a guest stands: in a stream, in a machine, or before a saver that looks names up one at a time.
 use Rattle.std.specs.Prelude.{ℕ, Bool, true, false, List, Option, Some, None, option_and_then}
-use Rattle.std.specs.Option.{option_map}
+use Rattle.mig_host_laws.specs.Common.{option_map, Unsound, PageType, Entry, NotPresent, GuestOf, HostOf, pfn_in, PartMap, entry, type_at, Usage, is_used, is_used_somewhere, guest_in}
 use Rattle.std.specs.FinMap as maps
 use Rattle.mig_headers.specs.declared.kind.Kind.{Kind}
-use Rattle.mig_headers.specs.declared.unsound.Unsound.{Unsound}
 use Rattle.mig_headers.specs.declared.unsound.Unsound.TheVariants.{P2mFrame, VcpuFrame}
-use Rattle.mig_pagetypes.specs.declared.page_type.PageType.{PageType}
 use Rattle.mig_pagetypes.specs.PageTypes.{level_of}
-use Rattle.mig_guest.specs.declared.table.Entry.{Entry}
-use Rattle.mig_guest.specs.declared.table.Entry.TheVariants.{NotPresent}
 use Rattle.mig_guest.specs.Frames.{FrameOf, FrameMap}
-use Rattle.mig_guest.specs.Guests.{GuestOf}
-use Rattle.mig_guest.specs.Hosts.{HostOf, pfn_in}
-use Rattle.mig_guest.specs.Parts.{PartMap}
-use Rattle.mig_guest.specs.Tables.{entry}
-use Rattle.mig_pvtables.specs.Faults.{type_at}
-use Rattle.mig_pvtables.specs.VcpuContexts.{Usage, is_used, is_used_somewhere}
-use Rattle.mig_host_view.specs.View.{guest_in}
 
 -- what is asked of a guest, wherever it stands: no map of frames, so that names and types may come one at a time
 pub record Standing : Type 0 where

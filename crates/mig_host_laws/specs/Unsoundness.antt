@@ -4,26 +4,12 @@ use Rattle.std.specs.Ordering.{is_lt}
 use Rattle.std.specs.FinMap as maps
 use Rattle.mig_headers.specs.Contexts.{scan}
 use Rattle.mig_headers.specs.declared.fault.ContextFault.{ContextFault}
-use Rattle.mig_headers.specs.declared.fault.Cause.{Cause}
+use Rattle.mig_host_laws.specs.Common.{Cause, Pv, Hvm, Unsound, number_of_unsound, Notab, PartKey, gdt_ents, GuestOf, HostOf, PartMap, p2m_key, vcpu_key, shared_key, context_key, most_gdt_entries, fits_field, listed, field_value, frame_of_field}
 use Rattle.mig_headers.specs.declared.fault.Cause.TheVariants as faults
-use Rattle.mig_headers.specs.declared.kind.Kind.TheVariants.{Pv, Hvm}
-use Rattle.mig_headers.specs.declared.unsound.Unsound.{Unsound}
 use Rattle.mig_headers.specs.declared.unsound.Unsound.TheVariants as causes
-use Rattle.mig_headers_text.specs.UnsoundTexts.{number_of_unsound}
 use Rattle.mig_pagetypes.specs.Limits.{most_frames}
-use Rattle.mig_pagetypes.specs.declared.page_type.PageType.TheVariants.{Notab}
-use Rattle.mig_guest.specs.declared.part_key.PartKey.{PartKey}
 use Rattle.mig_guest.specs.declared.table.Entry.TheVariants.{Superpage, Frame}
-use Rattle.mig_guest.specs.Formed.{gdt_ents}
-use Rattle.mig_guest.specs.Guests.{GuestOf}
-use Rattle.mig_guest.specs.Hosts.{HostOf}
 use Rattle.mig_guest.specs.Order.{part_cmp}
-use Rattle.mig_guest.specs.Parts.{PartMap}
-use Rattle.mig_guest.specs.PartKeys.{p2m_key, vcpu_key, shared_key, context_key}
-use Rattle.mig_guest.specs.Limits.{most_gdt_entries}
-use Rattle.mig_pvtables.specs.Faults.{fits_field}
-use Rattle.mig_pvtables.specs.P2mFrames.{listed}
-use Rattle.mig_pvtables.specs.VcpuContexts.{field_value, frame_of_field}
 use Rattle.mig_host_laws.specs.NamedFirst.{NamesFirst}
 use Rattle.mig_host_laws.specs.Standing.{Standing, type_named, in_stream, in_host}
 

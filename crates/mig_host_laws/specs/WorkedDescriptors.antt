@@ -1,9 +1,6 @@
 -- A vCPU's context, worked through: how many descriptors its GDT has says which of the GDT's frames are used.
 use Rattle.std.specs.Prelude.{◌≡◌, ℕ, List, ◌==◌, filter, if◌then◌else◌}
-use Rattle.std.specs.List.{range_with_len}
-use Rattle.mig_guest.specs.Formed.{gdt_ents}
-use Rattle.mig_guest.specs.Longs.{longs}
-use Rattle.mig_pvtables.specs.VcpuContexts.{Usage, field_value, is_used, is_used_somewhere}
+use Rattle.mig_host_laws.specs.Common.{range_with_len, gdt_ents, longs, Usage, field_value, is_used, is_used_somewhere}
 
 -- the context of a vCPU whose GDT has so many descriptors: they are counted at place 620, byte 4960, and all else is 0
 abbrev pub descriptors_context : ℕ → List ℕ

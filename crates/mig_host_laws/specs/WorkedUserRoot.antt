@@ -1,13 +1,7 @@
 -- A host whose PFN 7 is a level 4 table with machine frame 5006, and whose vCPU 0 says one number in ctrlreg[1].
 use Rattle.std.specs.Prelude.{ℕ, List, [], ◌∷◌, Option, Some, ◌==◌, if◌then◌else◌}
-use Rattle.std.specs.Option.{option_map}
+use Rattle.mig_host_laws.specs.Common.{option_map, Pv, L4Tab, HostOf, HostFrame, long_at, longs, vcpu_key, view}
 use Rattle.std.specs.FinMap as maps
-use Rattle.mig_headers.specs.declared.kind.Kind.TheVariants.{Pv}
-use Rattle.mig_pagetypes.specs.declared.page_type.PageType.TheVariants.{L4Tab}
-use Rattle.mig_guest.specs.Hosts.{HostOf, HostFrame}
-use Rattle.mig_guest.specs.Longs.{long_at, longs}
-use Rattle.mig_guest.specs.PartKeys.{vcpu_key}
-use Rattle.mig_host_view.specs.View.{view}
 
 -- the table, all of whose slots are empty
 abbrev pub user_table : HostFrame

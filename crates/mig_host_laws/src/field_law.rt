@@ -1,17 +1,7 @@
 ghost use Rattle.std.specs.Prelude.{◌≡◌, ◌≤◌, ◌<◌, ◌^◌, ℕ, List, [], ◌∷◌, length, Option, Some, true, false};
-ghost use Rattle.std.specs.List.{range_with_len};
+ghost use Rattle.mig_host_laws.specs.Common.{range_with_len, AreBytes, Pv, PartKey, gdt_ents, HostOf, IsValid, pfn_in, long_at, most_gdt_entries, field_at, frame_of_field, is_used, is_used_somewhere, IsSound, view};
 ghost use Rattle.std.specs.FinMap as maps;
-ghost use Rattle.mig_bytes.specs.Bytes.{AreBytes};
-ghost use Rattle.mig_headers.specs.declared.kind.Kind.TheVariants.{Pv};
-ghost use Rattle.mig_guest.specs.declared.part_key.PartKey.{PartKey};
-ghost use Rattle.mig_guest.specs.Formed.{gdt_ents};
-ghost use Rattle.mig_guest.specs.Hosts.{HostOf, IsValid, pfn_in};
-ghost use Rattle.mig_guest.specs.Longs.{long_at};
-ghost use Rattle.mig_guest.specs.Limits.{most_gdt_entries};
-ghost use Rattle.mig_pvtables.specs.VcpuContexts.{field_at, frame_of_field, is_used, is_used_somewhere};
 ghost use Rattle.mig_host_view.specs.RenamedContexts.{renamed_context};
-ghost use Rattle.mig_host_view.specs.Sound.{IsSound};
-ghost use Rattle.mig_host_view.specs.View.{view};
 ghost use Rattle.mig_host_laws.specs.Fields.{Field, field_row, IsField, IsNumbered, field_numbered, said_by, with_frame_in};
 ghost use Rattle.mig_host_laws.specs.NamedAnew.{AreNamesSmall, SaysAnew, IsSeenAs};
 ghost use Rattle.mig_host_laws.specs.WorkedDescriptors.{descriptors_context, AreUsedFor};

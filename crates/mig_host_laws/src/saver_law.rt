@@ -1,10 +1,5 @@
 ghost use Rattle.std.specs.Prelude.{◌≡◌, ◌↔◌, ℕ, Option, true};
-ghost use Rattle.mig_headers.specs.declared.unsound.Unsound.{Unsound};
-ghost use Rattle.mig_pagetypes.specs.declared.page_type.PageType.{PageType};
-ghost use Rattle.mig_guest.specs.Hosts.{HostOf};
-ghost use Rattle.mig_pvtables.specs.Faults.{type_at};
-ghost use Rattle.mig_host_view.specs.Sound.{unsoundness};
-ghost use Rattle.mig_host_view.specs.View.{guest_in};
+ghost use Rattle.mig_host_laws.specs.Common.{Unsound, PageType, HostOf, type_at, unsoundness, guest_in};
 ghost use Rattle.mig_host_laws.specs.Standing.{in_host, before_saver, is_of_no_type};
 ghost use Rattle.mig_host_laws.specs.FirstRow.{first_row, IsWide};
 ghost use Rattle.mig_host_laws.specs.Unsoundness.{IsWrong, UnsoundHas, NamesFirstRow};

@@ -1,15 +1,7 @@
 ghost use Rattle.std.specs.Prelude.{◌≡◌, ◌↔◌, ℕ, Option};
 ghost use Rattle.mig_headers.specs.CauseNumbers.{number_of_cause};
-ghost use Rattle.mig_headers.specs.declared.fault.Cause.{Cause};
-ghost use Rattle.mig_headers.specs.declared.kind.Kind.TheVariants.{Pv};
-ghost use Rattle.mig_headers.specs.declared.unsound.Unsound.{Unsound};
-ghost use Rattle.mig_headers_text.specs.UnsoundTexts.{number_of_unsound};
-ghost use Rattle.mig_guest.specs.Formed.{IsFormed};
-ghost use Rattle.mig_guest.specs.Guests.{GuestOf};
-ghost use Rattle.mig_guest.specs.Hosts.{HostOf, IsValid};
-ghost use Rattle.mig_pvtables.specs.Faults.{fault_of_guest};
+ghost use Rattle.mig_host_laws.specs.Common.{Cause, Pv, Unsound, number_of_unsound, IsFormed, GuestOf, HostOf, IsValid, fault_of_guest, IsSound, unsoundness};
 ghost use Rattle.mig_pvtables.specs.Whole.{IsWhole};
-ghost use Rattle.mig_host_view.specs.Sound.{IsSound, unsoundness};
 ghost use Rattle.mig_host_laws.specs.FirstRow.{first_row, IsWide};
 ghost use Rattle.mig_host_laws.specs.NamedFirst.{NamesFirst};
 ghost use Rattle.mig_host_laws.specs.Standing.{Standing, in_host};

@@ -1,11 +1,7 @@
 ghost use Rattle.std.specs.Prelude.{◌≡◌, ◌≤◌, ◌<◌, ◌-◌, ◌^◌, ℕ, Some, None};
 ghost use Rattle.std.specs.FinMap as maps;
 ghost use Rattle.mig_guest.specs.declared.table.Entry.TheVariants.{Blank, NotPresent, Superpage, Frame};
-ghost use Rattle.mig_guest.specs.Longs.{longs};
-ghost use Rattle.mig_guest.specs.PartKeys.{p2m_key};
-ghost use Rattle.mig_guest.specs.Parts.{PartMap};
-ghost use Rattle.mig_guest.specs.Tables.{entry_of};
-ghost use Rattle.mig_pvtables.specs.P2mFrames.{listed};
+ghost use Rattle.mig_host_laws.specs.Common.{longs, p2m_key, PartMap, entry_of, listed};
 
 /// What entries say, worked through. Bit 0 says that one is present; bit 7 that it is a superpage in a table of level 2, 3 or 4,
 /// and nothing in one of level 1; bits 12 to 51 name the frame, and no other bits; and slots 256 to 271 of a level 4 table

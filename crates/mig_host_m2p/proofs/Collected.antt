@@ -1,10 +1,7 @@
 -- What the cells of a tree have, as a map, and how it changes with the tree.
-use Rattle.mig_host_m2p.proofs.Common.{◌≡◌, ◌≢◌, ◌⊎◌, ℕ, zero, suc, ◌<◌, ◌≤◌, Bool, true, false, Option, Some, None, refl, sym, ap, subst, ◌∙◌, inl, inr, arith, cases_eq, cases_lt, Cell, IsGrown, ValueMap, with_cell, collected}
-use Rattle.std.specs.Prelude.{if◌then◌else◌}
-use Rattle.std.specs.Ordering.{nat_cmp}
+use Rattle.mig_host_m2p.proofs.Common.{◌≡◌, ◌≢◌, ◌⊎◌, ℕ, zero, suc, ◌<◌, ◌≤◌, Bool, true, false, Option, Some, None, refl, sym, ap, subst, ◌∙◌, inl, inr, arith, cases_eq, cases_lt, Cell, IsGrown, ValueMap, with_cell, collected, if◌then◌else◌, nat_cmp, get-empty, same_map, nat_cmp-IsAntisymmetric}
 use Rattle.std.specs.Cmp.{nat_cmp_total}
 use Rattle.std.specs.FinMap as maps
-use Rattle.std.specs.FinMap.{get-empty, same_map, nat_cmp-IsAntisymmetric}
 use Rattle.std.proofs.lemmas.Option.{none-some, same_Some}
 use Rattle.mig_bytes.proofs.NumberMaps.{inserted, inserted_other, is_inserted, is_removed}
 use Rattle.mig_host_m2p.proofs.Grown.{not_both, IsLike, Hung, Lifted}

@@ -1,6 +1,5 @@
 -- Cells in a list, before and after one is written.
-use Rattle.mig_host_m2p.proofs.Common.{◌≡◌, ◌≢◌, ℕ, ◌<◌, ◌≤◌, true, false, List, length, set, ap, ◌∙◌, inl, inr, cases_lt, Cell, cell_at, free_cell}
-use Rattle.std.proofs.lemmas.List.{get_or-set_same, get_or-set_other}
+use Rattle.mig_host_m2p.proofs.Common.{◌≡◌, ◌≢◌, ℕ, ◌<◌, ◌≤◌, true, false, List, length, set, ap, ◌∙◌, inl, inr, cases_lt, Cell, cell_at, free_cell, get_or-set_same, get_or-set_other}
 use Rattle.std.proofs.Math.ListN.{get_or-eq_default}
 use Rattle.mig_host_m2p.proofs.Grown.{not_both}
 

@@ -1,6 +1,5 @@
 -- The two sides of a cell.
-use Rattle.std.proofs.lemmas.Nat.Bits.{bit_at-lt}
-use Rattle.mig_host_m2p.proofs.Common.{◌≡◌, ℕ, zero, suc, ◌<◌, refl, ap, ◌∙◌, arith, bit_at, Cell, below_on, led_on, led, next_cell}
+use Rattle.mig_host_m2p.proofs.Common.{◌≡◌, ℕ, zero, suc, ◌<◌, refl, ap, ◌∙◌, arith, bit_at, Cell, below_on, led_on, led, next_cell, bit_at-lt}
 
 module _ (c : Cell) where
   pub zero_below : (b : ℕ) → b ≡ 0 → c.zero ≡ below_on c b

@@ -1,6 +1,5 @@
 -- The stack of free cells, of which one is taken, or on which one is put.
-use Rattle.mig_host_m2p.proofs.Common.{◌≡◌, ◌≢◌, ◌⊎◌, ℕ, ◌+◌, ◌-◌, ◌<◌, ◌≤◌, false, List, length, slice_index, set, sym, ap, subst, ◌∙◌, inl, inr, arith, cases_lt, Cell, AreFree}
-use Rattle.std.proofs.lemmas.List.{get_or-set_same, get_or-set_other}
+use Rattle.mig_host_m2p.proofs.Common.{◌≡◌, ◌≢◌, ◌⊎◌, ℕ, ◌+◌, ◌-◌, ◌<◌, ◌≤◌, false, List, length, slice_index, set, sym, ap, subst, ◌∙◌, inl, inr, arith, cases_lt, Cell, AreFree, get_or-set_same, get_or-set_other}
 
 module _ (at now : ℕ → Cell) (free : List ℕ) (spare most : ℕ) (a : AreFree at free spare most) where
   pub taken : 1 ≤ spare → ((q : ℕ) → q ≢ slice_index free (spare - 1) → (now q).used ≡ (at q).used) → AreFree now free (spare - 1) most

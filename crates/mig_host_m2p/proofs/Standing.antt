@@ -1,9 +1,6 @@
 -- A tree with its stack stays sound through each change.
-use Rattle.mig_host_m2p.proofs.Common.{◌≡◌, ◌≢◌, ℕ, zero, suc, ◌+◌, ◌-◌, ◌<◌, ◌≤◌, ◌^◌, true, false, Some, None, IsSome, List, [], length, length-set, slice_index, set, refl, sym, ap, subst, ◌∙◌, inl, inr, arith, is_some, cases_lt, cases_eq, bit_at, Cell, Agree, IsNext, ValueMap, cell_at, free_cell, led, next_cell, below_on, collected, kept_in, IsGrown, AreFree, IsStanding, machine_limit}
-use Rattle.std.specs.Ordering.{nat_cmp}
+use Rattle.mig_host_m2p.proofs.Common.{◌≡◌, ◌≢◌, ℕ, zero, suc, ◌+◌, ◌-◌, ◌<◌, ◌≤◌, ◌^◌, true, false, Some, None, IsSome, List, [], length, length-set, slice_index, set, refl, sym, ap, subst, ◌∙◌, inl, inr, arith, is_some, cases_lt, cases_eq, bit_at, Cell, Agree, IsNext, ValueMap, cell_at, free_cell, led, next_cell, below_on, collected, kept_in, IsGrown, AreFree, IsStanding, machine_limit, nat_cmp, len-empty, counted_more, counted_same, counted_less, some_counted}
 use Rattle.std.specs.FinMap as maps
-use Rattle.std.specs.FinMap.{len-empty}
-use Rattle.mig_pagestore_index.proofs.Counted.{counted_more, counted_same, counted_less, some_counted}
 use Rattle.mig_host_m2p.proofs.Grown.{not_both, same_below, IsLike, Hung, Lifted, like_same, grown_like, grown_hung, grown_lifted}
 use Rattle.mig_pagestore_index.proofs.Gathered.{none_is_not_some}
 use Rattle.mig_host_m2p.proofs.Ways.{next_is, no_sides}

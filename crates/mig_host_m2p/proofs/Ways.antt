@@ -1,8 +1,5 @@
 -- Ways in a tree of cells: where they go on, where they end, and what isn't there then.
-use Rattle.mig_host_m2p.proofs.Common.{◌≡◌, ◌≢◌, ◌⊎◌, ℕ, zero, suc, ◌+◌, ◌-◌, ◌<◌, ◌≤◌, ◌^◌, true, refl, sym, ap, subst, ◌∙◌, inl, inr, arith, cases_lt, cases_eq, either_below, bit_at, Cell, Agree, HasAbove, IsNext, IsGrown, below_on, next_cell, machine_limit}
-use Rattle.std.proofs.lemmas.Nat.Bits.{same_from_bits_below, bit_at-zero, bit_at-pow_same}
-use Rattle.std.specs.Prelude.{if◌then◌else◌}
-use Rattle.std.proofs.lemmas.Bool.{eq-eqb, ne_eqb}
+use Rattle.mig_host_m2p.proofs.Common.{◌≡◌, ◌≢◌, ◌⊎◌, ℕ, zero, suc, ◌+◌, ◌-◌, ◌<◌, ◌≤◌, ◌^◌, true, refl, sym, ap, subst, ◌∙◌, inl, inr, arith, cases_lt, cases_eq, either_below, bit_at, Cell, Agree, HasAbove, IsNext, IsGrown, below_on, next_cell, machine_limit, same_from_bits_below, bit_at-zero, bit_at-pow_same, if◌then◌else◌, eq-eqb, ne_eqb}
 
 -- one bit more
 pub agree_more : (d a b : ℕ) → Agree d a b → bit_at a d ≡ bit_at b d → Agree (d + 1) a b

@@ -1,9 +1,5 @@
 -- A whole, blank guest that is localised, and normalised again, is the guest.
-use Rattle.mig_host_view.proofs.Common.{◌≡◌, ℕ, ◌<◌, Bool, true, false, cond, ◌==◌, List, length, Option, Some, None, IsSome, is_some, refl, sym, ap, ◌∙◌, nat_cmp_total, nat_cmp-IsAntisymmetric, eqb-true, eq-eqb, Pv, Hvm, level_of, PartKey, FrameOf, FrameMap, GuestOf, PartMap, IsPart, width_of, p2m_key, part_total, part_exact, each_value, blank, blank_of, blanked_page, blanked_frame, place_of, field_value, frame_of_field, is_used, blanked_context, blanked_shared, IsWhole, recursion_from_All, AreBytes, scan, Kind, HvmContext, of_part, place_in, GoesBack, is_used_somewhere, IsCompletePv, context_of_bytes, stays_each, to_each, each_each, same_each, each_same, pv_complete, TableGoesBack, renamed_page, renamed_frame, renamed_part, localised_page, localised_frame, localised_of, localised, cut_by, part_seen, normalised_of, normalised, renamed_context}
-use Rattle.mig_pvtables.specs.Blank.{blanked_part}
-use Rattle.mig_pvtables.proofs.BlankBytesKept.{table_of_bytes}
-use Rattle.mig_pvtables.proofs.BlankWhole.{fit_there}
-use Rattle.mig_pvtables.proofs.Renamed.{table_back}
+use Rattle.mig_host_view.proofs.Common.{◌≡◌, ℕ, ◌<◌, Bool, true, false, cond, ◌==◌, List, length, Option, Some, None, IsSome, is_some, refl, sym, ap, ◌∙◌, nat_cmp_total, nat_cmp-IsAntisymmetric, eqb-true, eq-eqb, Pv, Hvm, level_of, PartKey, FrameOf, FrameMap, GuestOf, PartMap, IsPart, width_of, p2m_key, part_total, part_exact, each_value, blank, blank_of, blanked_page, blanked_frame, place_of, field_value, frame_of_field, is_used, blanked_context, blanked_shared, IsWhole, recursion_from_All, AreBytes, scan, Kind, HvmContext, of_part, place_in, GoesBack, is_used_somewhere, IsCompletePv, context_of_bytes, stays_each, to_each, each_each, same_each, each_same, pv_complete, TableGoesBack, renamed_page, renamed_frame, renamed_part, localised_page, localised_frame, localised_of, localised, cut_by, part_seen, normalised_of, normalised, renamed_context, blanked_part, table_of_bytes, fit_there, table_back}
 use Rattle.mig_host_view.proofs.RenamedContexts.{ContextGoesBack, IsBlankContext, context_back, fields_go, blank_value}
 use Rattle.std.specs.FinMap as maps
 

@@ -1,15 +1,6 @@
 -- The pages of P2M frames in a localised guest.
-use Rattle.mig_host_view.proofs.Common.{◌-◌, ◌≡◌, ℕ, ◌+◌, ◌*◌, ◌/◌, ◌^◌, true, false, List, length, Option, Some, None, is_some, refl, sym, ap, subst, ◌∙◌, ◌==◌, find, range_with_len, option_map, nat_cmp_total, nat_cmp-IsAntisymmetric, eq-eqb, FrameOf, GuestOf, Pv, p2m_key, long_at, level_of, listed, listed_in, IsWhole, cond_some, same_longs, Kind, p2m_page, IsCompletePv, to_each, pv_complete, localised_page, localised_frame, localised_of, localised}
-use Rattle.std.proofs.Common.{inl, inr}
-use Rattle.std.proofs.lemmas.Bool.{ltb-true, cases_order}
-use Rattle.mig_guest.specs.Longs.{longs}
-use Rattle.mig_pagetypes.specs.PageTypes.{type_has_data}
-use Rattle.std.specs.Prelude.{unwrap_or}
-use Rattle.mig_pagetypes.specs.declared.page_type.PageType.TheVariants.{Notab}
+use Rattle.mig_host_view.proofs.Common.{◌-◌, ◌≡◌, ℕ, ◌+◌, ◌*◌, ◌/◌, ◌^◌, true, false, List, length, Option, Some, None, is_some, refl, sym, ap, subst, ◌∙◌, ◌==◌, find, range_with_len, option_map, nat_cmp_total, nat_cmp-IsAntisymmetric, eq-eqb, FrameOf, GuestOf, Pv, p2m_key, long_at, level_of, listed, listed_in, IsWhole, cond_some, same_longs, Kind, p2m_page, IsCompletePv, to_each, pv_complete, localised_page, localised_frame, localised_of, localised, inl, inr, ltb-true, cases_order, longs, type_has_data, unwrap_or, Notab, IsEmptyRange, place_listed, find_in_range}
 use Rattle.mig_pvtables.specs.P2mFrames.{place_in}
-use Rattle.mig_pvtables.specs.WholePv.{IsEmptyRange}
-use Rattle.mig_pvtables.proofs.BlankShape.{place_listed}
-use Rattle.mig_pvtables.proofs.Searches.{find_in_range}
 use Rattle.std.specs.FinMap as maps
 
 -- a PFN that is listed has a place

@@ -1,9 +1,7 @@
 -- A context whose fields are renamed one by one, from field 0 on.
-use Rattle.mig_host_view.proofs.Common.{◌≡◌, ℕ, ◌+◌, ◌*◌, ◌<◌, Bool, true, false, cond, List, length, get_or, Option, Some, None, refl, sym, ap, ◌∙◌, arith, lt-ltb, le-ltb, gdt_ents, long_at, field_at, field_place, field_value, frame_of_field, cond_some, Usage, field_of_frame, field_there, place_field, field_named, value_renamed, renamed_context}
+use Rattle.mig_host_view.proofs.Common.{◌≡◌, ℕ, ◌+◌, ◌*◌, ◌<◌, Bool, true, false, cond, List, length, get_or, Option, Some, None, refl, sym, ap, ◌∙◌, arith, lt-ltb, le-ltb, gdt_ents, long_at, field_at, field_place, field_value, frame_of_field, cond_some, Usage, field_of_frame, field_there, place_field, field_named, value_renamed, renamed_context, OneMore, ChangedWhere, none_changed, all_changed, still, one_changed, one_stays, one_more_below, cond_none}
 use Rattle.byteorder.specs.Endian.{little_bytes}
 use Rattle.mig_bytes.specs.Fields.{with_field}
-use Rattle.mig_pvtables.proofs.LongSteps.{OneMore, ChangedWhere, none_changed, all_changed, still, one_changed, one_stays, one_more_below}
-use Rattle.mig_pvtables.proofs.Searches.{cond_none}
 use Rattle.mig_host_view.specs.LocaliseSteps.{is_field_below}
 use Rattle.mig_host_view.specs.RenamedContexts.{renamed_value}
 

@@ -1,8 +1,5 @@
 -- What a localised PV guest has at each frame number and key.
-use Rattle.mig_host_view.proofs.Common.{◌≡◌, ℕ, Bool, true, false, cond, ◌==◌, List, length, Option, Some, None, is_some, refl, sym, ap, subst, ◌∙◌, arith, nat_cmp_total, nat_cmp-IsAntisymmetric, eqb-true, eq-eqb, Pv, Hvm, PartKey, FrameOf, GuestOf, PartMap, IsPart, p2m_key, length_longs, part_total, part_exact, each_value, type_at, listed, listed_in, VcpuBasic, IsFrame, IsHostPart, FitsPolicy, Kind, level_of, place_of, p2m_page, renamed_table, Usage, from_each, to_each, some_each, len_each, count_each, stays_each, types_kept, renamed_part, localised_page, localised_frame, localised_of, renamed_context}
-use Rattle.mig_guest.proofs.PartRows.{raw}
-use Rattle.mig_pvtables.proofs.SameShape.{repaged_is_frame}
-use Rattle.mig_guest.proofs.PartRows.{changed_part}
+use Rattle.mig_host_view.proofs.Common.{◌≡◌, ℕ, Bool, true, false, cond, ◌==◌, List, length, Option, Some, None, is_some, refl, sym, ap, subst, ◌∙◌, arith, nat_cmp_total, nat_cmp-IsAntisymmetric, eqb-true, eq-eqb, Pv, Hvm, PartKey, FrameOf, GuestOf, PartMap, IsPart, p2m_key, length_longs, part_total, part_exact, each_value, type_at, listed, listed_in, VcpuBasic, IsFrame, IsHostPart, FitsPolicy, Kind, level_of, place_of, p2m_page, renamed_table, Usage, from_each, to_each, some_each, len_each, count_each, stays_each, types_kept, renamed_part, localised_page, localised_frame, localised_of, renamed_context, raw, repaged_is_frame, changed_part}
 use Rattle.std.specs.FinMap as maps
 
 -- ---- frames

@@ -1,9 +1,5 @@
 -- The tables of a guest that stands in a machine, on its way to its form in a stream.
-use Rattle.mig_host_view.proofs.Common.{◌≡◌, ℕ, ◌*◌, ◌<◌, ◌^◌, List, get_or, Option, Some, sym, ap, ◌∙◌, Entry, long_at, long_below, entry_of, same_longs, name_for, renamed_table, each_twice, renamed_long, by_frames}
-use Rattle.mig_guest.specs.Tables.{blanked_table, blanked_entry}
-use Rattle.mig_bytes.proofs.ByteLists.{bytes_from}
-use Rattle.mig_pvtables.specs.Renaming.{normalised_table}
-use Rattle.mig_pvtables.proofs.Renamed.{renamed_small, blanked_small, blanks_first}
+use Rattle.mig_host_view.proofs.Common.{◌≡◌, ℕ, ◌*◌, ◌<◌, ◌^◌, List, get_or, Option, Some, sym, ap, ◌∙◌, Entry, long_at, long_below, entry_of, same_longs, name_for, renamed_table, each_twice, renamed_long, by_frames, blanked_table, blanked_entry, bytes_from, normalised_table, renamed_small, blanked_small, blanks_first}
 
 -- ---- a table renamed before, and after, its blank slots are 0
 

@@ -1,9 +1,6 @@
 -- A guest whose tables and contexts hold PFNs, in blank form, is the form in a stream of the guest that stood in a machine.
-use Rattle.mig_host_view.proofs.Common.{◌≡◌, ℕ, List, length, Option, Some, None, IfSome, refl, sym, ap, subst, ◌∙◌, nat_cmp_total, nat_cmp-IsAntisymmetric, Pv, PartKey, shared_key, p2m_key, FrameOf, FrameMap, GuestOf, PartMap, part_total, part_exact, length_longs, each_value, blanked_frame, only, blanked_context, blanked_shared, level_of, blanked_page, Kind, place_in, is_used_somewhere, some_each, each_each, stays_each, renamed_table, renamed_page, renamed_frame, renamed_part, normalised_of, normalised}
+use Rattle.mig_host_view.proofs.Common.{◌≡◌, ℕ, List, length, Option, Some, None, IfSome, refl, sym, ap, subst, ◌∙◌, nat_cmp_total, nat_cmp-IsAntisymmetric, Pv, PartKey, shared_key, p2m_key, FrameOf, FrameMap, GuestOf, PartMap, part_total, part_exact, length_longs, each_value, blanked_frame, only, blanked_context, blanked_shared, level_of, blanked_page, Kind, place_in, is_used_somewhere, some_each, each_each, stays_each, renamed_table, renamed_page, renamed_frame, renamed_part, normalised_of, normalised, blanked_table, table_changed, with_zero_page, with_table_changed, where_listed, blanked_code}
 use Rattle.mig_guest.specs.Order.{part_cmp}
-use Rattle.mig_guest.specs.Tables.{blanked_table}
-use Rattle.mig_pvtables.specs.Blank.{table_changed}
-use Rattle.mig_pvtables.specs.BlankSteps.{with_zero_page, with_table_changed, where_listed, blanked_code}
 use Rattle.mig_pvtables.proofs.BlankGuests.{HasSolePage, HasLongPage, page_still, frames_blanked, parts_blanked}
 use Rattle.mig_host_view.proofs.LocalisedGuests.{from_context}
 use Rattle.std.specs.FinMap as maps

@@ -1,9 +1,6 @@
 -- A context whose fields say other frames, and say them back.
-use Rattle.mig_host_view.proofs.Common.{◌≡◌, ℕ, ◌+◌, ◌*◌, ◌/◌, ◌%◌, ◌^◌, ◌<◌, ◌≤◌, true, cond, List, Option, Some, refl, sym, ap, subst, ◌∙◌, arith, gdt_ents, long_at, field_at, field_value, frame_of_field, is_used, blanked_context, recursion_from_All, long_below, same_longs, GoesBack, is_used_somewhere, context_of_bytes, place_field, each_twice, renamed_context}
-use Rattle.mig_guest.specs.Longs.{each_long}
-use Rattle.mig_bytes.proofs.ByteLists.{Bytes}
+use Rattle.mig_host_view.proofs.Common.{◌≡◌, ℕ, ◌+◌, ◌*◌, ◌/◌, ◌%◌, ◌^◌, ◌<◌, ◌≤◌, true, cond, List, Option, Some, refl, sym, ap, subst, ◌∙◌, arith, gdt_ents, long_at, field_at, field_value, frame_of_field, is_used, blanked_context, recursion_from_All, long_below, same_longs, GoesBack, is_used_somewhere, context_of_bytes, place_field, each_twice, renamed_context, each_long, Bytes, blanked_at, at_field}
 use Rattle.mig_pvtables.specs.VcpuContexts.{blanked_value}
-use Rattle.mig_pvtables.proofs.BlankSays.{blanked_at, at_field}
 use Rattle.mig_pvtables.proofs.LongSteps.{long_of_each}
 use Rattle.mig_host_view.specs.RenamedContexts.{renamed_value}
 use Rattle.mig_host_view.proofs.RenamedFields.{IsBlankField, PlaceGoesBack, value_small, value_back_small, value_back}

@@ -1,10 +1,5 @@
 -- A whole, blank guest that is localised can be seen.
-use Rattle.mig_host_view.proofs.Common.{◌≡◌, ℕ, ◌<◌, ◌≤◌, Bool, true, false, List, Option, Some, None, is_some, IsSome, refl, sym, ap, subst, ◌∙◌, arith, option_and_then, nat_cmp_total, nat_cmp-IsAntisymmetric, Pv, Hvm, PageType, level_of, PartKey, Entry, Blank, NotPresent, Superpage, Frame, FrameOf, FrameMap, GuestOf, PartMap, IsPart, width_of, p2m_key, context_key, place_of, gdt_ents, entry, EachEntry, IsWithin, is_type_of, part_total, part_exact, blank, blank_of, type_at, fits_field, field_at, field_place, field_value, frame_of_field, is_used, listed, listed_in, IsWhole, recursion_from_All, AreBytes, Kind, PartCode, P2mFrames, VcpuBasic, HvmContext, row_of, code_number, one_code, of_part, NamesKnown, name_for, renamed_table, entry_named, GoesBack, is_used_somewhere, IsCompletePv, field_there, from_each, entries_changed, kept_p2m, pv_complete, TableGoesBack, renamed_part, localised_page, localised_frame, localised_of, localised, value_renamed, renamed_context, needed_keys, AreThere, machine_type, CanBeSeen, most_gdt_entries}
-use Rattle.mig_guest.proofs.PartRows.{no_entries}
-use Rattle.mig_pvtables.specs.Renaming.{NamesFit}
-use Rattle.mig_pvtables.proofs.BlankShape.{table_unlisted}
-use Rattle.mig_pvtables.proofs.HvmGuests.{hvm_complete}
-use Rattle.mig_pvtables.proofs.Renamed.{EntryGoesBack, fits_back, said_anew}
+use Rattle.mig_host_view.proofs.Common.{◌≡◌, ℕ, ◌<◌, ◌≤◌, Bool, true, false, List, Option, Some, None, is_some, IsSome, refl, sym, ap, subst, ◌∙◌, arith, option_and_then, nat_cmp_total, nat_cmp-IsAntisymmetric, Pv, Hvm, PageType, level_of, PartKey, Entry, Blank, NotPresent, Superpage, Frame, FrameOf, FrameMap, GuestOf, PartMap, IsPart, width_of, p2m_key, context_key, place_of, gdt_ents, entry, EachEntry, IsWithin, is_type_of, part_total, part_exact, blank, blank_of, type_at, fits_field, field_at, field_place, field_value, frame_of_field, is_used, listed, listed_in, IsWhole, recursion_from_All, AreBytes, Kind, PartCode, P2mFrames, VcpuBasic, HvmContext, row_of, code_number, one_code, of_part, NamesKnown, name_for, renamed_table, entry_named, GoesBack, is_used_somewhere, IsCompletePv, field_there, from_each, entries_changed, kept_p2m, pv_complete, TableGoesBack, renamed_part, localised_page, localised_frame, localised_of, localised, value_renamed, renamed_context, needed_keys, AreThere, machine_type, CanBeSeen, most_gdt_entries, no_entries, NamesFit, table_unlisted, hvm_complete, EntryGoesBack, fits_back, said_anew}
 use Rattle.mig_host_view.specs.RenamedContexts.{renamed_value}
 use Rattle.mig_host_view.proofs.GuestsBack.{table_goes, context_goes, context_bytes, blank_context}
 use Rattle.mig_host_view.proofs.LocalisedGuests.{localised_type, renamed_there, renamed_listed, from_context}

@@ -1,16 +1,8 @@
 -- The rows of unsoundness find nothing exactly where a host can be seen.
-use Rattle.mig_host_view.proofs.Common.{◌≡◌, ℕ, ◌≤◌, Bool, true, false, cond, List, [], ◌∷◌, Option, Some, None, refl, sym, ap, ◌∙◌, ◌==◌, nat_lt, option_and_then, eqb-true, eq-eqb, le-ltb, PartKey, gdt_ents, FrameOf, FrameMap, GuestOf, PartMap, context_key, entry, EachEntry, part_total, part_exact, is_superpage, Result, Ok, Err, scan, ContextFault, HostOf, pfn_in, is_unknown, NamesKnown, is_used_somewhere, needed_keys, AreThere, machine_type, CanBeSeen, IsSound, misnames, guest_in, most_gdt_entries}
-use Rattle.std.proofs.Common.{◌↔◌}
-use Rattle.std.specs.Prelude.{◌&&◌}
-use Rattle.std.specs.Option.{option_or}
-use Rattle.std.proofs.lemmas.Bool.{ltb-false}
-use Rattle.mig_pvtables.specs.Faults.{first_cause, first_some, find_entry, find_p2m, find_in_contexts}
+use Rattle.mig_host_view.proofs.Common.{◌≡◌, ℕ, ◌≤◌, Bool, true, false, cond, List, [], ◌∷◌, Option, Some, None, refl, sym, ap, ◌∙◌, ◌==◌, nat_lt, option_and_then, eqb-true, eq-eqb, le-ltb, PartKey, gdt_ents, FrameOf, FrameMap, GuestOf, PartMap, context_key, entry, EachEntry, part_total, part_exact, is_superpage, Result, Ok, Err, scan, ContextFault, HostOf, pfn_in, is_unknown, NamesKnown, is_used_somewhere, needed_keys, AreThere, machine_type, CanBeSeen, IsSound, misnames, guest_in, most_gdt_entries, ◌↔◌, ◌&&◌, option_or, ltb-false, first_cause, first_some, find_entry, find_p2m, find_in_contexts, no_entry, none_misses, no_p2m, first_found, all_none, none_mapped, is_there, absent, find_gdt, fault_in, unsound_rows, unsoundness}
 use Rattle.mig_headers.proofs.FirstFaults.{both_none}
 use Rattle.mig_headers.specs.declared.unsound.Unsound.TheVariants.{Missing}
 use Rattle.mig_pvtables.proofs.BadSlots.{named}
-use Rattle.mig_pvtables.proofs.PvGuests.{no_entry, none_misses, no_p2m}
-use Rattle.mig_pvtables.proofs.Searches.{first_found, all_none, none_mapped, is_there}
-use Rattle.mig_host_view.specs.Sound.{absent, find_gdt, fault_in, unsound_rows, unsoundness}
 use Rattle.std.specs.FinMap as maps
 
 -- ---- parts

@@ -1,9 +1,5 @@
 -- What stands in a host of bytes is seen as a guest of bytes.
-use Rattle.mig_host_view.proofs.Common.{◌≡◌, ℕ, ◌<◌, Bool, true, false, cond, ◌==◌, List, take, Option, Some, None, ap, subst, ◌∙◌, arith, nat_cmp_total, nat_cmp-IsAntisymmetric, Pv, Hvm, level_of, PartKey, FrameOf, GuestOf, part_total, part_exact, Result, Ok, Err, replicate, AreBytes, scan, cut_at, ContextFault, Kind, HostOf, pfn_in, renamed_table, Usage, is_used_somewhere, from_each, renamed_page, renamed_frame, renamed_part, renamed, cut_by, part_seen, normalised_of, normalised, renamed_context, guest_in, view}
-use Rattle.mig_pvtables.specs.Blank.{IsOfBytes}
-use Rattle.std.proofs.lemmas.List.Elements.{All-append, All-take, All-replicate}
-use Rattle.mig_pvtables.proofs.BlankBytesKept.{longs_bytes, kind_bytes}
-use Rattle.mig_pvtables.proofs.SameShape.{mapped_holds}
+use Rattle.mig_host_view.proofs.Common.{◌≡◌, ℕ, ◌<◌, Bool, true, false, cond, ◌==◌, List, take, Option, Some, None, ap, subst, ◌∙◌, arith, nat_cmp_total, nat_cmp-IsAntisymmetric, Pv, Hvm, level_of, PartKey, FrameOf, GuestOf, part_total, part_exact, Result, Ok, Err, replicate, AreBytes, scan, cut_at, ContextFault, Kind, HostOf, pfn_in, renamed_table, Usage, is_used_somewhere, from_each, renamed_page, renamed_frame, renamed_part, renamed, cut_by, part_seen, normalised_of, normalised, renamed_context, guest_in, view, IsOfBytes, All-append, All-take, All-replicate, longs_bytes, kind_bytes, mapped_holds}
 
 abbrev IsByte : ℕ → Type 0
 IsByte b = b < 256

@@ -1,10 +1,5 @@
 -- The frames of a valid host.
-use Rattle.mig_host_view.proofs.Common.{◌≡◌, ℕ, ◌<◌, ◌≤◌, Bool, true, false, Option, Some, is_some, IsSome, refl, sym, ap, subst, ◌∙◌, arith, ◌==◌, eqb-true, nat_cmp_total, nat_cmp-IsAntisymmetric, Pv, Hvm, top_limit, FrameOf, is_type_of, GuestOf, Kind, PageType, IsTop, IsFrame, HostOf, HostFrame, IsValid, pfn_in, from_each, some_each, len_each, without_machine, top_of, guest_in}
-use Rattle.std.specs.Prelude.{◌||◌}
-use Rattle.mig_guest.specs.Frames.{IsFew}
-use Rattle.mig_pagetypes.specs.declared.page_type.PageType.TheVariants.{Xtab}
-use Rattle.mig_guest.specs.Formed.{IsInside, is_policy}
-use Rattle.mig_guest.specs.Hosts.{IsHostFrame}
+use Rattle.mig_host_view.proofs.Common.{◌≡◌, ℕ, ◌<◌, ◌≤◌, Bool, true, false, Option, Some, is_some, IsSome, refl, sym, ap, subst, ◌∙◌, arith, ◌==◌, eqb-true, nat_cmp_total, nat_cmp-IsAntisymmetric, Pv, Hvm, top_limit, FrameOf, is_type_of, GuestOf, Kind, PageType, IsTop, IsFrame, HostOf, HostFrame, IsValid, pfn_in, from_each, some_each, len_each, without_machine, top_of, guest_in, ◌||◌, IsFew, Xtab, IsInside, is_policy, IsHostFrame}
 use Rattle.mig_host_view.proofs.ViewedSays.{pfn_found}
 use Rattle.std.specs.FinMap as maps
 

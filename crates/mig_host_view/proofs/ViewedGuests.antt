@@ -1,7 +1,6 @@
 -- What a valid and sound host is seen as is a whole guest in blank form.
-use Rattle.mig_host_view.proofs.Common.{◌≡◌, refl, subst, Pv, Hvm, blank, blank_of, IsWhole, Kind, HostOf, IsValid, pfn_in, normalised_of, IsSound, guest_in, view}
+use Rattle.mig_host_view.proofs.Common.{◌≡◌, refl, subst, Pv, Hvm, blank, blank_of, IsWhole, Kind, HostOf, IsValid, pfn_in, normalised_of, IsSound, guest_in, view, hvm_blank}
 use Rattle.mig_pvtables.proofs.BlankAgain.{blank_again}
-use Rattle.mig_pvtables.proofs.HvmGuests.{hvm_blank}
 use Rattle.mig_host_view.proofs.ViewedHvm.{cut, hvm_viewed}
 use Rattle.mig_host_view.proofs.ViewedPv.{there, pv_viewed}
 

@@ -1,8 +1,5 @@
 -- What a valid and sound HVM host is seen as is a whole guest.
-use Rattle.mig_host_view.proofs.Common.{◌≡◌, ℕ, ◌<◌, true, List, Option, Some, IsSome, sym, ap, subst, ◌∙◌, arith, ◌==◌, eqb-true, Hvm, PartKey, is_type_of, GuestOf, IsFormed, IsPart, width_of, context_key, part_total, part_exact, each_value, IsWhole, pfn_limit, Kind, HvmContext, HostOf, IsHostPart, IsValid, pfn_in, row_of, FitsPolicy, one_code, from_each, some_each, count_each, part_seen, normalised_of, needed_keys, AreThere, IsSound, guest_in, view}
-use Rattle.std.proofs.lemmas.Bool.{and_parts}
-use Rattle.mig_guest.proofs.PartRows.{hvm_frame}
-use Rattle.mig_pvtables.proofs.HvmGuests.{hvm_whole}
+use Rattle.mig_host_view.proofs.Common.{◌≡◌, ℕ, ◌<◌, true, List, Option, Some, IsSome, sym, ap, subst, ◌∙◌, arith, ◌==◌, eqb-true, Hvm, PartKey, is_type_of, GuestOf, IsFormed, IsPart, width_of, context_key, part_total, part_exact, each_value, IsWhole, pfn_limit, Kind, HvmContext, HostOf, IsHostPart, IsValid, pfn_in, row_of, FitsPolicy, one_code, from_each, some_each, count_each, part_seen, normalised_of, needed_keys, AreThere, IsSound, guest_in, view, and_parts, hvm_frame, hvm_whole}
 use Rattle.mig_host_view.proofs.ViewedParts.{hvm_part}
 use Rattle.mig_host_view.proofs.ViewedFrames.{top_is, each_policy, is_frame, frame_below, frame_type, few_inner}
 use Rattle.std.specs.FinMap as maps

@@ -1,15 +1,9 @@
 -- The parts of a host, renamed and with the context cut, are those of a guest.
-use Rattle.mig_host_view.proofs.Common.{◌≡◌, ℕ, ◌+◌, ◌≤◌, Bool, true, false, cond, List, length, ◌++◌, take, replicate, refl, sym, ap, subst, ◌∙◌, arith, ◌==◌, eqb-true, eq-eqb, Pv, Hvm, PartKey, IsPart, gdt_ents, length_longs, Ok, scan, cut_at, Kind, PartCode, VcpuBasic, HvmContext, IsHostPart, row_of, code_number, one_code, is_used_somewhere, renamed_part, cut_by, part_seen, renamed_context, most_gdt_entries, most_body}
-use Rattle.std.proofs.Common.{le-leb, length-append}
+use Rattle.mig_host_view.proofs.Common.{◌≡◌, ℕ, ◌+◌, ◌≤◌, Bool, true, false, cond, List, length, ◌++◌, take, replicate, refl, sym, ap, subst, ◌∙◌, arith, ◌==◌, eqb-true, eq-eqb, Pv, Hvm, PartKey, IsPart, gdt_ents, length_longs, Ok, scan, cut_at, Kind, PartCode, VcpuBasic, HvmContext, IsHostPart, row_of, code_number, one_code, is_used_somewhere, renamed_part, cut_by, part_seen, renamed_context, most_gdt_entries, most_body, le-leb, length-append, leb-true, EmulatorPairs, IsCut, IsContent, IsRawContent, same_len, changed_part}
 use Rattle.std.proofs.lemmas.List.{length-take-le, take_at}
 use Rattle.std.specs.Prelude.{Option}
-use Rattle.std.proofs.lemmas.Bool.{leb-true}
 use Rattle.mig_headers.proofs.Chains.{end_fits}
 use Rattle.mig_headers.proofs.ContextTexts.{scan_cut}
-use Rattle.mig_guest.specs.declared.part_code.PartCode.TheVariants.{EmulatorPairs}
-use Rattle.mig_guest.specs.Formed.{IsCut, IsContent, IsRawContent}
-use Rattle.mig_guest.proofs.PartRows.{same_len}
-use Rattle.mig_guest.proofs.PartRows.{changed_part}
 use Rattle.mig_host_view.proofs.ViewedSays.{ents_there}
 
 -- what a host asks of the bytes of a part that is no context, a guest asks

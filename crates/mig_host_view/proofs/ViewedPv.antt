@@ -1,9 +1,5 @@
 -- What a valid and sound PV host is seen as is a whole guest.
-use Rattle.mig_host_view.proofs.Common.{◌≡◌, ℕ, ◌+◌, ◌<◌, ◌≤◌, true, List, Option, Some, None, IsSome, refl, sym, ap, subst, ◌∙◌, arith, ◌==◌, nat_cmp_total, nat_cmp-IsAntisymmetric, Pv, level_of, PartKey, Entry, Blank, NotPresent, Frame, FrameOf, GuestOf, IsFormed, IsPart, width_of, gdt_ents, p2m_key, shared_key, EachEntry, IsWithin, part_total, part_exact, blank, blank_of, type_at, fits_field, field_value, frame_of_field, is_used, IsWhole, Kind, HostOf, IsHostPart, IsValid, pfn_in, FitsPolicy, NamesKnown, renamed_table, is_used_somewhere, IsCompletePv, from_each, some_each, len_each, count_each, types_kept, entries_changed, kept_p2m, renamed_page, renamed_frame, renamed_part, renamed, normalised_of, renamed_context, needed_keys, AreThere, IsSound, top_of, guest_in, view}
-use Rattle.mig_guest.specs.Formed.{IsGuestFrame}
-use Rattle.mig_guest.specs.PartKeys.{vcpu_key}
-use Rattle.mig_pvtables.proofs.BlankWhole.{whole_blank}
-use Rattle.mig_pvtables.proofs.PvGuests.{pv_whole}
+use Rattle.mig_host_view.proofs.Common.{◌≡◌, ℕ, ◌+◌, ◌<◌, ◌≤◌, true, List, Option, Some, None, IsSome, refl, sym, ap, subst, ◌∙◌, arith, ◌==◌, nat_cmp_total, nat_cmp-IsAntisymmetric, Pv, level_of, PartKey, Entry, Blank, NotPresent, Frame, FrameOf, GuestOf, IsFormed, IsPart, width_of, gdt_ents, p2m_key, shared_key, EachEntry, IsWithin, part_total, part_exact, blank, blank_of, type_at, fits_field, field_value, frame_of_field, is_used, IsWhole, Kind, HostOf, IsHostPart, IsValid, pfn_in, FitsPolicy, NamesKnown, renamed_table, is_used_somewhere, IsCompletePv, from_each, some_each, len_each, count_each, types_kept, entries_changed, kept_p2m, renamed_page, renamed_frame, renamed_part, renamed, normalised_of, renamed_context, needed_keys, AreThere, IsSound, top_of, guest_in, view, IsGuestFrame, vcpu_key, whole_blank, pv_whole}
 use Rattle.mig_host_view.proofs.LocalisedGuests.{localised_is_frame, renamed_there, renamed_listed, from_context}
 use Rattle.mig_host_view.proofs.ViewedParts.{pv_part}
 use Rattle.mig_host_view.proofs.ViewedSays.{entry_there, context_fits}

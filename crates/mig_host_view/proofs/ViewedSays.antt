@@ -1,14 +1,7 @@
 -- What the entries and the fields of a host say once their machine frames are frame numbers again.
-use Rattle.mig_host_view.proofs.Common.{◌≡◌, ℕ, ◌-◌, ◌*◌, ◌%◌, ◌^◌, ◌<◌, ◌≤◌, Bool, true, false, cond, not, nat_le, nat_lt, ◌==◌, List, [], ◌∷◌, Option, Some, None, IsSome, refl, sym, ap, subst, ◌∙◌, arith, find, option_map, option_and_then, nat_cmp_total, nat_cmp-IsAntisymmetric, eqb-true, ne_eqb, PageType, Entry, Blank, NotPresent, Superpage, Frame, gdt_ents, entry, long_at, fits_field, field_at, field_place, field_value, frame_of_field, is_marked, is_used, top_limit, HostFrame, pfn_in, entry_of, NamesKnown, name_for, renamed_table, entry_named, field_of_frame, is_used_somewhere, field_there, renamed_long, by_frames, value_renamed, renamed_context, field_named, most_gdt_entries}
-use Rattle.std.specs.List.{All}
+use Rattle.mig_host_view.proofs.Common.{◌≡◌, ℕ, ◌-◌, ◌*◌, ◌%◌, ◌^◌, ◌<◌, ◌≤◌, Bool, true, false, cond, not, nat_le, nat_lt, ◌==◌, List, [], ◌∷◌, Option, Some, None, IsSome, refl, sym, ap, subst, ◌∙◌, arith, find, option_map, option_and_then, nat_cmp_total, nat_cmp-IsAntisymmetric, eqb-true, ne_eqb, PageType, Entry, Blank, NotPresent, Superpage, Frame, gdt_ents, entry, long_at, fits_field, field_at, field_place, field_value, frame_of_field, is_marked, is_used, top_limit, HostFrame, pfn_in, entry_of, NamesKnown, name_for, renamed_table, entry_named, field_of_frame, is_used_somewhere, field_there, renamed_long, by_frames, value_renamed, renamed_context, field_named, most_gdt_entries, All, get-entries, entries_sorted, All-head, All-tail, HostFrames, low_says, unfit, renamed_says}
 use Rattle.mig_guest.proofs.Found.{all_found}
-use Rattle.std.specs.FinMap.{get-entries, entries_sorted}
-use Rattle.std.proofs.lemmas.List.Elements.{All-head, All-tail}
-use Rattle.mig_guest.specs.Hosts.{HostFrames}
-use Rattle.mig_pvtables.proofs.BlankSays.{low_says}
-use Rattle.mig_pvtables.proofs.BlankWhole.{unfit}
 use Rattle.mig_pvtables.proofs.Moduli.{long_of_each}
-use Rattle.mig_pvtables.proofs.Renamed.{renamed_says}
 use Rattle.mig_host_view.specs.RenamedContexts.{renamed_value}
 use Rattle.mig_host_view.proofs.RenamedFields.{frame_there, field_small}
 use Rattle.std.specs.FinMap as maps

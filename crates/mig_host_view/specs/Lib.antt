@@ -1,3 +1,4 @@
+mod Common
 pub mod RenamedContexts
 pub mod Localised
 pub mod Normalised

@@ -1,19 +1,7 @@
 -- A guest as it stands in a machine: its tables and the contexts of its vCPUs name machine frames (MFN), where in a stream
 -- they name frame numbers (PFN).
 use Rattle.std.specs.Prelude.{ℕ, List, Option, Some, None, ◌==◌, if◌then◌else◌}
-use Rattle.std.specs.Option.{option_map}
-use Rattle.mig_headers.specs.declared.kind.Kind.{Kind}
-use Rattle.mig_headers.specs.declared.kind.Kind.TheVariants.{Pv, Hvm}
-use Rattle.mig_pagetypes.specs.PageTypes.{level_of}
-use Rattle.mig_guest.specs.declared.part_key.PartKey.{PartKey}
-use Rattle.mig_guest.specs.Frames.{FrameOf}
-use Rattle.mig_guest.specs.Guests.{GuestOf}
-use Rattle.mig_guest.specs.Parts.{PartMap}
-use Rattle.mig_pvtables.specs.Blank.{each_value, table_changed}
-use Rattle.mig_pvtables.specs.P2mFrames.{place_of}
-use Rattle.mig_pvtables.specs.P2mPages.{p2m_page}
-use Rattle.mig_pvtables.specs.Renaming.{renamed_table}
-use Rattle.mig_pvtables.specs.VcpuContexts.{Usage, is_used}
+use Rattle.mig_host_view.specs.Common.{option_map, Kind, Pv, Hvm, level_of, PartKey, FrameOf, GuestOf, PartMap, each_value, table_changed, place_of, p2m_page, renamed_table, Usage, is_used}
 use Rattle.mig_host_view.specs.RenamedContexts.{renamed_context}
 
 -- ---- a guest whose tables and contexts have other names in them: f gives the new name of a frame, where it has one

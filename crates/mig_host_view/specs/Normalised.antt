@@ -1,13 +1,6 @@
 -- The form in a stream of a guest that stands in a machine.
 use Rattle.std.specs.Prelude.{ℕ, List, Option, Result, Ok, Err, ◌==◌, if◌then◌else◌}
-use Rattle.mig_headers.specs.declared.fault.ContextFault.{ContextFault}
-use Rattle.mig_headers.specs.declared.kind.Kind.{Kind}
-use Rattle.mig_headers.specs.declared.kind.Kind.TheVariants.{Pv, Hvm}
-use Rattle.mig_headers.specs.Contexts.{scan, cut_at}
-use Rattle.mig_guest.specs.declared.part_key.PartKey.{PartKey}
-use Rattle.mig_guest.specs.Guests.{GuestOf}
-use Rattle.mig_pvtables.specs.Blank.{each_value, blank_of}
-use Rattle.mig_pvtables.specs.VcpuContexts.{is_used_somewhere}
+use Rattle.mig_host_view.specs.Common.{ContextFault, Kind, Pv, Hvm, scan, cut_at, PartKey, GuestOf, each_value, blank_of, is_used_somewhere}
 use Rattle.mig_host_view.specs.Localised.{renamed}
 
 -- a raw context up to its END entry, and an END of zeros

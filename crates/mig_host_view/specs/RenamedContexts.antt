@@ -1,8 +1,7 @@
 -- Contexts of vCPUs whose fields say other frames: in a stream frame numbers (PFN), in a machine machine frames (MFN).
 use Rattle.std.specs.Prelude.{ℕ, List, Option, Some, None, if◌then◌else◌}
-use Rattle.mig_guest.specs.Formed.{gdt_ents}
+use Rattle.mig_host_view.specs.Common.{gdt_ents, Usage, field_at, frame_of_field, field_of_frame}
 use Rattle.mig_guest.specs.Longs.{each_long}
-use Rattle.mig_pvtables.specs.VcpuContexts.{Usage, field_at, frame_of_field, field_of_frame}
 
 -- the value that says the name; v where there is none
 abbrev pub field_named : ℕ → ℕ → Option ℕ → ℕ

@@ -1,27 +1,11 @@
 -- Whether a host can be seen as a guest, and what is in the way: each cause at its least place.
 use Rattle.std.specs.Prelude.{◌≡◌, ◌≤◌, ℕ, ⊤, Bool, true, List, [], ◌∷◌, Option, Some, None, Result, Ok, Err, IsSome, is_none, ◌==◌, ◌&&◌, nat_lt, option_and_then, if◌then◌else◌}
-use Rattle.std.specs.Option.{option_map}
+use Rattle.mig_host_view.specs.Common.{option_map, scan, ContextFault, Kind, Missing, P2mFrame, Superpage, NoFrame, GdtEnts, VcpuFrame, BadContext, PartKey, gdt_ents, FrameOf, FrameMap, GuestOf, HostOf, pfn_in, PartMap, context_key, EachEntry, is_unknown, NamesKnown, first_some, first_cause, type_at, fits_field, find_p2m, find_entry, find_in_contexts, misses, is_superpage, field_value, is_used_somewhere, frame_of_field}
 use Rattle.std.specs.FinMap as maps
-use Rattle.mig_headers.specs.Contexts.{scan}
-use Rattle.mig_headers.specs.declared.fault.ContextFault.{ContextFault}
-use Rattle.mig_headers.specs.declared.kind.Kind.{Kind}
 use Rattle.mig_headers.specs.declared.unsound.Unsound.{Unsound}
-use Rattle.mig_headers.specs.declared.unsound.Unsound.TheVariants.{Missing, P2mFrame, Superpage, NoFrame, GdtEnts, VcpuFrame, BadContext}
 use Rattle.mig_pagetypes.specs.declared.page_type.PageType.{PageType}
-use Rattle.mig_guest.specs.declared.part_key.PartKey.{PartKey}
-use Rattle.mig_guest.specs.Formed.{gdt_ents}
-use Rattle.mig_guest.specs.Frames.{FrameOf, FrameMap}
-use Rattle.mig_guest.specs.Guests.{GuestOf}
-use Rattle.mig_guest.specs.Hosts.{HostOf, pfn_in}
-use Rattle.mig_guest.specs.Parts.{PartMap}
-use Rattle.mig_guest.specs.PartKeys.{context_key}
-use Rattle.mig_guest.specs.Tables.{EachEntry}
 use Rattle.mig_guest.specs.Limits.{most_gdt_entries}
-use Rattle.mig_pvtables.specs.BadEntries.{is_unknown, NamesKnown}
 pub use Rattle.mig_pvtables.specs.Faults.{needed_keys}
-use Rattle.mig_pvtables.specs.Faults.{first_some, first_cause, type_at, fits_field, find_p2m, find_entry, find_in_contexts, misses}
-use Rattle.mig_pvtables.specs.Tables.{is_superpage}
-use Rattle.mig_pvtables.specs.VcpuContexts.{field_value, is_used_somewhere, frame_of_field}
 use Rattle.mig_pvtables.specs.WholePv.{AreP2mFrames}
 use Rattle.mig_host_view.specs.View.{guest_in}
 

@@ -1,11 +1,6 @@
 -- The guest that a host is seen as.
 use Rattle.std.specs.Prelude.{ℕ, ◌-◌}
-use Rattle.mig_headers.specs.declared.kind.Kind.{Kind}
-use Rattle.mig_headers.specs.declared.kind.Kind.TheVariants.{Pv, Hvm}
-use Rattle.mig_guest.specs.Frames.{FrameOf}
-use Rattle.mig_guest.specs.Guests.{GuestOf}
-use Rattle.mig_guest.specs.Hosts.{HostOf, HostFrame, pfn_in}
-use Rattle.mig_pvtables.specs.Blank.{each_value}
+use Rattle.mig_host_view.specs.Common.{Kind, Pv, Hvm, FrameOf, GuestOf, HostOf, HostFrame, pfn_in, each_value}
 use Rattle.mig_host_view.specs.Normalised.{part_seen, normalised}
 
 -- a frame without its machine frame

@@ -1,8 +1,6 @@
 ghost use Rattle.std.specs.Prelude.{◌≡◌, ◌<◌, ◌^◌};
 ghost use Rattle.mig_pvtables.specs.P2mPages.{p2m_page as page_of};
-ghost use Rattle.mig_pvtables.specs.Renaming.{renamed_table};
-ghost use Rattle.mig_pvtables.specs.VcpuContexts.{is_used};
-ghost use Rattle.mig_pvtables.specs.Whole.{IsWhole};
+ghost use Rattle.mig_host_view.specs.Common.{renamed_table, is_used, IsWhole};
 ghost use Rattle.mig_host_view.specs.Localised.{localised};
 ghost use Rattle.mig_host_view.specs.RenamedContexts.{renamed_context};
 

@@ -1,11 +1,6 @@
 ghost use Rattle.std.specs.Prelude.{◌≡◌, ◌≤◌, ◌<◌, ◌^◌, ℕ, List, length, Some, IfSome, IsSome};
 ghost use Rattle.std.specs.FinMap as maps;
-ghost use Rattle.mig_headers.specs.declared.kind.Kind.TheVariants.{Pv};
-ghost use Rattle.mig_guest.specs.declared.part_key.PartKey.{PartKey};
-ghost use Rattle.mig_guest.specs.PartKeys.{shared_key};
-ghost use Rattle.mig_guest.specs.Tables.{blanked_table};
-ghost use Rattle.mig_pvtables.specs.Renaming.{renamed_table};
-ghost use Rattle.mig_pvtables.specs.VcpuContexts.{is_used_somewhere};
+ghost use Rattle.mig_host_view.specs.Common.{Pv, PartKey, shared_key, blanked_table, renamed_table, is_used_somewhere};
 ghost use Rattle.mig_host_view.specs.Normalised.{normalised};
 ghost use Rattle.mig_host_view.specs.RenamedContexts.{renamed_context};
 

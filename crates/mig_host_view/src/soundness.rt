@@ -1,17 +1,7 @@
 ghost use Rattle.std.specs.Prelude.{◌≡◌, ◌≤◌, ◌<◌, ◌^◌, ℕ, List, [], ◌∷◌, length, IfSome, IfOk, find};
-ghost use Rattle.std.specs.Option.{option_copied, option_map, option_or};
+ghost use Rattle.mig_host_view.specs.Common.{option_copied, option_map, option_or, Superpage, NoFrame, GdtEnts, VcpuFrame, BadContext, level_of, PartKey, NextEntry, p2m_key, is_unknown, find_slot, find_entry, find_in_contexts, first_cause, first_some, count_in, is_superpage, is_used_somewhere};
 ghost use Rattle.std.specs.FinMap as maps;
-ghost use Rattle.mig_headers.specs.declared.unsound.Unsound.TheVariants.{Superpage, NoFrame, GdtEnts, VcpuFrame, BadContext};
 ghost use Rattle.mig_pagetypes.specs.Limits.{pfn_limit};
-ghost use Rattle.mig_pagetypes.specs.PageTypes.{level_of};
-ghost use Rattle.mig_guest.specs.declared.part_key.PartKey.{PartKey};
-ghost use Rattle.mig_guest.specs.Frames.{NextEntry};
-ghost use Rattle.mig_guest.specs.PartKeys.{p2m_key};
-ghost use Rattle.mig_pvtables.specs.BadEntries.{is_unknown};
-ghost use Rattle.mig_pvtables.specs.Faults.{find_slot, find_entry, find_in_contexts, first_cause, first_some};
-ghost use Rattle.mig_pvtables.specs.P2mFrames.{count_in};
-ghost use Rattle.mig_pvtables.specs.Tables.{is_superpage};
-ghost use Rattle.mig_pvtables.specs.VcpuContexts.{is_used_somewhere};
 ghost use Rattle.mig_host_view.specs.Sound.{absent, needed_keys, misnames, machine_type as type_of_machine_frame, find_gdt, find_context_fault, unsound_rows};
 
 use mig_bytes::Memory;

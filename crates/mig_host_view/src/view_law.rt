@@ -1,16 +1,6 @@
 ghost use Rattle.std.specs.Prelude.{◌≡◌, ◌≤◌, ◌↔◌, ℕ, List, Option, Some, None, true, IsSome};
 ghost use Rattle.std.specs.FinMap as maps;
-ghost use Rattle.mig_headers.specs.declared.kind.Kind.TheVariants.{Pv, Hvm};
-ghost use Rattle.mig_guest.specs.Formed.{gdt_ents};
-ghost use Rattle.mig_guest.specs.Frames.{FrameOf};
-ghost use Rattle.mig_guest.specs.Guests.{GuestOf};
-ghost use Rattle.mig_guest.specs.Hosts.{HostOf, IsValid};
-ghost use Rattle.mig_pvtables.specs.Blank.{blank, IsOfBytes};
-ghost use Rattle.mig_pvtables.specs.P2mFrames.{listed};
-ghost use Rattle.mig_pvtables.specs.P2mPages.{p2m_page};
-ghost use Rattle.mig_pvtables.specs.Renaming.{GoesBack};
-ghost use Rattle.mig_pvtables.specs.VcpuContexts.{blanked_context, field_value, frame_of_field, is_used, is_used_somewhere};
-ghost use Rattle.mig_pvtables.specs.Whole.{IsWhole};
+ghost use Rattle.mig_host_view.specs.Common.{Pv, Hvm, gdt_ents, FrameOf, GuestOf, HostOf, IsValid, blank, IsOfBytes, listed, p2m_page, GoesBack, blanked_context, field_value, frame_of_field, is_used, is_used_somewhere, IsWhole};
 ghost use Rattle.mig_host_view.specs.Localised.{localised};
 ghost use Rattle.mig_host_view.specs.Normalised.{normalised};
 ghost use Rattle.mig_host_view.specs.RenamedContexts.{renamed_context};

@@ -1,9 +1,8 @@
 -- Entries one behind the other, each as it may stand behind those before it: they are read as they are spelled, what is
 -- read is spelled, and they are the entries of the map that they make.
-use Rattle.mig_image.proofs.Common.{◌≡◌, ℕ, zero, suc, ◌+◌, false, List, [], ◌∷◌, ◌++◌, length, refl, sym, ap, subst, ◌∙◌, append_assoc, append-nil, T, flat_map, IsTotalOrder, Ordering, FinMap, is_sorted, Judged, placed, Passes, both_pass, same_passes, placed_passes, then_passes, Bytes, bytes_back}
+use Rattle.mig_image.proofs.Common.{◌≡◌, ℕ, zero, suc, ◌+◌, false, List, [], ◌∷◌, ◌++◌, length, refl, sym, ap, subst, ◌∙◌, append_assoc, append-nil, T, flat_map, IsTotalOrder, Ordering, FinMap, is_sorted, Judged, placed, Passes, both_pass, same_passes, placed_passes, then_passes, Bytes, bytes_back, has_from, entries_behind, front_below, no_entries}
 use Rattle.std.specs.FinMap as maps
 use Rattle.mig_bytes.specs.Judged.{steps}
-use Rattle.mig_host.proofs.InOrder.{has_from, entries_behind, front_below, no_entries}
 use Rattle.mig_image.proofs.FieldBytes.{regroup}
 
 module _ {K X : Type 0} {R : K → K → Ordering} where

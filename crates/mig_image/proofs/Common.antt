@@ -1,5 +1,5 @@
 -- Names that many proofs of this crate use.
-pub use Rattle.std.proofs.Common.{Bool, Err, IfNone, IfSome, IsSome, List, None, Ok, OnOk, Option, Result, Some, [], ap, append-nil, append_assoc, arith, codes, cond, drop, drop-drop, false, is_some, length, length-append, length-drop, nat_eq, nat_le, nat_lt, not, refl, replicate, rules, subst, suc, sym, take, take-append-drop, true, zero, ℕ, ◌%◌, ◌*◌, ◌++◌, ◌+◌, ◌-◌, ◌/◌, ◌<◌, ◌^◌, ◌∙◌, ◌∷◌, ◌≡◌, ◌≤◌}
+pub use Rattle.std.proofs.Common.{Bool, Err, IfNone, IfSome, IsSome, List, None, Ok, OnOk, Option, Result, Some, [], ap, append-nil, append_assoc, arith, codes, cond, drop, drop-drop, false, filter, get_or, is_some, length, length-append, length-drop, nat_eq, nat_le, nat_lt, not, refl, replicate, rules, subst, suc, sym, take, take-append-drop, true, unwrap_or, zero, ℕ, ◌%◌, ◌*◌, ◌++◌, ◌+◌, ◌-◌, ◌/◌, ◌<◌, ◌^◌, ◌∙◌, ◌∷◌, ◌≡◌, ◌≤◌}
 pub use Rattle.mig_pagetypes.specs.Limits.{top_limit, most_frames, machine_limit}
 pub use Rattle.std.proofs.lemmas.Bool.{and_from, and_left, and_parts, and_right, eq-eqb, eqb-false, eqb-true, false_from_ne_true, le-leb, le-ltb, leb-false, leb-true, lt-leb, ltb-false, ne_eqb, not-false, or_from, or_parts, true≢false}
 pub use Rattle.std.proofs.lemmas.Grind.{common_steps, flat_map-append}
@@ -8,7 +8,7 @@ pub use Rattle.std.proofs.lemmas.List.Elements.{All-drop, All-from_recursion, Al
 pub use Rattle.std.proofs.lemmas.Option.{none-some, same_Some}
 pub use Rattle.std.specs.Cmp.{IsTotalOrder, nat_cmp_total}
 pub use Rattle.std.specs.FinMap.{FinMap, IsAntisymmetric, is_sorted, len-entries, len-insert, nat_cmp-IsAntisymmetric}
-pub use Rattle.std.specs.FinMap.Entries.{is_sorted-where_key, where_key}
+pub use Rattle.std.specs.FinMap.Entries.{below_all, is_sorted-where_key, where_key}
 pub use Rattle.std.specs.Io.KnownBytes.{Appends, Consumes}
 pub use Rattle.std.specs.List.{All, AllByRecursion, flat_map, list_all, list_any}
 pub use Rattle.std.specs.Option.{option_copied}
@@ -19,14 +19,14 @@ pub use Rattle.std.specs.declared.cmp.Ordering.{Ordering}
 pub use Rattle.std.specs.declared.cmp.Ordering.TheVariants.{Equal, Greater, Less}
 pub use Rattle.byteorder.specs.Endian.{big_number, little_bytes}
 pub use Rattle.byteorder.specs.Numbers.{big_from-take, little_number-reads_back}
-pub use Rattle.mig_bytes.proofs.ByteLists.{Bytes, bytes_back, bytes_front, field_below, field_size, long_back, word_back, word_below}
-pub use Rattle.mig_bytes.proofs.Joins.{both_pass, done, judged_so, placed_passes, same_passes, then_passes}
-pub use Rattle.mig_bytes.proofs.Placed.{one_more, one_stops, told}
-pub use Rattle.mig_bytes.proofs.Said.{said_goes, said_passes}
+pub use Rattle.mig_bytes.proofs.ByteLists.{Bytes, bytes_back, bytes_front, field_below, field_size, long_back, long_below, word_back, word_below}
+pub use Rattle.mig_bytes.proofs.Joins.{any_stop, both_pass, done, judged_so, placed_passes, same_passes, then_passes}
+pub use Rattle.mig_bytes.proofs.Placed.{known, one_more, one_stops, told}
+pub use Rattle.mig_bytes.proofs.Said.{said_goes, said_passes, said_read, said_refused}
 pub use Rattle.mig_bytes.proofs.Taking.{takes_more, takes_none}
 pub use Rattle.mig_bytes.proofs.Texts.{all_parted, flat_more, puts_same, puts_stop, puts_then}
 pub use Rattle.mig_bytes.specs.Bytes.{AppendsPart, AreBytes, Puts, TakesBytes, padding_len}
-pub use Rattle.mig_bytes.specs.Judged.{AgreesWithJudging, Judged, placed}
+pub use Rattle.mig_bytes.specs.Judged.{AgreesWithJudging, Judged, placed, stop_at}
 pub use Rattle.mig_bytes.specs.Judged.Judged.{Passes}
 pub use Rattle.mig_bytes_form.proofs.ByParts.{both_go, bytes_go, bytes_gone, first_stops, gives_goes, gives_gone, nothing_read, placed_goes, placed_gone, placed_read, placed_stop, steps_at, steps_go, steps_read, then_goes, then_read, told_then}
 pub use Rattle.mig_bytes_form.proofs.Tests.{no_fault, rows_fine}
@@ -40,7 +40,7 @@ pub use Rattle.mig_guest.specs.Formed.{IsRawContent}
 pub use Rattle.mig_guest.specs.Frames.{entries_from, is_type_of}
 pub use Rattle.mig_guest.specs.Hosts.{HostFrame, HostFrames, HostOf, IsHostFrame, IsHostPart, IsValid, most_width}
 pub use Rattle.mig_guest.specs.Order.{IsAbove, part_cmp}
-pub use Rattle.mig_guest.specs.Parts.{FitsPolicy, PartMap, parts_behind, parts_of}
+pub use Rattle.mig_guest.specs.Parts.{FitsPolicy, NextKey, PartMap, parts_behind, parts_of}
 pub use Rattle.mig_guest.specs.declared.part_key.PartKey.{PartKey}
 pub use Rattle.mig_headers.specs.Headers.{kind_number, kind_of_number}
 pub use Rattle.mig_headers.specs.declared.image_fault.ImageCause.{ImageCause}
@@ -61,3 +61,10 @@ pub use Rattle.mig_image.specs.GuestImageForm.{behind_frames, behind_head, conte
 pub use Rattle.mig_image.specs.PartCounts.{Counts}
 pub use Rattle.mig_pagetypes.specs.PageTypes.{all_types, number_of, type_has_data, type_of, type_or_none}
 pub use Rattle.mig_pagetypes.specs.declared.page_type.PageType.{PageType}
+pub use Rattle.mig_bytes.proofs.Steps.{begins}
+pub use Rattle.mig_host.proofs.HostsMade.{valid_empty, valid_frame, valid_part}
+pub use Rattle.mig_host.proofs.InOrder.{each_entry, entries_behind, few_ranks, found_passes, front_below, get_at, get_front, has_from, nat_rises, no_entries, no_entry, none_passes, some_entry}
+pub use Rattle.mig_image.specs.FrameEnds.{EndsAt}
+pub use Rattle.mig_pagetypes.specs.declared.page_type.PageType.TheVariants.{Broken, Xalloc, Xtab}
+pub use Rattle.std.proofs.KnownBytes.{Appends-trans}
+pub use Rattle.std.proofs.lemmas.Nat.{be_bytes_8, le_or_l}

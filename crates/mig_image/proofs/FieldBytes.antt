@@ -1,7 +1,6 @@
 -- The bytes of a field are those of its number.
-use Rattle.mig_image.proofs.Common.{◌≡◌, ℕ, ◌+◌, ◌≤◌, List, ◌++◌, length, take, drop, sym, ap, ◌∙◌, arith, take-append-drop, drop-drop, length-drop, append_assoc, take_all, little_bytes, big_number, big_from-take, Bytes, field_size, field_below, word_back, long_back, GuestImageVersion, One, Two, image_name, name_number}
+use Rattle.mig_image.proofs.Common.{◌≡◌, ℕ, ◌+◌, ◌≤◌, List, ◌++◌, length, take, drop, sym, ap, ◌∙◌, arith, take-append-drop, drop-drop, length-drop, append_assoc, take_all, little_bytes, big_number, big_from-take, Bytes, field_size, field_below, word_back, long_back, GuestImageVersion, One, Two, image_name, name_number, be_bytes_8}
 use Rattle.std.specs.Int.{w64, from_be_bytes, to_be_bytes}
-use Rattle.std.proofs.lemmas.Nat.{be_bytes_8}
 use Rattle.mig_bytes.specs.Fields.{le32, le64, be64}
 
 first_field : (n : ℕ) (xs : List ℕ) → Bytes xs → 8 ≤ length xs → be64 xs 0 ≡ n → to_be_bytes w64 n ≡ take 8 xs

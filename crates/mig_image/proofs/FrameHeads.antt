@@ -1,8 +1,6 @@
 -- The head of a frame and its page: what they spell is read, and what is read they spell.
-use Rattle.mig_image.proofs.Common.{◌≡◌, ℕ, ◌+◌, ◌*◌, ◌/◌, ◌%◌, ◌^◌, ◌<◌, ◌≤◌, Bool, true, false, cond, not, nat_eq, nat_le, List, [], ◌++◌, length, Option, Some, None, is_some, refl, sym, ap, subst, ◌∙◌, arith, ◌&&◌, and_from, eq-eqb, eqb-true, leb-false, lt-leb, not-false, or_from, or_parts, none-some, same_Some, true≢false, little_bytes, little_number-reads_back, Passes, ImageCause, Truncated, no_fault, rows_fine, GuestImageVersion, One, Two, PageType, number_of, type_of, type_or_none, type_has_data, HostFrame, host_word, is_left_out, is_all_zero, leaves_out, most_width_of, page_left_out, page_text, zero_flag, frame_said, has_zero_flag, head_pfn, head_type, head_type_number, Bytes, FormOf, Giving, judged_as, ◌>>>◌, first_named, is_passed, gives_gone, said_goes, said_passes, page_causes, reserved_bits, sent_page_form, machine_limit}
-use Rattle.mig_bytes.proofs.ByteLists.{long_below}
+use Rattle.mig_image.proofs.Common.{◌≡◌, ℕ, ◌+◌, ◌*◌, ◌/◌, ◌%◌, ◌^◌, ◌<◌, ◌≤◌, Bool, true, false, cond, not, nat_eq, nat_le, List, [], ◌++◌, length, Option, Some, None, is_some, refl, sym, ap, subst, ◌∙◌, arith, ◌&&◌, and_from, eq-eqb, eqb-true, leb-false, lt-leb, not-false, or_from, or_parts, none-some, same_Some, true≢false, little_bytes, little_number-reads_back, Passes, ImageCause, Truncated, no_fault, rows_fine, GuestImageVersion, One, Two, PageType, number_of, type_of, type_or_none, type_has_data, HostFrame, host_word, is_left_out, is_all_zero, leaves_out, most_width_of, page_left_out, page_text, zero_flag, frame_said, has_zero_flag, head_pfn, head_type, head_type_number, Bytes, FormOf, Giving, judged_as, ◌>>>◌, first_named, is_passed, gives_gone, said_goes, said_passes, page_causes, reserved_bits, sent_page_form, machine_limit, long_below, Broken, Xalloc, Xtab}
 use Rattle.mig_bytes.specs.Fields.{le64}
-use Rattle.mig_pagetypes.specs.declared.page_type.PageType.TheVariants.{Broken, Xalloc, Xtab}
 use Rattle.mig_pagetypes.proofs.Numbers.{number_small, type_back}
 use Rattle.mig_image.specs.GuestImage.{frame_head_of}
 use Rattle.mig_image.proofs.FieldBytes.{long_last, long_then}

@@ -1,9 +1,8 @@
 -- Bytes that are read as a host begin with its image, and the host is valid.
-use Rattle.mig_image.proofs.Common.{◌≡◌, ℕ, ◌<◌, ◌≤◌, Bool, true, false, not, nat_eq, nat_lt, List, ◌++◌, length, None, refl, sym, ap, subst, ◌∙◌, arith, ◌&&◌, flat_map, not-false, or_parts, ltb-false, eqb-true, eqb-false, recursion_from_All, little_bytes, AreBytes, Passes, kind_number, kind_of_number, Truncated, Head, Parts, Pv, Hvm, PartKey, HostOf, HostFrame, IsValid, frame_text, part_text, IsGuestImageUpTo, GuestImageVersion, One, Two, cond, ◌||◌, head_version, top_limit, most_width, most_width_of, name_number, version_named, opened, behind_head, Bytes, bytes_front, bytes_back, rows_fine, placed_form, judged_as, first_named, host_head_causes, host_head_form, frames_form, host_parts_form, count_form, behind_frames, guest_image_form, host_at, both_go, bytes_gone, placed_gone, said_passes, most_frames}
+use Rattle.mig_image.proofs.Common.{◌≡◌, ℕ, ◌<◌, ◌≤◌, Bool, true, false, not, nat_eq, nat_lt, List, ◌++◌, length, None, refl, sym, ap, subst, ◌∙◌, arith, ◌&&◌, flat_map, not-false, or_parts, ltb-false, eqb-true, eqb-false, recursion_from_All, little_bytes, AreBytes, Passes, kind_number, kind_of_number, Truncated, Head, Parts, Pv, Hvm, PartKey, HostOf, HostFrame, IsValid, frame_text, part_text, IsGuestImageUpTo, GuestImageVersion, One, Two, cond, ◌||◌, head_version, top_limit, most_width, most_width_of, name_number, version_named, opened, behind_head, Bytes, bytes_front, bytes_back, rows_fine, placed_form, judged_as, first_named, host_head_causes, host_head_form, frames_form, host_parts_form, count_form, behind_frames, guest_image_form, host_at, both_go, bytes_gone, placed_gone, said_passes, most_frames, valid_empty}
 use Rattle.std.specs.FinMap as maps
 use Rattle.mig_bytes.specs.Fields.{le32, le64, be64}
 use Rattle.mig_image.specs.GuestImage.{host_head, guest_image}
-use Rattle.mig_host.proofs.HostsMade.{valid_empty}
 use Rattle.mig_image.proofs.FieldBytes.{name_then, word_then, long_then, long_last, regroup}
 use Rattle.mig_image.proofs.Chains.{Chain, put_all}
 use Rattle.mig_image.proofs.Frames.{FrameFits, with_frames, frames_back, frame_entries, frames_valid}

@@ -1,10 +1,7 @@
 -- The pages, the order and the length of an image, in the words of the form.
-use Rattle.mig_image.proofs.Common.{◌≡◌, ℕ, zero, suc, ◌+◌, ◌*◌, ◌<◌, Bool, true, false, cond, not, nat_eq, List, [], ◌∷◌, ◌++◌, length, Option, Some, None, is_some, refl, sym, ap, ◌∙◌, arith, length-append, append-nil, ◌&&◌, T, flat_map, AllByRecursion, and_from, and_parts, eq-eqb, eqb-true, true≢false, nat_cmp_total, nat_cmp, nat_cmp-IsAntisymmetric, is_sorted, little_bytes, HostOf, HostFrame, GuestImageVersion, One, Two, frame_text, is_all_zero, is_left_out, most_width_of, page_text, part_text, IsValid, subst, ◌≤◌}
-use Rattle.std.proofs.Common.{filter, get_or, unwrap_or}
+use Rattle.mig_image.proofs.Common.{◌≡◌, ℕ, zero, suc, ◌+◌, ◌*◌, ◌<◌, Bool, true, false, cond, not, nat_eq, List, [], ◌∷◌, ◌++◌, length, Option, Some, None, is_some, refl, sym, ap, ◌∙◌, arith, length-append, append-nil, ◌&&◌, T, flat_map, AllByRecursion, and_from, and_parts, eq-eqb, eqb-true, true≢false, nat_cmp_total, nat_cmp, nat_cmp-IsAntisymmetric, is_sorted, little_bytes, HostOf, HostFrame, GuestImageVersion, One, Two, frame_text, is_all_zero, is_left_out, most_width_of, page_text, part_text, IsValid, subst, ◌≤◌, filter, get_or, unwrap_or, below_all, each_entry, nat_rises}
 use Rattle.std.specs.FinMap as maps
-use Rattle.std.specs.FinMap.Entries.{below_all}
 use Rattle.mig_guest.proofs.PartCursor.{both_of}
-use Rattle.mig_host.proofs.InOrder.{each_entry, nat_rises}
 use Rattle.mig_image.specs.GuestImage.{frame_head_of, host_head, guest_image}
 use Rattle.mig_image.specs.GuestImageLaws.{HasZeroPage, HostsHaveGuestImages, IsGuestImageIn, FlagsSayZero, UnsentAreZero, IsAscending, sends_page, GuestImagesHaveSizes}
 use Rattle.mig_image.proofs.FrameHeads.{head_len, says}

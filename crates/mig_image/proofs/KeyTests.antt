@@ -1,8 +1,6 @@
 -- Whether a host has a frame or a part from a key on.
-use Rattle.mig_image.proofs.Common.{◌≡◌, ℕ, Bool, true, false, not, nat_le, Option, Some, None, is_some, IsSome, refl, sym, ap, ◌∙◌, arith, list_any, le-leb, true≢false, false_from_ne_true, none-some, IsTotalOrder, nat_cmp_total, is_lt, ordering_reverse, Ordering, Less, Equal, Greater, FinMap, IsAntisymmetric, nat_cmp-IsAntisymmetric, PartKey, part_cmp, HostFrames, PartMap, part_total, part_exact, has_part_from}
-use Rattle.mig_guest.specs.Parts.{NextKey}
+use Rattle.mig_image.proofs.Common.{◌≡◌, ℕ, Bool, true, false, not, nat_le, Option, Some, None, is_some, IsSome, refl, sym, ap, ◌∙◌, arith, list_any, le-leb, true≢false, false_from_ne_true, none-some, IsTotalOrder, nat_cmp_total, is_lt, ordering_reverse, Ordering, Less, Equal, Greater, FinMap, IsAntisymmetric, nat_cmp-IsAntisymmetric, PartKey, part_cmp, HostFrames, PartMap, part_total, part_exact, has_part_from, NextKey, some_entry, no_entry, none_passes}
 use Rattle.std.specs.FinMap as maps
-use Rattle.mig_host.proofs.InOrder.{some_entry, no_entry, none_passes}
 
 module _ {K X : Type 0} {R : K → K → Ordering} (total : IsTotalOrder R) (exact : IsAntisymmetric R) (p : K → Bool) (m : FinMap R X) where
   -- a key of the map passes

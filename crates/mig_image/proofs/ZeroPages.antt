@@ -1,10 +1,8 @@
 -- Pages that are all zero.
-use Rattle.mig_image.proofs.Common.{◌≡◌, ℕ, zero, suc, ◌+◌, ◌<◌, Bool, true, false, nat_eq, List, [], ◌∷◌, length, take, replicate, Some, refl, sym, ap, ◌∙◌, arith, ◌&&◌, list_all, and_parts, eqb-true, eqb-false, ne_eqb, GuestImageVersion, is_all_zero, is_left_out}
+use Rattle.mig_image.proofs.Common.{◌≡◌, ℕ, zero, suc, ◌+◌, ◌<◌, Bool, true, false, nat_eq, List, [], ◌∷◌, length, take, replicate, Some, refl, sym, ap, ◌∙◌, arith, ◌&&◌, list_all, and_parts, eqb-true, eqb-false, ne_eqb, GuestImageVersion, is_all_zero, is_left_out, get_or, le_or_l}
 use Rattle.mig_image.specs.GuestImage.{page_left_out}
-use Rattle.std.proofs.Common.{get_or}
 use Rattle.std.specs.Int.RustNames.{bit_or}
 use Rattle.std.specs.Int.Bits.{or_zero_l}
-use Rattle.std.proofs.lemmas.Nat.{le_or_l}
 use Rattle.std.proofs.lemmas.List.Folds.{list_all_more}
 
 -- ---- bytes joined by or

@@ -1,12 +1,7 @@
 -- What a reader of guest images answers.
 use Rattle.std.specs.Prelude.{◌≡◌, ℕ, List, Option, Some, None, Result, Ok, Err, ⊤}
-use Rattle.mig_bytes.specs.Answers.{or_stop}
-use Rattle.mig_bytes.specs.Judged.{AgreesWithJudging}
+use Rattle.mig_image.specs.Common.{or_stop, AgreesWithJudging, ImageCause, ImagePlace, HostOf, HostAndSpare}
 use Rattle.mig_bytes.specs.declared.answer.Answer.{Answer}
-use Rattle.mig_headers.specs.declared.image_fault.ImageCause.{ImageCause}
-use Rattle.mig_headers.specs.declared.image_fault.ImagePlace.{ImagePlace}
-use Rattle.mig_guest.specs.Hosts.{HostOf}
-use Rattle.mig_host.specs.HostView.{HostAndSpare}
 use Rattle.mig_image.specs.GuestImage.{IsGuestImageUpTo}
 use Rattle.mig_image.specs.GuestImageForm.{host_at}
 

@@ -2,14 +2,8 @@
 -- are little-endian, and all that isn't named is 0. Version 1 has each page as it is, and no PFN of more than 28 bits; version
 -- 2 leaves out the pages that are all zero.
 use Rattle.std.specs.Prelude.{◌≡◌, ◌≤◌, ℕ, ◌+◌, ◌*◌, ◌^◌, Bool, true, false, List, [], ◌++◌, length, codes, replicate, Option, Some, None, unwrap_or, ◌==◌, ◌&&◌, if◌then◌else◌}
-use Rattle.std.specs.List.{flat_map, list_all}
+use Rattle.mig_image.specs.Common.{flat_map, list_all, little_bytes, padding_len, kind_number, number_of, PartKey, HostOf, HostFrame, IsValid}
 use Rattle.std.specs.FinMap as maps
-use Rattle.byteorder.specs.Endian.{little_bytes}
-use Rattle.mig_bytes.specs.Bytes.{padding_len}
-use Rattle.mig_headers.specs.Headers.{kind_number}
-use Rattle.mig_pagetypes.specs.PageTypes.{number_of}
-use Rattle.mig_guest.specs.declared.part_key.PartKey.{PartKey}
-use Rattle.mig_guest.specs.Hosts.{HostOf, HostFrame, IsValid}
 use Rattle.mig_image.specs.declared.version.GuestImageVersion.{GuestImageVersion}
 use Rattle.mig_image.specs.declared.version.GuestImageVersion.TheVariants.{One, Two}
 

@@ -2,26 +2,14 @@
 -- numbers. Judging is one reading of it; its refusals in words are the other.
 use Rattle.std.specs.Prelude.{ℕ, ◌/◌, ◌%◌, ◌^◌, List, [], ◌∷◌, length, Option, Some, if◌then◌else◌}
 use Rattle.std.specs.FinMap as maps
-use Rattle.mig_bytes.specs.Bytes.{padding_len}
-use Rattle.mig_bytes.specs.Fields.{le32, le64, be64}
-use Rattle.mig_bytes.specs.Judged.{Judged}
+use Rattle.mig_image.specs.Common.{padding_len, le32, le64, be64, Judged, Test, ImageCause, ImagePlace, most_policy_entries, most_frames, top_limit, machine_limit, is_type_of, HostOf, code_of_number, PartMap, parts_of, has_machine, put_frame, put_part_in}
 use Rattle.mig_bytes_form.specs.Form.{FormOf, ◌>>>◌, bytes_form, said_form, steps_form, placed_form, judged_as}
 use Rattle.mig_bytes_form.specs.Form.FormOf.{Gives}
-use Rattle.mig_bytes_form.specs.Tests.{Test}
 use Rattle.mig_bytes_form.specs.Tests.Test.{Less, AtMost, Equal, Is, Not, Both, Either}
 use Rattle.mig_headers.specs.Pairs.{are_canonical_pairs}
-use Rattle.mig_headers.specs.declared.image_fault.ImageCause.{ImageCause}
 use Rattle.mig_headers.specs.declared.image_fault.ImageCause.TheVariants.{Truncated, NotImage, BadKind, Reserved, Width, FrameCount, BadPageType, FrameOrder, FrameOutside, MachineFrame, MachineTwice, PartOrder, PartMany, PartLength, PartBytes, PartPadding, ZeroPage}
 use Rattle.mig_headers.specs.declared.image_fault.ImageCause.TheVariants as causes
-use Rattle.mig_headers.specs.declared.image_fault.ImagePlace.{ImagePlace}
 use Rattle.mig_headers.specs.declared.image_fault.ImagePlace.TheVariants as places
-use Rattle.mig_headers.specs.RecordTypes.{most_policy_entries}
-use Rattle.mig_pagetypes.specs.Limits.{most_frames, top_limit, machine_limit}
-use Rattle.mig_guest.specs.Frames.{is_type_of}
-use Rattle.mig_guest.specs.Hosts.{HostOf}
-use Rattle.mig_guest.specs.PartCodes.{code_of_number}
-use Rattle.mig_guest.specs.Parts.{PartMap, parts_of}
-use Rattle.mig_host.specs.HostView.{has_machine, put_frame, put_part_in}
 use Rattle.mig_image.specs.declared.version.GuestImageVersion.{GuestImageVersion}
 use Rattle.mig_image.specs.declared.version.GuestImageVersion.TheVariants.{One, Two}
 use Rattle.mig_image.specs.GuestImage.{most_width_of, is_all_zero, leaves_out}

@@ -1,10 +1,7 @@
 -- What the pages, the order and the length of an image are, in the words of the form.
 use Rattle.std.specs.Prelude.{◌≡◌, ◌↔◌, ◌≤◌, ◌<◌, ◌+◌, ◌*◌, ⊤, ℕ, Bool, true, not, List, [], ◌∷◌, length, filter, Some, is_some, ◌&&◌, slice_index}
-use Rattle.std.specs.List.{flat_map, AllByRecursion}
+use Rattle.mig_image.specs.Common.{flat_map, AllByRecursion, Kind, type_has_data, HostOf, HostFrame, IsHostFrame, IsValid}
 use Rattle.std.specs.FinMap as maps
-use Rattle.mig_headers.specs.declared.kind.Kind.{Kind}
-use Rattle.mig_pagetypes.specs.PageTypes.{type_has_data}
-use Rattle.mig_guest.specs.Hosts.{HostOf, HostFrame, IsHostFrame, IsValid}
 use Rattle.mig_image.specs.declared.version.GuestImageVersion.{GuestImageVersion}
 use Rattle.mig_image.specs.declared.version.GuestImageVersion.TheVariants.{One, Two}
 use Rattle.mig_image.specs.GuestImage.{IsGuestImage, guest_image, frame_head_of, is_left_out, most_width_of, page_text, part_text}

@@ -1,19 +1,11 @@
 -- What the heads of a guest image say: the fields of the file's head, of a frame's and of a part's, and what stands already.
 use Rattle.std.specs.Prelude.{ℕ, ◌/◌, ◌%◌, ◌^◌, Bool, false, List, Option, Some, None, ◌==◌, ◌&&◌, not, nat_le, if◌then◌else◌}
-use Rattle.std.specs.List.{list_any}
+use Rattle.mig_image.specs.Common.{list_any, le32, le64, be64, kind_of_number, Kind, type_of, type_or_none, type_has_data, PartKey, HostOf, HostFrame, row_of, PartMap}
 use Rattle.std.specs.Ordering.{is_lt}
 use Rattle.std.specs.FinMap as maps
-use Rattle.mig_bytes.specs.Fields.{le32, le64, be64}
-use Rattle.mig_headers.specs.Headers.{kind_of_number}
-use Rattle.mig_headers.specs.declared.kind.Kind.{Kind}
 use Rattle.mig_pagetypes.specs.declared.page_type.PageType.{PageType}
-use Rattle.mig_pagetypes.specs.PageTypes.{type_of, type_or_none, type_has_data}
 use Rattle.mig_guest.specs.declared.part_code.PartCode.{PartCode}
-use Rattle.mig_guest.specs.declared.part_key.PartKey.{PartKey}
-use Rattle.mig_guest.specs.Hosts.{HostOf, HostFrame}
 use Rattle.mig_guest.specs.Order.{part_cmp}
-use Rattle.mig_guest.specs.PartCodes.{row_of}
-use Rattle.mig_guest.specs.Parts.{PartMap}
 use Rattle.mig_image.specs.declared.version.GuestImageVersion.{GuestImageVersion}
 use Rattle.mig_image.specs.declared.version.GuestImageVersion.TheVariants.{One, Two}
 use Rattle.mig_image.specs.GuestImage.{pfn_bits, type_bit, leaves_out, page_left_out}

@@ -1,3 +1,4 @@
+mod Common
 pub mod GuestImage
 pub mod GuestImageParts
 pub mod GuestImageForm

@@ -1,7 +1,7 @@
 -- What is counted of the parts that were read.
 use Rattle.std.specs.Prelude.{◌≡◌, length}
 use Rattle.std.specs.FinMap as maps
-use Rattle.mig_guest.specs.Parts.{PartMap, parts_of}
+use Rattle.mig_image.specs.Common.{PartMap, parts_of}
 use Rattle.mig_image.specs.declared.read_part.Entries.{Entries}
 
 -- the entries of each policy among these parts

@@ -1,8 +1,7 @@
 ghost use Rattle.std.specs.Prelude.{◌≡◌, ◌≤◌, ℕ, List};
 ghost use Rattle.std.specs.FinMap as maps;
-ghost use Rattle.mig_bytes.specs.Bytes.{AreBytes};
+ghost use Rattle.mig_image.specs.Common.{AreBytes, HostOf, most_width};
 ghost use Rattle.mig_bytes.specs.Judged.Judged.{Passes};
-ghost use Rattle.mig_guest.specs.Hosts.{HostOf, most_width};
 ghost use Rattle.mig_image.specs.GuestImage.{IsGuestImage, IsGuestImageUpTo};
 ghost use Rattle.mig_image.specs.GuestImageLaws.{HostsHaveGuestImages, FlagsSayZero, UnsentAreZero, IsAscending, GuestImagesHaveSizes};
 ghost use Rattle.mig_image.specs.GuestImageForm.{host_at};

@@ -1,15 +1,7 @@
 ghost use Rattle.std.specs.Prelude.{◌≡◌, ◌≤◌, OnOk, IfOk, IsErrOf, length, None};
 ghost use Rattle.std.specs.FinMap as maps;
-ghost use Rattle.mig_bytes.specs.Answers.{or_stop};
-ghost use Rattle.mig_bytes.specs.Bytes.{TakesBytes};
-ghost use Rattle.mig_bytes.specs.Faults.{RisesOnReadFault};
-ghost use Rattle.mig_bytes.specs.Fields.{le64};
-ghost use Rattle.mig_bytes.specs.Judged.{AgreesWithJudging};
-ghost use Rattle.mig_bytes.specs.declared.stop.Stop.TheVariants.{Memory};
+ghost use Rattle.mig_image.specs.Common.{or_stop, TakesBytes, RisesOnReadFault, le64, AgreesWithJudging, Memory, first_named, most_frames, most_width};
 ghost use Rattle.mig_bytes_form.specs.Form.{judged_as};
-ghost use Rattle.mig_bytes_form.specs.Tests.{first_named};
-ghost use Rattle.mig_pagetypes.specs.Limits.{most_frames};
-ghost use Rattle.mig_guest.specs.Hosts.{most_width};
 ghost use Rattle.mig_image.specs.Answer.{IsHost, ReadsHost, BeginsWithGuestImage};
 ghost use Rattle.mig_image.specs.GuestImageForm.{host_head_causes, frames_form, count_form, behind_head, host_at};
 ghost use Rattle.mig_image.specs.GuestImageParts.{opened};

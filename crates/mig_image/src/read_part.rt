@@ -1,17 +1,8 @@
 ghost use Rattle.std.specs.Prelude.{◌≡◌, ◌==◌, ◌+◌, ◌≤◌, ◌<◌, ⊤, OnOk, IfOk, IfNone, IsErrOf, length, None, if◌then◌else◌};
-ghost use Rattle.std.specs.List.{list_all};
+ghost use Rattle.mig_image.specs.Common.{list_all, TakesBytes, RisesOnReadFault, AgreesWithJudging, Memory, first_named, is_passed, most_policy_entries, IsValid, code_of_number, PartMap};
 ghost use Rattle.std.specs.FinMap as maps;
-ghost use Rattle.mig_bytes.specs.Bytes.{TakesBytes};
-ghost use Rattle.mig_bytes.specs.Faults.{RisesOnReadFault};
-ghost use Rattle.mig_bytes.specs.Judged.{AgreesWithJudging};
-ghost use Rattle.mig_bytes.specs.declared.stop.Stop.TheVariants.{Memory};
 ghost use Rattle.mig_bytes_form.specs.Form.{judged_as};
-ghost use Rattle.mig_bytes_form.specs.Tests.{first_named, is_passed};
 ghost use Rattle.mig_headers.specs.declared.kind.Kind.TheVariants.{Pv};
-ghost use Rattle.mig_headers.specs.RecordTypes.{most_policy_entries};
-ghost use Rattle.mig_guest.specs.Hosts.{IsValid};
-ghost use Rattle.mig_guest.specs.PartCodes.{code_of_number};
-ghost use Rattle.mig_guest.specs.Parts.{PartMap};
 ghost use Rattle.mig_image.specs.GuestImageForm.{part_causes, content_causes, full_policy, part_head_form, part_bytes_form, padding_form, host_part_form, host_parts_form};
 ghost use Rattle.mig_image.specs.GuestImageParts.{head_key, code_fits, code_allows, has_part_from};
 ghost use Rattle.mig_image.specs.PartCounts.{Counts};

@@ -1,16 +1,7 @@
 ghost use Rattle.std.specs.Prelude.{◌≡◌, ◌+◌, ◌≤◌, ◌<◌, ◌^◌, ℕ, List, Option, ◌++◌, ◌*◌, length, take, drop, codes};
-ghost use Rattle.std.specs.List.{flat_map};
+ghost use Rattle.mig_image.specs.Common.{flat_map, little_bytes, Puts, with_field, FaultHasCause, kind_number, pfn_limit, IsValid, entries_from, number_of};
 ghost use Rattle.std.specs.FinMap as maps;
 ghost use Rattle.std.specs.Option.{option_copied};
-ghost use Rattle.byteorder.specs.Endian.{little_bytes};
-ghost use Rattle.mig_bytes.specs.Bytes.{Puts};
-ghost use Rattle.mig_bytes.specs.Fields.{with_field};
-ghost use Rattle.mig_bytes.specs.Faults.{FaultHasCause};
-ghost use Rattle.mig_headers.specs.Headers.{kind_number};
-ghost use Rattle.mig_pagetypes.specs.Limits.{pfn_limit};
-ghost use Rattle.mig_guest.specs.Hosts.{IsValid};
-ghost use Rattle.mig_guest.specs.Frames.{entries_from};
-ghost use Rattle.mig_pagetypes.specs.PageTypes.{number_of};
 ghost use Rattle.mig_image.specs.declared.version.GuestImageVersion.TheVariants.{Two};
 ghost use Rattle.mig_image.specs.GuestImage.{frame_head_of, frame_text, is_left_out, part_head_of, part_text, guest_image, zero_flag};
 

@@ -1,8 +1,5 @@
 -- The frames of a batch are those of a PAGE_DATA, whose words are good.
-use Rattle.mig_legacy.proofs.Common.{◌≡◌, ℕ, ◌≤◌, Bool, true, false, cond, List, [], ◌∷◌, length, nat_le, Option, Some, None, Ok, Err, refl, sym, ap, subst, ◌∙◌, arith, length-append, ◌&&◌, ◌==◌, All, All-nil, All-cons, All-append, All-head, All-tail, Judged, ◌>>=◌, each, AgreesWithJudging, Passes, Stop, then_reads, Kind, Hvm, LegacyCause, rows_fine, GuestOf, word_type, legacy_type, placeholder, none_pass, entry_at, with_places, put_entries, FrameEntry, IsGoodWord, is_reserved, fault_of_batch, batch_rows, page_data_word, page_data_words_of, page_data_words, judged_as, words_form, batch_form, LegacyContent, Frames, put_in_guest}
-use Rattle.mig_bytes.specs.declared.stop.Stop.TheVariants.{Refused, ReadFault, Memory}
-use Rattle.mig_headers.specs.declared.fault.Cause.{Cause}
-use Rattle.mig_legacy.specs.Seen.{cut_short}
+use Rattle.mig_legacy.proofs.Common.{◌≡◌, ℕ, ◌≤◌, Bool, true, false, cond, List, [], ◌∷◌, length, nat_le, Option, Some, None, Ok, Err, refl, sym, ap, subst, ◌∙◌, arith, length-append, ◌&&◌, ◌==◌, All, All-nil, All-cons, All-append, All-head, All-tail, Judged, ◌>>=◌, each, AgreesWithJudging, Passes, Stop, then_reads, Kind, Hvm, LegacyCause, rows_fine, GuestOf, word_type, legacy_type, placeholder, none_pass, entry_at, with_places, put_entries, FrameEntry, IsGoodWord, is_reserved, fault_of_batch, batch_rows, page_data_word, page_data_words_of, page_data_words, judged_as, words_form, batch_form, LegacyContent, Frames, put_in_guest, Refused, ReadFault, Memory, Cause, cut_short}
 use Rattle.mig_legacy.proofs.Batches.{or_truncated, behind_words, batch_is}
 
 -- ---- the words

@@ -1,12 +1,7 @@
 -- A batch in numbers.
+use Rattle.mig_legacy.proofs.Common.{◌^◌, list_any_none, list_any, LegacyCause, first_place, first_word, batch_rows, IsTyped, IsFirstHigh, BatchesAreJudged}
 use Rattle.mig_legacy.proofs.ChunkCommon.{◌≡◌, ℕ, ◌<◌, ◌≤◌, Bool, true, false, List, [], ◌∷◌, Option, Some, None, refl, ap, subst, ◌∙◌, arith, common_steps, All, no_fault, rows_fine, BadPageType, WordHigh, legacy_type, IsFirst, place_is_first, none_pass, is_reserved, is_high, fault_of_batch}
-use Rattle.std.proofs.Common.{◌^◌}
-use Rattle.std.proofs.lemmas.List.Folds.{list_any_none}
-use Rattle.std.specs.List.{list_any}
 use Rattle.mig_headers.specs.Rows.{first_fault}
-use Rattle.mig_headers.specs.declared.legacy_fault.LegacyCause.{LegacyCause}
-use Rattle.mig_records.specs.Words.{first_place, first_word}
-use Rattle.mig_legacy.specs.Batches.{batch_rows, IsTyped, IsFirstHigh, BatchesAreJudged}
 
 typed : (w : ℕ) → is_reserved w ≡ false → IsTyped w
 typed w h = grind (arith, common_steps)

@@ -1,16 +1,9 @@
 -- The body of a batch: its form is judged as its words and then the entries of an image; what judging lets pass is spelled as
 -- the format says, and what is spelled so passes.
-use Rattle.mig_bytes_form.proofs.Joined.{then_is}
-use Rattle.mig_bytes_form.proofs.Tests.{computed_is}
-use Rattle.mig_legacy.proofs.Common.{said_passes, said_goes, ◌≡◌, ℕ, ◌+◌, ◌*◌, List, [], ◌∷◌, ◌++◌, Bool, true, false, cond, nat_lt, length, take, drop, Option, Some, None, refl, sym, ap, subst, ◌∙◌, append_assoc, All, list_any_none, Judged, ◌>>=◌, part, tried, each, Passes, Faulty, both_pass, same_passes, then_passes, no_fault, rows_fine, Hvm, LegacyCause, Truncated, words, none_pass, type_in_word, fault_of_level, fault_of_page, entry_at, type_in_guest, FrameEntry, AreEntries, is_reserved, is_high, batch_rows, fault_of_batch, page_data_words, word_pfn, judged_as, ◌>>>◌, each_form, Given, computed, first_named, plain_form, words_form, page_of_word, entry_form, batch_form, LegacyContent, Frames, IsLegacyWord, IsLegacyBatch}
-use Rattle.mig_headers.specs.declared.fault.Cause.{Cause}
+use Rattle.mig_legacy.proofs.Common.{said_passes, said_goes, ◌≡◌, ℕ, ◌+◌, ◌*◌, List, [], ◌∷◌, ◌++◌, Bool, true, false, cond, nat_lt, length, take, drop, Option, Some, None, refl, sym, ap, subst, ◌∙◌, append_assoc, All, list_any_none, Judged, ◌>>=◌, part, tried, each, Passes, Faulty, both_pass, same_passes, then_passes, no_fault, rows_fine, Hvm, LegacyCause, Truncated, words, none_pass, type_in_word, fault_of_level, fault_of_page, entry_at, type_in_guest, FrameEntry, AreEntries, is_reserved, is_high, batch_rows, fault_of_batch, page_data_words, word_pfn, judged_as, ◌>>>◌, each_form, Given, computed, first_named, plain_form, words_form, page_of_word, entry_form, batch_form, LegacyContent, Frames, IsLegacyWord, IsLegacyBatch, then_is, computed_is, Cause, word_has_data, level_of, PageType, page_at}
 use Rattle.mig_headers.specs.declared.fault.Cause.TheVariants.{Truncated as ImageTruncated}
-use Rattle.mig_pagetypes.specs.FrameWords.{word_has_data}
-use Rattle.mig_pagetypes.specs.PageTypes.{level_of}
-use Rattle.mig_pagetypes.specs.declared.page_type.PageType.{PageType}
 use Rattle.mig_pagetypes.specs.declared.page_type.PageType.TheVariants.{Notab}
 use Rattle.mig_restore_form.proofs.Batches.{each_entries, entries_go, entries_in_place}
-use Rattle.mig_restore_form.specs.Judging.{page_at}
 
 -- ---- pages, of which none is a table
 

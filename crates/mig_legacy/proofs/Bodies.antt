@@ -1,7 +1,5 @@
 -- The bodies of chunks: those that pass are those that are spelled.
-use Rattle.mig_bytes_form.proofs.Tests.{is_none, none_is}
-use Rattle.mig_bytes_form.proofs.Verdicts.{begins_passes, passes_is_spelled}
-use Rattle.mig_legacy.proofs.Common.{◌≡◌, ℕ, ◌+◌, ◌*◌, ◌/◌, ◌<◌, ◌≤◌, List, [], ◌++◌, length, take, drop, Option, Some, None, refl, sym, ap, subst, ◌∙◌, arith, take-append-drop, drop-drop, length-append, length-drop, length-take-le, flat_map, option_map, drop_at, take_at, le32, both_none, neither_some, LegacyCause, Truncated, BadToolstack, emulators_of, most_pairs, ChunkKind, End, Batch, VcpuMap, Tsc, LastCheckpoint, Toolstack, Param, toolstack, toolstack_fault, BeginsAs, SpelledAs, nothing, one_part, Given, NoneHolds, first_named, plain_form, max_causes, toolstack_causes, batch_form, vcpus_form, clock_of, clock_form, value_form, toolstack_form, content_form, pairs_of_toolstack, spelled_with, LegacyContent, LegacyChunk, store_records, store_key, Nothing, Frames, Value, Clock, Pairs, HasLegacyContent, StoreFits, IsCounted, pairs_of_physmap, Physmap, IsToolstack, vcpu_limit, most_body}
+use Rattle.mig_legacy.proofs.Common.{◌≡◌, ℕ, ◌+◌, ◌*◌, ◌/◌, ◌<◌, ◌≤◌, List, [], ◌++◌, length, take, drop, Option, Some, None, refl, sym, ap, subst, ◌∙◌, arith, take-append-drop, drop-drop, length-append, length-drop, length-take-le, flat_map, option_map, drop_at, take_at, le32, both_none, neither_some, LegacyCause, Truncated, BadToolstack, emulators_of, most_pairs, ChunkKind, End, Batch, VcpuMap, Tsc, LastCheckpoint, Toolstack, Param, toolstack, toolstack_fault, BeginsAs, SpelledAs, nothing, one_part, Given, NoneHolds, first_named, plain_form, max_causes, toolstack_causes, batch_form, vcpus_form, clock_of, clock_form, value_form, toolstack_form, content_form, pairs_of_toolstack, spelled_with, LegacyContent, LegacyChunk, store_records, store_key, Nothing, Frames, Value, Clock, Pairs, HasLegacyContent, StoreFits, IsCounted, pairs_of_physmap, Physmap, IsToolstack, vcpu_limit, most_body, is_none, none_is, begins_passes, passes_is_spelled}
 use Rattle.mig_legacy.specs.Spelled.HasLegacyContent.{ends, batch, vcpus, clock, last_checkpoint, toolstack as a_toolstack, value}
 use Rattle.mig_legacy.proofs.Batches.{batch_passes, batch_goes}
 use Rattle.mig_legacy.proofs.Parts.{not_less, not_most, said_spelled, spelled_said, spelled_counted, counted_spelled, toolstack_named, too_many}

@@ -1,6 +1,6 @@
 -- Each chunk is that of its number.
+use Rattle.mig_legacy.proofs.Common.{le-ltb, lt-ltb}
 use Rattle.std.proofs.Common.{ne_eqb, subst}
-use Rattle.std.proofs.lemmas.Bool.{le-ltb, lt-ltb}
 use Rattle.mig_legacy.proofs.ChunkCommon.{◌≡◌, ℕ, ◌<◌, ◌≤◌, Bool, true, false, List, [], ◌∷◌, nat_eq, cond, Some, Ok, refl, ap, ◌∙◌, arith, eqb-true, AllByRecursion, negative, param_chunks, second_of, IsParamChunk, IsNumberOf, kind_of, NumbersHaveKinds, IsWithinLimits, ChunkKind, End, Batch, VcpuMap, Tsc, LastCheckpoint, Toolstack, Param}
 
 batch_kind : (number : ℕ) → 0 < number → number ≤ 1024 → kind_of number ≡ Ok (Batch number)

@@ -1,10 +1,6 @@
 -- Chunks: those that pass are those that are spelled.
-use Rattle.mig_bytes_form.proofs.Joined.{begins_then, then_begins, begins_gives, gives_begins}
-use Rattle.mig_bytes_form.proofs.Tests.{append_named, is_none, none_is}
-use Rattle.mig_bytes_form.proofs.Verdicts.{begins_passes, passes_is_spelled}
-use Rattle.mig_legacy.proofs.Common.{◌≡◌, ℕ, ◌≤◌, ◌<◌, Bool, true, false, cond, List, ◌++◌, length, not, Option, Some, None, Ok, Err, refl, sym, ap, subst, ◌∙◌, arith, append_assoc, length-append, [], ◌∷◌, ◌||◌, common_steps, list_any-append, le32, placed, Passes, placed_passes, Found, Chunk, placed_chunk, both_none, neither_some, false≢true, Hvm, LegacyCause, sent, ChunkKind, End, number_causes, kind_numbered, unless_caused, kind_of, IsNumberOf, most_chunks, frames_sent, place_causes, type_form, content_form, chunk_form, judged_as, ◌>>>◌, SpelledAs, Given, first_named, NoneHolds, LegacyChunk, is_end, is_legacy_ended, has_value, image_records, IsLegacyComplete, FollowsLegacy, Test, FormOf, LegacyContent, option_or}
+use Rattle.mig_legacy.proofs.Common.{◌≡◌, ℕ, ◌≤◌, ◌<◌, Bool, true, false, cond, List, ◌++◌, length, not, Option, Some, None, Ok, Err, refl, sym, ap, subst, ◌∙◌, arith, append_assoc, length-append, [], ◌∷◌, ◌||◌, common_steps, list_any-append, le32, placed, Passes, placed_passes, Found, Chunk, placed_chunk, both_none, neither_some, false≢true, Hvm, LegacyCause, sent, ChunkKind, End, number_causes, kind_numbered, unless_caused, kind_of, IsNumberOf, most_chunks, frames_sent, place_causes, type_form, content_form, chunk_form, judged_as, ◌>>>◌, SpelledAs, Given, first_named, NoneHolds, LegacyChunk, is_end, is_legacy_ended, has_value, image_records, IsLegacyComplete, FollowsLegacy, Test, FormOf, LegacyContent, option_or, begins_then, then_begins, begins_gives, gives_begins, append_named, is_none, none_is, begins_passes, passes_is_spelled, most_frames}
 use Rattle.std.specs.FinMap as maps
-use Rattle.mig_pagetypes.specs.Limits.{most_frames}
 use Rattle.mig_legacy.proofs.Bodies.{body_says, body_goes}
 use Rattle.mig_legacy.proofs.Chunked.{chunk_of}
 use Rattle.mig_legacy.proofs.Parts.{not_less, not_most, said_spelled, spelled_said}

@@ -1,7 +1,6 @@
 -- A chunk as the reader takes it: its type, its body, and what was kept once it is counted.
 use Rattle.std.proofs.Math.Bool.{or-false}
-use Rattle.mig_bytes_form.proofs.Joined.{then_is, then_judged}
-use Rattle.mig_legacy.proofs.Common.{◌≡◌, ℕ, ◌+◌, List, [], ◌∷◌, ◌++◌, refl, sym, ap, ◌∙◌, length-append, ◌||◌, flat_map-append, list_any-append, fold-append, Judged, ◌>>=◌, Passes, Hvm, LegacyCause, sent, put_record, empty_guest, put_libxl_content, no_emulators, emulators_of, judged_as, ◌>>>◌, Given, type_form, content_form, chunk_form, LegacyContent, LegacyChunk, is_value_of, has_value, records_in, pair_records, image_records, store_records, put_in_guest, put_in_emulators, IsLegacySeen, TakesLegacy, ChunkKind, ChunksSeen}
+use Rattle.mig_legacy.proofs.Common.{◌≡◌, ℕ, ◌+◌, List, [], ◌∷◌, ◌++◌, refl, sym, ap, ◌∙◌, length-append, ◌||◌, flat_map-append, list_any-append, fold-append, Judged, ◌>>=◌, Passes, Hvm, LegacyCause, sent, put_record, empty_guest, put_libxl_content, no_emulators, emulators_of, judged_as, ◌>>>◌, Given, type_form, content_form, chunk_form, LegacyContent, LegacyChunk, is_value_of, has_value, records_in, pair_records, image_records, store_records, put_in_guest, put_in_emulators, IsLegacySeen, TakesLegacy, ChunkKind, ChunksSeen, then_is, then_judged}
 use Rattle.std.proofs.Common.{fold, append-nil}
 
 abbrev pub chunk_of : ChunkKind → LegacyContent → LegacyChunk

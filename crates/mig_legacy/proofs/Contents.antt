@@ -1,7 +1,5 @@
 -- What the body of a batch, or of a toolstack, makes of what a reader keeps: it leaves the emulators, or the guest, as they were.
-use Rattle.mig_bytes_form.proofs.Verdicts.{passes_is_spelled}
-use Rattle.mig_legacy.proofs.Common.{◌≡◌, ℕ, List, Option, Some, None, Result, Ok, Err, refl, sym, subst, ◌∙◌, Judged, Passes, AgreesWithJudging, Stop, LegacyCause, ChunkKind, Batch, Toolstack, ChunksSeen, EmulatorsOf, GuestOf, emulators_of, judged_as, toolstack_causes, pairs_of_toolstack, batch_form, toolstack_form, content_form, LegacyContent, LegacyChunk, Pairs, store_records, put_in_guest, put_in_emulators, TakesLegacy, most_body}
-use Rattle.mig_bytes.specs.declared.stop.Stop.TheVariants.{Refused, ReadFault, Memory}
+use Rattle.mig_legacy.proofs.Common.{◌≡◌, ℕ, List, Option, Some, None, Result, Ok, Err, refl, sym, subst, ◌∙◌, Judged, Passes, AgreesWithJudging, Stop, LegacyCause, ChunkKind, Batch, Toolstack, ChunksSeen, EmulatorsOf, GuestOf, emulators_of, judged_as, toolstack_causes, pairs_of_toolstack, batch_form, toolstack_form, content_form, LegacyContent, LegacyChunk, Pairs, store_records, put_in_guest, put_in_emulators, TakesLegacy, most_body, passes_is_spelled, Refused, ReadFault, Memory}
 use Rattle.mig_legacy.proofs.Batches.{batch_passes}
 use Rattle.mig_legacy.proofs.Parts.{spelled_counted}
 

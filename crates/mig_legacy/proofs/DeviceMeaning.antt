@@ -1,12 +1,10 @@
 -- What the device model's data mean: of each key of its store the last value decides; and all parts of the guest.
-use Rattle.mig_restore_form.proofs.PartsInOrder.{or_none}
-use Rattle.mig_legacy.proofs.Common.{◌≡◌, ◌≢◌, ℕ, Bool, true, false, cond, List, [], ◌∷◌, ◌++◌, Option, Some, None, nat_eq, refl, sym, ap, subst, ◌∙◌, append_assoc, eq-eqb, fold, option_and_then, unwrap_or, option_map, option_or, append-nil, fold-append, Pair, part_cmp, PartKey, part_total, part_exact, PairMap, put_pair, put_pairs, text_of_map, same_key, last_bytes, part_ties, EmulatorsOf, no_emulators, store_at, add_pairs, put_libxl_content, emulators_of, last_context, part_there, LegacyContent, LegacyChunk, LegacyTail, LegacyStream, param_key, store_key, device_key, pair_records, device_records, store_records, guest_without, device_model, mean_legacy, Value, Pairs, parts_in, parts_of_chunks, parts_of_tail, parts_told, tail_value, last_value, toolstack_pairs, pairs_of_chunks, store_of}
+use Rattle.mig_legacy.proofs.Common.{◌≡◌, ◌≢◌, ℕ, Bool, true, false, cond, List, [], ◌∷◌, ◌++◌, Option, Some, None, nat_eq, refl, sym, ap, subst, ◌∙◌, append_assoc, eq-eqb, fold, option_and_then, unwrap_or, option_map, option_or, append-nil, fold-append, Pair, part_cmp, PartKey, part_total, part_exact, PairMap, put_pair, put_pairs, text_of_map, same_key, last_bytes, part_ties, EmulatorsOf, no_emulators, store_at, add_pairs, put_libxl_content, emulators_of, last_context, part_there, LegacyContent, LegacyChunk, LegacyTail, LegacyStream, param_key, store_key, device_key, pair_records, device_records, store_records, guest_without, device_model, mean_legacy, Value, Pairs, parts_in, parts_of_chunks, parts_of_tail, parts_told, tail_value, last_value, toolstack_pairs, pairs_of_chunks, store_of, or_none, last_context_is, last_value_is}
 use Rattle.std.specs.FinMap as maps
 use Rattle.mig_guest.proofs.KeyedMaps.{tied, insert_gives}
 use Rattle.mig_libxl_form.specs.Content.{LibxlRecord}
 use Rattle.mig_libxl_form.specs.Content.LibxlContent.{Pairs as StorePairs}
 use Rattle.mig_policy.specs.PairMaps.{last_pair_value as last_pair}
-use Rattle.mig_libxl_form.proofs.EmulatorMeaning.{last_context_is, last_value_is}
 use Rattle.mig_legacy.proofs.Meaning.{without_part, last_join, tail_said, values_said}
 
 abbrev all_put : EmulatorsOf → List LibxlRecord → EmulatorsOf

@@ -1,5 +1,5 @@
 -- Fields of bytes of which others follow.
-use Rattle.mig_headers.proofs.ContextTexts.{byte_in, in32}
+use Rattle.mig_legacy.proofs.Common.{byte_in, in32}
 use Rattle.mig_legacy.proofs.ChunkCommon.{◌≡◌, ℕ, ◌+◌, ◌≤◌, List, ◌++◌, length, take, drop, refl, sym, ap, ◌∙◌, arith, length-take-le, take-append-drop, le32, le64}
 
 pub in64 : (head xs : List ℕ) (k : ℕ) → k + 8 ≤ length head → le64 (head ++ xs) k ≡ le64 head k

@@ -1,13 +1,9 @@
 -- The pairs of a toolstack's data are of bytes where the data are, and leave emulators well formed.
-use Rattle.mig_legacy.proofs.Common.{◌≡◌, ℕ, ◌<◌, ◌≤◌, true, List, [], ◌∷◌, ◌++◌, Option, Some, None, refl, sym, ap, subst, arith, get_or, eqb-true, common_steps, flat_map, All, All-nil, All-cons, All-append, All-head, All-tail, AreBytes, Pair, pairs_kept, EmulatorsOf, add_pairs, AreEmulators, most_pairs, spelled_with, store_key, pairs_of_physmap, Physmap, IsToolstack}
+use Rattle.mig_legacy.proofs.Common.{◌≡◌, ℕ, ◌<◌, ◌≤◌, true, List, [], ◌∷◌, ◌++◌, Option, Some, None, refl, sym, ap, subst, arith, get_or, eqb-true, common_steps, flat_map, All, All-nil, All-cons, All-append, All-head, All-tail, AreBytes, Pair, pairs_kept, EmulatorsOf, add_pairs, AreEmulators, most_pairs, spelled_with, store_key, pairs_of_physmap, Physmap, IsToolstack, passes_at_first, ◌==◌, spelled_read, bytes_front, bytes_back}
 use Rattle.std.specs.List.{AllByRecursion}
 use Rattle.std.specs.Prelude.{codes}
 use Rattle.std.proofs.lemmas.List.Elements.{All-from_recursion, All-get_or, All-weaker}
-use Rattle.std.proofs.lemmas.List.Sums.{passes_at_first}
-use Rattle.std.specs.Prelude.{◌==◌}
 use Rattle.mig_headers.specs.Pairs.{IsPair, is_key_byte, text_of_pair}
-use Rattle.mig_policy.proofs.KeyLaws.{spelled_read}
-use Rattle.mig_records.proofs.BodyBytes.{bytes_front, bytes_back}
 use Rattle.mig_legacy.specs.Texts.{digit_value, hexadecimal, name_pairs, physmap_pair}
 use Rattle.mig_legacy.specs.Toolstack.{ArePhysmaps, name_bytes}
 use Rattle.mig_legacy.proofs.Digits.{digits_spell}

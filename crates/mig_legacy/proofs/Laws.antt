@@ -1,6 +1,5 @@
 -- What judging accepts is what is spelled as a legacy stream.
-use Rattle.mig_bytes.proofs.Joins.{passes_not}
-use Rattle.mig_legacy.proofs.Common.{◌≡◌, ◌⊎◌, ℕ, List, ◌++◌, refl, sym, ap, subst, ◌∙◌, inl, inr, Judged, placed, Passes, Faulty, both_pass, placed_passes, same_passes, then_passes, LegacyCause, LegacyPlace, Start, Tail, Device, GuestOf, judged_as, start_form, tail_form, device_at, LegacyStream, is_legacy_ended, mean_legacy, FollowsLegacy, IsLegacy, AcceptedLegacy, chunks_at, legacy_at, placed_chunk, IsLegacyRefused, accepted_spelled, spelled_accepted}
+use Rattle.mig_legacy.proofs.Common.{◌≡◌, ◌⊎◌, ℕ, List, ◌++◌, refl, sym, ap, subst, ◌∙◌, inl, inr, Judged, placed, Passes, Faulty, both_pass, placed_passes, same_passes, then_passes, LegacyCause, LegacyPlace, Start, Tail, Device, GuestOf, judged_as, start_form, tail_form, device_at, LegacyStream, is_legacy_ended, mean_legacy, FollowsLegacy, IsLegacy, AcceptedLegacy, chunks_at, legacy_at, placed_chunk, IsLegacyRefused, accepted_spelled, spelled_accepted, passes_not}
 use Rattle.mig_legacy.proofs.ChunkTexts.{finds, goes, not_ended}
 use Rattle.mig_legacy.proofs.Streams.{stream_of, behind_tail, behind_chunks, behind_start}
 use Rattle.mig_legacy.proofs.TailTexts.{start_passes, start_goes, tail_passes, tail_goes, device_passes, device_goes}

@@ -1,7 +1,5 @@
 -- What chunks and the tail mean: of each frame number the last entry decides, of each part the last that says it.
-use Rattle.mig_libxl_form.proofs.EmulatorMeaning.{either_of}
-use Rattle.mig_restore_form.proofs.PartsInOrder.{or_none}
-use Rattle.mig_legacy.proofs.Common.{◌≡◌, ℕ, cond, List, [], ◌∷◌, ◌++◌, Some, None, refl, sym, ap, ◌∙◌, arith, append_assoc, fold, option_and_then, option_or, common_steps, append-nil, fold-append, Hvm, GuestOf, part_cmp, PartKey, sent, mean, put_record, empty_guest, entries_of, last_entry, frame_in, same_key, last_bytes, StreamRecord, last_entry_is, parts_got, sent_kind, LegacyContent, LegacyChunk, LegacyTail, LegacyStream, param_key, records_in, tail_records, image_records, guest_without, mean_legacy, Frames, Value, batch_entries, entries_of_chunks, parts_in, parts_of_chunks, parts_of_tail, parts_told, tail_value, value_in, last_value}
+use Rattle.mig_legacy.proofs.Common.{◌≡◌, ℕ, cond, List, [], ◌∷◌, ◌++◌, Some, None, refl, sym, ap, ◌∙◌, arith, append_assoc, fold, option_and_then, option_or, common_steps, append-nil, fold-append, Hvm, GuestOf, part_cmp, PartKey, sent, mean, put_record, empty_guest, entries_of, last_entry, frame_in, same_key, last_bytes, StreamRecord, last_entry_is, parts_got, sent_kind, LegacyContent, LegacyChunk, LegacyTail, LegacyStream, param_key, records_in, tail_records, image_records, guest_without, mean_legacy, Frames, Value, batch_entries, entries_of_chunks, parts_in, parts_of_chunks, parts_of_tail, parts_told, tail_value, value_in, last_value, either_of, or_none}
 use Rattle.std.specs.FinMap as maps
 use Rattle.mig_guest.specs.Parts.{Part, put_part, put_parts}
 use Rattle.mig_pvtables.proofs.HvmGuests.{hvm_blank}

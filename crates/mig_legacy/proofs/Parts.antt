@@ -1,9 +1,5 @@
 -- Parts of a legacy stream: how they are spelled, and that a length and as many bytes are judged one after the other.
-use Rattle.mig_bytes_form.proofs.Joined.{then_judged}
-use Rattle.mig_bytes_form.proofs.Tests.{append_named, computed_is}
-use Rattle.std.proofs.lemmas.Bool.{cases_eq, cases_lt}
-use Rattle.std.specs.Result.{IsErrAnd}
-use Rattle.mig_legacy.proofs.Common.{◌≡◌, ℕ, ◌<◌, ◌≤◌, Bool, true, false, List, ◌∷◌, [], length, Option, Some, Result, Ok, Err, inl, inr, refl, sym, ap, subst, ◌∙◌, arith, append-nil, le32, Judged, ◌>>=◌, AgreesWithJudging, Stop, stopped, then_reads, LegacyCause, Truncated, BadToolstack, TooManyPairs, toolstack_fault, option_or, option_map, judged_as, ◌>>>◌, SpelledAs, nothing, one_part, Given, Test, Less, computed, first_named, NoneHolds, said_form, length_causes, length_form, counted_form, toolstack_causes, most_pairs, spelled_with, EmulatorsOf, store_key, pairs_of_toolstack, IsCounted}
+use Rattle.mig_legacy.proofs.Common.{◌≡◌, ℕ, ◌<◌, ◌≤◌, Bool, true, false, List, ◌∷◌, [], length, Option, Some, Result, Ok, Err, inl, inr, refl, sym, ap, subst, ◌∙◌, arith, append-nil, le32, Judged, ◌>>=◌, AgreesWithJudging, Stop, stopped, then_reads, LegacyCause, Truncated, BadToolstack, TooManyPairs, toolstack_fault, option_or, option_map, judged_as, ◌>>>◌, SpelledAs, nothing, one_part, Given, Test, Less, computed, first_named, NoneHolds, said_form, length_causes, length_form, counted_form, toolstack_causes, most_pairs, spelled_with, EmulatorsOf, store_key, pairs_of_toolstack, IsCounted, then_judged, append_named, computed_is, cases_eq, cases_lt, IsErrAnd}
 
 -- ---- what doesn't hold
 

@@ -1,8 +1,5 @@
 -- What stands before the chunks and behind them: what passes is what is spelled.
-use Rattle.mig_bytes_form.proofs.Joined.{bytes_spelled}
-use Rattle.mig_bytes_form.proofs.Tests.{computed_is, is_none, none_is}
-use Rattle.mig_bytes_form.proofs.Verdicts.{passes_is_spelled, spelled_passes}
-use Rattle.mig_legacy.proofs.Common.{◌≡◌, ℕ, ◌-◌, ◌<◌, List, [], ◌∷◌, ◌++◌, length, take, drop, Option, Some, None, Result, Ok, Err, inl, inr, refl, sym, ap, subst, ◌∙◌, arith, append_assoc, take-append-drop, drop-drop, length-append, length-drop, length-take-le, drop_at, take_at, le32, Passes, same_passes, contexts_are_spelled, cut_at, scan, ContextFault, LegacyCause, Truncated, BadContext, context_fault, cut_context, tail_of, signature, judged_as, SpelledAs, one_part, Test, NoneHolds, computed, start_causes, signature_causes, start_form, tail_form, device_form, counted_form, device_at, LegacyTail, IsStart, IsTail, IsDevice, most_body}
+use Rattle.mig_legacy.proofs.Common.{◌≡◌, ℕ, ◌-◌, ◌<◌, List, [], ◌∷◌, ◌++◌, length, take, drop, Option, Some, None, Result, Ok, Err, inl, inr, refl, sym, ap, subst, ◌∙◌, arith, append_assoc, take-append-drop, drop-drop, length-append, length-drop, length-take-le, drop_at, take_at, le32, Passes, same_passes, contexts_are_spelled, cut_at, scan, ContextFault, LegacyCause, Truncated, BadContext, context_fault, cut_context, tail_of, signature, judged_as, SpelledAs, one_part, Test, NoneHolds, computed, start_causes, signature_causes, start_form, tail_form, device_form, counted_form, device_at, LegacyTail, IsStart, IsTail, IsDevice, most_body, bytes_spelled, computed_is, is_none, none_is, passes_is_spelled, spelled_passes}
 use Rattle.std.specs.Str.{bytes_eq}
 use Rattle.std.proofs.lemmas.Slice.Eq.{bytes_eq-Decides}
 use Rattle.mig_legacy.proofs.Parts.{not_other, not_untrue, said_spelled, spelled_counted, counted_spelled}

@@ -1,11 +1,8 @@
 -- The tail: how it is read, and that a guest with it is whole.
-use Rattle.mig_records.proofs.Kept.{cut_is}
-use Rattle.mig_legacy.proofs.Common.{◌≡◌, ℕ, ◌<◌, ◌≤◌, List, length, take, drop, Option, Result, Ok, Err, refl, sym, ap, subst, ◌∙◌, arith, length-take-le, length-drop, IsOk, IfOk, IsSome, replicate, false≢true, All-append, All-take, All-drop, All-replicate, AreBytes, Judged, ◌>>=◌, part, tried, AgreesWithJudging, said_at, Passes, Stop, then_reads, scan, cut_at, ContextFault, Hvm, LegacyCause, Truncated, IsCut, width_of, GuestOf, context_key, PartKey, part_total, blank_of, IsBegun, IsStreamedBare, judged_as, Test, computed, length_form, counted_form, context_fault, cut_context, tail_of, tail_form, LegacyTail, param_key, put_tail, most_body}
+use Rattle.mig_legacy.proofs.Common.{◌≡◌, ℕ, ◌<◌, ◌≤◌, List, length, take, drop, Option, Result, Ok, Err, refl, sym, ap, subst, ◌∙◌, arith, length-take-le, length-drop, IsOk, IfOk, IsSome, replicate, false≢true, All-append, All-take, All-drop, All-replicate, AreBytes, Judged, ◌>>=◌, part, tried, AgreesWithJudging, said_at, Passes, Stop, then_reads, scan, cut_at, ContextFault, Hvm, LegacyCause, Truncated, IsCut, width_of, GuestOf, context_key, PartKey, part_total, blank_of, IsBegun, IsStreamedBare, judged_as, Test, computed, length_form, counted_form, context_fault, cut_context, tail_of, tail_form, LegacyTail, param_key, put_tail, most_body, cut_is, IsFew, computed_is}
 use Rattle.std.specs.FinMap as maps
-use Rattle.mig_guest.specs.Frames.{IsFew}
 use Rattle.mig_restore_form.proofs.Laws.{complete_faultless}
 use Rattle.mig_legacy.proofs.Growth.{part_grows, param_part, context_part}
-use Rattle.mig_bytes_form.proofs.Tests.{computed_is}
 use Rattle.mig_legacy.proofs.Parts.{behind_length, counted_is}
 use Rattle.mig_legacy.proofs.Taking.{behind, part_set}
 

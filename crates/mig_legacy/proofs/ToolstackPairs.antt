@@ -1,7 +1,6 @@
 -- What the data of a toolstack add to the device model's store.
-use Rattle.mig_legacy.proofs.Common.{◌≡◌, ℕ, ◌≤◌, ◌<◌, List, length, nat_lt, true, false, Some, None, refl, sym, ap, subst, ◌∙◌, lt-ltb, le-ltb, TooManyPairs, pairs_fault, pairs_in, put_pairs, text_of_map, EmulatorsOf, store_at, add_pairs, most_pairs, toolstack, toolstack_fault, pairs_of_toolstack, first_named, toolstack_causes, spelled_with, store_key, Pairs, put_in_emulators, text_of_physmaps}
+use Rattle.mig_legacy.proofs.Common.{◌≡◌, ℕ, ◌≤◌, ◌<◌, List, length, nat_lt, true, false, Some, None, refl, sym, ap, subst, ◌∙◌, lt-ltb, le-ltb, TooManyPairs, pairs_fault, pairs_in, put_pairs, text_of_map, EmulatorsOf, store_at, add_pairs, most_pairs, toolstack, toolstack_fault, pairs_of_toolstack, first_named, toolstack_causes, spelled_with, store_key, Pairs, put_in_emulators, text_of_physmaps, spelled_read}
 use Rattle.mig_legacy.proofs.Parts.{toolstack_named}
-use Rattle.mig_policy.proofs.KeyLaws.{spelled_read}
 use Rattle.mig_legacy.proofs.PhysmapPairs.{physmaps_spell}
 
 module _ (e : EmulatorsOf) (body text : List ℕ) (none : toolstack_fault body ≡ None) (is : text ≡ text_of_physmaps (toolstack body)) where

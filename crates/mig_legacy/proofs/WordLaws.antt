@@ -1,15 +1,10 @@
 -- What the words of a batch say, and the words of a PAGE_DATA that say the same.
+use Rattle.mig_legacy.proofs.Common.{◌*◌, ◌^◌, ◌⊎◌, inl, inr, rules, word_of, legacy_pfn, legacy_word, placeholder, word_with, number_of, type_of, PageType, page_data_word, IsTyped}
 use Rattle.mig_legacy.proofs.ChunkCommon.{◌≡◌, ℕ, ◌+◌, ◌<◌, ◌≤◌, Bool, true, false, cond, List, [], ◌∷◌, Option, Some, None, nat_eq, refl, sym, ap, subst, ◌∙◌, arith, common_steps, All, legacy_type, fault_of_batch, page_data_words_of}
-use Rattle.std.proofs.Common.{◌*◌, ◌^◌, ◌⊎◌, inl, inr, rules}
 use Rattle.std.specs.Prelude.{nat_le}
-use Rattle.mig_pagetypes.specs.FrameWords.{word_of}
-use Rattle.mig_pagetypes.specs.LegacyWords.{legacy_pfn, legacy_word, placeholder, word_with}
-use Rattle.mig_pagetypes.specs.PageTypes.{number_of, type_of}
 use Rattle.mig_pagetypes.specs.declared.frame_word.FrameWord.{FrameWord}
 use Rattle.mig_pagetypes.specs.declared.legacy_word.LegacyWord.{LegacyWord}
 use Rattle.mig_pagetypes.specs.declared.legacy_word.LegacyWord.TheVariants.{Placeholder, Word, High}
-use Rattle.mig_pagetypes.specs.declared.page_type.PageType.{PageType}
-use Rattle.mig_legacy.specs.Batches.{page_data_word, IsTyped}
 use Rattle.mig_legacy.specs.WordsSaid.{SaysFrame, WordsSayFrames}
 use Rattle.mig_legacy.proofs.BatchLaws.{batches_judged}
 

@@ -1,11 +1,6 @@
 -- The words of a batch of pages in a legacy stream (Xen's xg_save_restore.h), and what is wrong with them.
 use Rattle.std.specs.Prelude.{◌≡◌, ◌≤◌, ◌<◌, ◌↔◌, ◌⊎◌, ℕ, ◌^◌, Bool, false, List, [], ◌∷◌, length, Option, Some, None, ◌&&◌, ◌==◌, ◌+◌, ◌*◌, nat_le, slice_index, if◌then◌else◌}
-use Rattle.std.specs.List.{All, list_any, flat_map}
-use Rattle.mig_headers.specs.Rows.{first_fault}
-use Rattle.mig_headers.specs.declared.legacy_fault.LegacyCause.{LegacyCause}
-use Rattle.mig_headers.specs.declared.legacy_fault.LegacyCause.TheVariants.{BadPageType, WordHigh}
-use Rattle.mig_pagetypes.specs.LegacyWords.{legacy_type, legacy_pfn, placeholder}
-use Rattle.mig_records.specs.Words.{IsFirst, first_place, first_word}
+use Rattle.mig_legacy.specs.Common.{All, list_any, flat_map, first_fault, LegacyCause, BadPageType, WordHigh, legacy_type, legacy_pfn, placeholder, IsFirst, first_place, first_word}
 
 -- the type in the word is a reserved one, 5 to 8
 abbrev pub is_reserved : ℕ → Bool

@@ -1,11 +1,8 @@
 -- The types of a legacy stream's chunks (Xen's xg_save_restore.h): a number of 4 bytes, low byte first, of which the upper
 -- half is negative.
 use Rattle.std.specs.Prelude.{⊤, ◌≡◌, ◌≤◌, ◌<◌, ℕ, ◌-◌, ◌^◌, List, [], ◌∷◌, Option, Some, None, Result, Ok, Err, ◌==◌, nat_lt, if◌then◌else◌}
-use Rattle.mig_bytes_form.specs.Tests.{Test, first_named}
+use Rattle.mig_legacy.specs.Common.{Test, first_named, LegacyCause, VerifyOrPv, Tmem, Compressed, UnknownChunk, BatchTooLarge, vcpu_limit}
 use Rattle.mig_bytes_form.specs.Tests.Test.{Less, Equal, Either}
-use Rattle.mig_headers.specs.declared.legacy_fault.LegacyCause.{LegacyCause}
-use Rattle.mig_headers.specs.declared.legacy_fault.LegacyCause.TheVariants.{VerifyOrPv, Tmem, Compressed, UnknownChunk, BatchTooLarge}
-use Rattle.mig_headers.specs.RecordTypes.{vcpu_limit}
 use Rattle.mig_legacy.specs.declared.chunk.ChunkKind.{ChunkKind}
 use Rattle.mig_legacy.specs.declared.chunk.ChunkKind.TheVariants.{End, Batch, VcpuMap, Tsc, LastCheckpoint, Toolstack, Param}
 

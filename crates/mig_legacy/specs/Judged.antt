@@ -1,8 +1,6 @@
 -- The data of the toolstack, judged field by field.
 use Rattle.std.specs.Prelude.{◌≡◌, ℕ, zero, suc, ◌+◌, Bool, List, [], ◌∷◌, length, take, drop, Option, Some, None, ◌==◌, ◌||◌, not, nat_lt, if◌then◌else◌}
-use Rattle.std.specs.List.{position_or_len}
-use Rattle.mig_bytes.specs.Fields.{le32, le64}
-use Rattle.mig_headers.specs.Rows.{first_fault}
+use Rattle.mig_legacy.specs.Common.{position_or_len, le32, le64, first_fault}
 use Rattle.mig_legacy.specs.Toolstack.{Physmap, IsToolstack}
 
 -- no bytes, or the first zero is the last byte

@@ -1,20 +1,12 @@
 -- The chunks and the tail of a legacy stream, and the guest that they mean: that of a libxl stream whose records say the
 -- same (Xen's xg_save_restore.h; libxc migration stream; libxl migration stream).
 use Rattle.std.specs.Prelude.{ℕ, Bool, true, false, List, [], ◌∷◌, ◌++◌, Option, Some, None, ◌==◌}
-use Rattle.std.specs.List.{flat_map, list_any}
-use Rattle.mig_headers.specs.Pairs.{Pair}
-use Rattle.mig_headers.specs.declared.kind.Kind.TheVariants.{Hvm}
-use Rattle.mig_guest.specs.Guests.{GuestOf}
-use Rattle.mig_guest.specs.PartKeys.{context_key}
+use Rattle.mig_legacy.specs.Common.{flat_map, list_any, Pair, Hvm, GuestOf, context_key, PartKey, mean, FrameEntry, StreamRecord, EmulatorsOf, emulators_of, with_emulators}
 use Rattle.mig_guest.specs.declared.part_code.PartCode.TheVariants.{Tsc, HvmParam, HvmContext}
-use Rattle.mig_guest.specs.declared.part_key.PartKey.{PartKey}
 use Rattle.mig_guest.specs.Parts.{Part}
-use Rattle.mig_restore_form.specs.Mean.{mean}
-use Rattle.mig_restore_form.specs.Record.{FrameEntry, StreamRecord}
 use Rattle.mig_restore_form.specs.Record.Content.{Frames as SentFrames, Sets}
 use Rattle.mig_libxl_form.specs.Content.{LibxlRecord}
 use Rattle.mig_libxl_form.specs.Content.LibxlContent.{Pairs as StorePairs, Context}
-use Rattle.mig_libxl_form.specs.Emulators.{EmulatorsOf, emulators_of, with_emulators}
 use Rattle.mig_legacy.specs.declared.chunk.ChunkKind.{ChunkKind}
 use Rattle.mig_legacy.specs.declared.chunk.ChunkKind.TheVariants as kinds
 

@@ -1,30 +1,14 @@
 -- The form of a legacy stream (Xen's xg_save_restore.h): its parts in byte order, and in each the causes that may stand in it, in
 -- the order of their numbers.
 use Rattle.std.specs.Prelude.{ℕ, ◌+◌, ◌*◌, ◌/◌, ◌-◌, ◌^◌, Bool, List, [], ◌∷◌, ◌++◌, length, take, drop, Option, Some, None, Result, Ok, Err, codes, not, if◌then◌else◌}
-use Rattle.std.specs.List.{flat_map}
-use Rattle.std.specs.Option.{option_map}
+use Rattle.mig_legacy.specs.Common.{flat_map, option_map, le32, be64, Test, computed, scan, cut_at, marker, libxl_ident, Pair, most_body, vcpu_limit, Hvm, LegacyCause, Truncated, Modern, Tools32, BadVcpuMax, BadToolstack, UnpairedIoreq, BadContext, BadSignature, TooManyChunks, TooManyFrames, BodyTooLong, TooManyPairs, word_has_data, word_pfn, most_frames, words, sent, FrameEntry, EmulatorsOf, emulators_of, spelled_with, most_pairs}
 use Rattle.std.specs.FinMap as maps
 use Rattle.std.specs.Str.{bytes_eq}
-use Rattle.mig_bytes.specs.Fields.{le32, be64}
 use Rattle.mig_bytes_form.specs.Form.{FormOf, ◌>>>◌, bytes_form, said_form, each_form}
 use Rattle.mig_bytes_form.specs.Form.FormOf.{Gives, Part}
-use Rattle.mig_bytes_form.specs.Tests.{Test, computed}
 use Rattle.mig_bytes_form.specs.Tests.Test.{Less, AtMost, Equal, Is, Not, Both, Either}
-use Rattle.mig_headers.specs.Contexts.{scan, cut_at}
-use Rattle.mig_headers.specs.Headers.{marker, libxl_ident}
-use Rattle.mig_headers.specs.Pairs.{Pair}
-use Rattle.mig_headers.specs.RecordTypes.{most_body, vcpu_limit}
 use Rattle.mig_headers.specs.declared.fault.ContextFault.{ContextFault}
-use Rattle.mig_headers.specs.declared.kind.Kind.TheVariants.{Hvm}
-use Rattle.mig_headers.specs.declared.legacy_fault.LegacyCause.{LegacyCause}
-use Rattle.mig_headers.specs.declared.legacy_fault.LegacyCause.TheVariants.{Truncated, Modern, Tools32, BadVcpuMax, BadToolstack, UnpairedIoreq, BadContext, BadSignature, TooManyChunks, TooManyFrames, BodyTooLong, TooManyPairs}
-use Rattle.mig_pagetypes.specs.FrameWords.{word_has_data, word_pfn}
-use Rattle.mig_pagetypes.specs.Limits.{most_frames}
-use Rattle.mig_records.specs.Words.{words}
 use Rattle.mig_restore_form.specs.Judging.{type_in_word}
-use Rattle.mig_restore_form.specs.Mean.{sent}
-use Rattle.mig_restore_form.specs.Record.{FrameEntry}
-use Rattle.mig_libxl_form.specs.Emulators.{EmulatorsOf, emulators_of, spelled_with}
 use Rattle.mig_legacy.specs.declared.chunk.ChunkKind.{ChunkKind}
 use Rattle.mig_legacy.specs.declared.chunk.ChunkKind.TheVariants.{End, Batch, VcpuMap, Tsc, LastCheckpoint, Toolstack, Param}
 use Rattle.mig_legacy.specs.Batches.{fault_of_batch, page_data_words}
@@ -33,7 +17,6 @@ use Rattle.mig_legacy.specs.Judged.{toolstack, toolstack_fault}
 use Rattle.mig_legacy.specs.Texts.{pairs_of_physmap}
 use Rattle.mig_legacy.specs.Legacy.{LegacyContent, LegacyChunk, LegacyTail, is_end, has_value, store_key, image_records, store_records}
 use Rattle.mig_legacy.specs.Legacy.LegacyContent.{Nothing, Frames, Value, Clock, Pairs}
-use Rattle.mig_guest.specs.Limits.{most_pairs}
 
 -- ---- what conditions ask
 

@@ -1,3 +1,4 @@
+mod Common
 pub mod Chunks
 pub mod Batches
 pub mod Toolstack

@@ -3,14 +3,8 @@ use Rattle.std.specs.Prelude.{◌≡◌, ℕ, List, length, fold, Option}
 use Rattle.mig_bytes.specs.declared.stop.Stop.{Stop}
 use Rattle.mig_bytes.specs.declared.stop.Stop.TheVariants.{Refused, ReadFault, Memory}
 use Rattle.mig_headers.specs.declared.fault.Cause.{Cause}
-use Rattle.mig_headers.specs.declared.kind.Kind.TheVariants.{Hvm}
-use Rattle.mig_headers.specs.declared.legacy_fault.LegacyCause.{LegacyCause}
-use Rattle.mig_headers.specs.declared.legacy_fault.LegacyCause.TheVariants.{Truncated}
-use Rattle.mig_guest.specs.Guests.{GuestOf}
-use Rattle.mig_restore_form.specs.Mean.{sent, put_record}
+use Rattle.mig_legacy.specs.Common.{Hvm, LegacyCause, Truncated, GuestOf, sent, put_record, EmulatorsOf, put_libxl_content, emulators_of, AreEmulators}
 use Rattle.mig_restore_form.specs.Mean.{IsBegun as IsGuestBegun}
-use Rattle.mig_libxl_form.specs.Emulators.{EmulatorsOf, put_libxl_content, emulators_of}
-use Rattle.mig_libxl_form.specs.Formed.{AreEmulators}
 use Rattle.mig_legacy.specs.Legacy.{LegacyContent, LegacyChunk, LegacyTail, has_value, records_in, pair_records, tail_records, device_records, image_records, store_records}
 use Rattle.mig_legacy.specs.declared.read.ChunksSeen.{ChunksSeen}
 

@@ -1,21 +1,8 @@
 -- The spelling of a legacy stream, in the words of the format: its start, its chunks one after the other, its tail, and the
 -- device model's record or the end of the input (Xen's xg_save_restore.h; libxl's save file up to Xen 4.5).
 use Rattle.std.specs.Prelude.{◌≡◌, ◌≢◌, ◌≤◌, ◌<◌, ℕ, ◌+◌, ◌*◌, ◌/◌, ◌-◌, ⊤, true, false, List, [], ◌++◌, length, Option, Some, None}
-use Rattle.std.specs.List.{All, flat_map}
-use Rattle.mig_bytes.specs.Fields.{le32, be64}
-use Rattle.mig_bytes.specs.Sequences.{Spells}
-use Rattle.mig_headers.specs.RecordTypes.{most_body, vcpu_limit}
-use Rattle.mig_guest.specs.Frames.{IsFew}
-use Rattle.mig_guest.specs.Guests.{GuestOf}
-use Rattle.mig_guest.specs.Limits.{most_pairs}
-use Rattle.mig_headers.specs.Contexts.{ContextEntry, IsContext, cut_at}
-use Rattle.mig_headers.specs.Headers.{marker, libxl_ident}
-use Rattle.mig_headers.specs.declared.kind.Kind.TheVariants.{Hvm}
-use Rattle.mig_records.specs.Words.{words}
-use Rattle.mig_restore_form.specs.Mean.{sent}
-use Rattle.mig_restore_form.specs.Record.{FrameEntry}
+use Rattle.mig_legacy.specs.Common.{All, flat_map, le32, be64, Spells, most_body, vcpu_limit, IsFew, GuestOf, most_pairs, ContextEntry, IsContext, cut_at, marker, libxl_ident, Hvm, words, sent, FrameEntry, emulators_of, spelled_with}
 use Rattle.mig_restore_form.specs.Spelled.{AreEntries}
-use Rattle.mig_libxl_form.specs.Emulators.{emulators_of, spelled_with}
 use Rattle.mig_legacy.specs.declared.chunk.ChunkKind.{ChunkKind}
 use Rattle.mig_legacy.specs.declared.chunk.ChunkKind.TheVariants.{End, Batch, VcpuMap, Tsc, LastCheckpoint, Toolstack, Param}
 use Rattle.mig_legacy.specs.Batches.{is_reserved, is_high, page_data_words}

@@ -1,16 +1,11 @@
 -- Judging a legacy stream as a whole: the start, chunks up to the one that ends them, the tail, and the device model's
 -- record if there is one.
 use Rattle.std.specs.Prelude.{◌≡◌, ℕ, List, [], ◌∷◌, length, Option, None, Result}
-use Rattle.mig_bytes.specs.Answers.{or_stop}
+use Rattle.mig_legacy.specs.Common.{or_stop, Passes, Faulty, sequence_at, LegacyCause, LegacyPlace, GuestOf}
 use Rattle.mig_bytes.specs.Judged.{Judged, ◌>>=◌, placed, AgreesWithJudging}
-use Rattle.mig_bytes.specs.Judged.Judged.{Passes, Faulty}
-use Rattle.mig_bytes.specs.Sequences.{sequence_at}
 use Rattle.mig_bytes.specs.declared.answer.Answer.{Answer}
 use Rattle.mig_bytes_form.specs.Form.{judged_as}
-use Rattle.mig_headers.specs.declared.legacy_fault.LegacyCause.{LegacyCause}
-use Rattle.mig_headers.specs.declared.legacy_fault.LegacyPlace.{LegacyPlace}
 use Rattle.mig_headers.specs.declared.legacy_fault.LegacyPlace.TheVariants.{Start, Chunk, Tail, Device}
-use Rattle.mig_guest.specs.Guests.{GuestOf}
 use Rattle.mig_legacy.specs.LegacyForm.{start_form, chunk_form, tail_form, device_form}
 use Rattle.mig_legacy.specs.Legacy.{LegacyChunk, LegacyStream, is_legacy_ended, mean_legacy}
 

@@ -1,9 +1,8 @@
 -- The pairs of texts that tell of a device model's memory (Xen's libxl, "physmap" in the device model's store).
 use Rattle.std.specs.Prelude.{◌≡◌, ◌<◌, ◌⊎◌, ◌≢◌, ℕ, ◌+◌, ◌-◌, ◌*◌, ◌^◌, fold, slice_index, List, [], ◌∷◌, ◌++◌, length, drop, Option, Some, None, codes, ◌==◌, not, min}
-use Rattle.std.specs.List.{All, position_or_len, flat_map}
+use Rattle.mig_legacy.specs.Common.{All, position_or_len, flat_map, Pair, text_of_pair}
 use Rattle.byteorder.specs.Endian.{big_bytes}
 use Rattle.hex.specs.Hex.{encode_lower}
-use Rattle.mig_headers.specs.Pairs.{Pair, text_of_pair}
 use Rattle.mig_legacy.specs.Toolstack.{Physmap}
 
 -- the digits without the zeros before the first that isn't 0, or the last digit alone

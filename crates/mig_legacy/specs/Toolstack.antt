@@ -1,8 +1,7 @@
 -- The data of the toolstack in a legacy stream, as Xen's libxl saved them up to Xen 4.5: where the device model has mapped
 -- memory of its own into the guest. A version, the number of entries, and the entries, numbers low byte first.
 use Rattle.std.specs.Prelude.{◌≡◌, ◌<◌, ℕ, List, [], ◌∷◌, ◌++◌, length, Option, Some, None, ⊤}
-use Rattle.std.specs.List.{All}
-use Rattle.mig_bytes.specs.Fields.{le32, le64}
+use Rattle.mig_legacy.specs.Common.{All, le32, le64}
 
 -- memory of the device model: where the guest sees it, where it began, its size, and its name, if it has one
 pub record Physmap : Type 0 where

@@ -1,8 +1,6 @@
 -- The words of a batch by what each of them says.
 use Rattle.std.specs.Prelude.{⊤, ◌≡◌, ◌↔◌, ℕ, List, [], ◌∷◌, None}
-use Rattle.std.specs.List.{All}
-use Rattle.mig_pagetypes.specs.FrameWords.{word_of}
-use Rattle.mig_pagetypes.specs.LegacyWords.{legacy_word}
+use Rattle.mig_legacy.specs.Common.{All, word_of, legacy_word}
 use Rattle.mig_pagetypes.specs.declared.frame_word.FrameWord.{FrameWord}
 use Rattle.mig_pagetypes.specs.declared.legacy_word.LegacyWord.{LegacyWord}
 use Rattle.mig_pagetypes.specs.declared.legacy_word.LegacyWord.TheVariants.{Placeholder, Word, BadType, High}

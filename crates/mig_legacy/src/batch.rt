@@ -1,5 +1,5 @@
 ghost use Rattle.std.specs.Prelude.{◌≡◌, ◌++◌, position, OnOk, IfOk};
-ghost use Rattle.mig_pagetypes.specs.LegacyWords.{legacy_type};
+ghost use Rattle.mig_legacy.specs.Common.{legacy_type};
 ghost use Rattle.mig_legacy.specs.Batches.{is_reserved as reserved, is_high as high, fault_of_batch, IsBatchFault, page_data_words_of, page_data_words as words_of};
 
 use mig_bytes::Memory;

@@ -1,12 +1,7 @@
 ghost use Rattle.std.specs.Prelude.{◌≡◌, ◌≤◌, ◌<◌, length, None, IfOk, OnOk, IsErrOf};
-ghost use Rattle.mig_bytes.specs.Faults.{RisesOnReadFault};
-ghost use Rattle.mig_bytes.specs.Judged.{AgreesWithJudging};
+ghost use Rattle.mig_legacy.specs.Common.{RisesOnReadFault, AgreesWithJudging, Hvm, vcpu_limit, GrewByRecord, AreEmulators};
 ghost use Rattle.mig_bytes.specs.declared.stop.Stop.TheVariants.{Memory as NoMemory};
 ghost use Rattle.mig_bytes_form.specs.Form.{judged_as};
-ghost use Rattle.mig_headers.specs.declared.kind.Kind.TheVariants.{Hvm};
-ghost use Rattle.mig_headers.specs.RecordTypes.{vcpu_limit};
-ghost use Rattle.mig_restore_form.specs.Mean.{GrewByRecord};
-ghost use Rattle.mig_libxl_form.specs.Formed.{AreEmulators};
 ghost use Rattle.mig_legacy.specs.Batches.{fault_of_batch};
 ghost use Rattle.mig_legacy.specs.LegacyForm.{length_form, words_form, batch_form, clock_of as clock_in, vcpus_form, clock_form, value_form, toolstack_form};
 ghost use Rattle.mig_legacy.specs.Legacy.{param_key as key_of_param};

@@ -1,5 +1,5 @@
 ghost use Rattle.std.specs.Prelude.{◌≡◌, IfOk};
-ghost use Rattle.mig_bytes_form.specs.Tests.{first_named};
+ghost use Rattle.mig_legacy.specs.Common.{first_named};
 ghost use Rattle.mig_legacy.specs.Chunks.{negative_causes, negative_kind as kind_below, unless_caused, kind_of, negative, IsNumberOf};
 
 use mig_headers::LegacyCause;

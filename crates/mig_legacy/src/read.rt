@@ -1,16 +1,8 @@
 ghost use Rattle.std.specs.Prelude.{◌≡◌, ◌≤◌, ◌+◌, ◌||◌, ◌<◌, ◌∷◌, [], ◌++◌, ⊤, List, true, IfNone, IfOk, OnOk, IsErrOf, Some, None};
 ghost use Rattle.std.specs.FinMap as maps;
-ghost use Rattle.mig_bytes.specs.Answers.{or_stop};
-ghost use Rattle.mig_bytes.specs.Faults.{RisesOnReadFault};
-ghost use Rattle.mig_bytes.specs.Judged.{AgreesWithJudging};
+ghost use Rattle.mig_legacy.specs.Common.{or_stop, RisesOnReadFault, AgreesWithJudging, first_named, Hvm, most_frames, IsStreamed, IsStreamedBare, with_emulators, AreEmulators};
 ghost use Rattle.mig_bytes.specs.declared.stop.Stop.TheVariants.{Memory as NoMemory};
 ghost use Rattle.mig_bytes_form.specs.Form.{judged_as};
-ghost use Rattle.mig_bytes_form.specs.Tests.{first_named};
-ghost use Rattle.mig_headers.specs.declared.kind.Kind.TheVariants.{Hvm};
-ghost use Rattle.mig_pagetypes.specs.Limits.{most_frames};
-ghost use Rattle.mig_pvtables.specs.Whole.{IsStreamed, IsStreamedBare};
-ghost use Rattle.mig_libxl_form.specs.Emulators.{with_emulators};
-ghost use Rattle.mig_libxl_form.specs.Formed.{AreEmulators};
 ghost use Rattle.mig_legacy.specs.declared.chunk.ChunkKind.TheVariants as kinds;
 ghost use Rattle.mig_legacy.specs.LegacyForm.{most_chunks, start_causes, place_causes, start_form, type_form, content_form, chunk_form};
 ghost use Rattle.mig_legacy.specs.Legacy.{LegacyChunk, is_end, is_value_of, mean_legacy};

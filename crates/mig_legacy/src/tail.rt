@@ -1,14 +1,6 @@
 ghost use Rattle.std.specs.Prelude.{◌≡◌, ◌≤◌, ◌+◌, ◌∷◌, Some, length, IsOk, IfOk, OnOk};
-ghost use Rattle.mig_bytes.specs.Faults.{RisesOnReadFault};
-ghost use Rattle.mig_bytes.specs.Judged.{AgreesWithJudging};
+ghost use Rattle.mig_legacy.specs.Common.{RisesOnReadFault, AgreesWithJudging, most_body, scan, Hvm, IsFew, IsBegun, AreEmulators, IsStreamedBare};
 ghost use Rattle.mig_bytes_form.specs.Form.{judged_as};
-ghost use Rattle.mig_headers.specs.RecordTypes.{most_body};
-ghost use Rattle.mig_headers.specs.Contexts.{scan};
-ghost use Rattle.mig_headers.specs.declared.kind.Kind.TheVariants.{Hvm};
-ghost use Rattle.mig_guest.specs.Frames.{IsFew};
-ghost use Rattle.mig_restore_form.specs.Mean.{IsBegun};
-ghost use Rattle.mig_libxl_form.specs.Formed.{AreEmulators};
-ghost use Rattle.mig_pvtables.specs.Whole.{IsStreamedBare};
 ghost use Rattle.mig_legacy.specs.LegacyForm.{tail_of, tail_form, device_form};
 ghost use Rattle.mig_legacy.specs.Seen.{put_tail, put_device};
 ghost use Rattle.mig_legacy.specs.Stream.{device_at};

@@ -1,6 +1,6 @@
 ghost use Rattle.std.specs.Prelude.{◌≡◌, ◌≤◌, ◌<◌, ◌==◌, [], ◌∷◌, ◌++◌, length, not, OnOk, codes};
 ghost use Rattle.std.specs.List.{flat_map, position};
-ghost use Rattle.mig_headers.specs.Pairs.{text_of_pair};
+ghost use Rattle.mig_legacy.specs.Common.{text_of_pair};
 ghost use Rattle.mig_legacy.specs.Judged.{entry_len, entry_in, name_in};
 ghost use Rattle.mig_legacy.specs.Texts.{hexadecimal, physmap_pair, name_pairs, pairs_of_physmap, without_zeros};
 

@@ -1,17 +1,11 @@
 -- The canonical stream of a guest of either form is accepted with this guest, and is that of no other.
-use Rattle.mig_libxl.proofs.Common.{◌≡◌, ◌↔◌, ℕ, Bool, true, false, List, [], ◌∷◌, ◌++◌, map, None, refl, sym, ap, subst, ◌∙◌, arith, append_assoc, append-nil, All, Pv, IsFormed, GuestOf, part_cmp, Part, ImageOf, bare_guest, has_emulators, is_of_converter, text_of_emulators, LibxlRecord, Image, EmulatorsOf, no_emulators, with_emulators, FollowsLibxl, one_more, Bare, Wrapped, spelled, canon, mean_kind, emulators_in_order, emulators_more, among_more, ended_more, none_set, is_record}
+use Rattle.mig_libxl.proofs.Common.{◌≡◌, ◌↔◌, ℕ, Bool, true, false, List, [], ◌∷◌, ◌++◌, map, None, refl, sym, ap, subst, ◌∙◌, arith, append_assoc, append-nil, All, Pv, IsFormed, GuestOf, part_cmp, Part, ImageOf, bare_guest, has_emulators, is_of_converter, text_of_emulators, LibxlRecord, Image, EmulatorsOf, no_emulators, with_emulators, FollowsLibxl, one_more, Bare, Wrapped, spelled, canon, mean_kind, emulators_in_order, emulators_more, among_more, ended_more, none_set, is_record, no_part, libxl_header_of, mean, image_of, Nothing, AcceptedStream}
 use Rattle.mig_restore_form.specs.Spelled.{IsImage, Accepted as ImageAccepted}
 use Rattle.mig_canon.specs.Bare.{IsBare}
-use Rattle.mig_bytes.specs.Sequences.Spells.{no_part}
-use Rattle.mig_headers.specs.Headers.{libxl_header_of}
 use Rattle.mig_headers.proofs.LibxlHeaders.{libxl_is_read_back}
-use Rattle.mig_restore_form.specs.Mean.{mean}
-use Rattle.mig_restore_form.specs.Stream.{image_of}
 use Rattle.mig_libxl_form.specs.Carried.{IsCarried}
 use Rattle.mig_canon.specs.CanonStream.{canon_any, wrapper_opening, wrapper_closing}
-use Rattle.mig_libxl_form.specs.Content.LibxlContent.{Nothing}
 use Rattle.mig_libxl_form.specs.Emulators.{emulators_of}
-use Rattle.mig_libxl_form.specs.Spelled.{AcceptedStream}
 use Rattle.mig_libxl_form.specs.Spelled.HasLibxlContent.{ends}
 use Rattle.mig_libxl_form.specs.Spelled.IsLibxlRecord.{image as an_image, body as a_body}
 use Rattle.mig_libxl.proofs.Canon.{bare_is, bare_plain, bare_whole, canon_bare, plain_is, pv_plain}

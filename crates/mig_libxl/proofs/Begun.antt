@@ -1,7 +1,5 @@
 -- What the reader of a libxl stream keeps is formed, whatever records come.
-use Rattle.mig_libxl.proofs.Common.{◌≡◌, ℕ, ◌≤◌, ◌<◌, true, List, length, drop, None, sym, ap, subst, arith, All-drop, AreBytes, pairs_fault, text_of_map, put_pairs, EmulatorsOf, store_at, add_pairs, AreEmulators, WrapperSeen, length-drop, pairs_in, IsLibxlBegun, most_pairs, most_body}
-use Rattle.std.proofs.lemmas.Bool.{false≢true}
-use Rattle.mig_libxl_form.proofs.Formed.{context_kept, pairs_kept}
+use Rattle.mig_libxl.proofs.Common.{◌≡◌, ℕ, ◌≤◌, ◌<◌, true, List, length, drop, None, sym, ap, subst, arith, All-drop, AreBytes, pairs_fault, text_of_map, put_pairs, EmulatorsOf, store_at, add_pairs, AreEmulators, WrapperSeen, length-drop, pairs_in, IsLibxlBegun, most_pairs, most_body, false≢true, context_kept, pairs_kept}
 use Rattle.std.specs.FinMap as maps
 
 module _ {I : Type 0} (kept : I → Type 0) (seen : WrapperSeen I) (new : EmulatorsOf) (slice : List ℕ) (id index : ℕ) (begun : IsLibxlBegun kept seen) (known : id < 3) (small : index < 256) where

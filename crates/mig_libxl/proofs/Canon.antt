@@ -1,22 +1,13 @@
 -- The image in a canonical stream: it says the guest without the parts of its emulators.
-use Rattle.mig_libxl.proofs.Common.{and_parts, ◌≡◌, ℕ, Bool, true, false, cond, not, List, [], ◌∷◌, ◌++◌, map, Option, Some, None, refl, sym, ap, subst, ◌∙◌, ◌↔◌, ◌≤◌, length, list_any, eq_by_cmp, find, Pv, IsFormed, is_emulator_code, GuestOf, part_cmp, Part, PartMap, parts_of, EmulatorPairs, PartKey, all_found, tied, part_total, part_exact, has_emulators, bare_guest, IsStreamedBare, list_any_none, same_parts, most_policy_entries}
-use Rattle.std.specs.List.{list_all, flat_map, range_with_len}
+use Rattle.mig_libxl.proofs.Common.{and_parts, ◌≡◌, ℕ, Bool, true, false, cond, not, List, [], ◌∷◌, ◌++◌, map, Option, Some, None, refl, sym, ap, subst, ◌∙◌, ◌↔◌, ◌≤◌, length, list_any, eq_by_cmp, find, Pv, IsFormed, is_emulator_code, GuestOf, part_cmp, Part, PartMap, parts_of, EmulatorPairs, PartKey, all_found, tied, part_total, part_exact, has_emulators, bare_guest, IsStreamedBare, list_any_none, same_parts, most_policy_entries, list_all, flat_map, range_with_len, Kind, Hvm, HasNoEmulators, IsWhole, text_of, or_parts, not-true, nothing, plain_policy, hvm_faultless}
 use Rattle.mig_canon.specs.Canon.{records_in_order, static_codes, last_codes, pv_last_codes, vcpu_codes, bodies_of, frame_bodies, frames_in, batches, headers, info_records, key_of, last_records, p2m_record, p2m_records, part_record, records_of, records_of_vcpu, static_bodies, vcpu_record, vcpus_below, all_vcpus, canon}
-use Rattle.mig_headers.specs.declared.kind.Kind.{Kind}
-use Rattle.mig_headers.specs.declared.kind.Kind.TheVariants.{Hvm}
-use Rattle.mig_guest.specs.Formed.{HasNoEmulators}
 use Rattle.mig_guest.specs.PartCodes.{row_of, code_number}
 use Rattle.mig_guest.specs.PartKeys.{p2m_key, context_key}
 use Rattle.mig_guest.specs.declared.part_code.PartCode.{PartCode}
-use Rattle.mig_pvtables.specs.Whole.{IsWhole}
-use Rattle.mig_records.specs.Records.{text_of}
-use Rattle.std.proofs.lemmas.Bool.{or_parts, not-true}
 use Rattle.mig_canon.proofs.Common.{bodies_by_shape, shape_of}
 use Rattle.mig_pvtables.specs.Blank.{blank, blank_of, IsOfBytes}
 use Rattle.mig_records_pages.specs.PageData.{Frame}
 use Rattle.mig_canon.specs.Batched.{batch_records, batched}
-use Rattle.mig_canon.proofs.CanonMaps.{nothing}
-use Rattle.mig_libxl_form.proofs.EmulatorGuests.{plain_policy, hvm_faultless}
 use Rattle.std.specs.FinMap as maps
 
 -- what is false of all entries is false of one that is found

@@ -1,18 +1,11 @@
 -- The records of a guest's emulators say its emulators: they and the guest without emulators are the guest.
-use Rattle.mig_libxl.proofs.Common.{◌≡◌, ℕ, ◌<◌, Bool, true, false, cond, not, List, [], ◌∷◌, length, map, Option, Some, None, inl, inr, refl, sym, ap, subst, ◌∙◌, ◌==◌, ◌||◌, unwrap_or, if◌then◌else◌, All, option_or, eq_by_cmp, find, eq-eqb, eqb-true, or_cases, All-nil, All-cons, All-head, All-tail, IsFormed, is_emulator_code, GuestOf, part_cmp, Part, PartMap, PartKey, all_of, tied, part_total, part_exact, put_pairs, text_of_map, some_bytes_are_some_pairs, bare_guest, Pairs, Context, EmulatorsOf, no_emulators, put_libxl_content, with_emulators, insert_leaves, pairs_in, texts_are_canonical, emulators_in_order}
-use Rattle.std.specs.Prelude.{fold}
-use Rattle.std.specs.Option.{option_map}
+use Rattle.mig_libxl.proofs.Common.{◌≡◌, ℕ, ◌<◌, Bool, true, false, cond, not, List, [], ◌∷◌, length, map, Option, Some, None, inl, inr, refl, sym, ap, subst, ◌∙◌, ◌==◌, ◌||◌, unwrap_or, if◌then◌else◌, All, option_or, eq_by_cmp, find, eq-eqb, eqb-true, or_cases, All-nil, All-cons, All-head, All-tail, IsFormed, is_emulator_code, GuestOf, part_cmp, Part, PartMap, PartKey, all_of, tied, part_total, part_exact, put_pairs, text_of_map, some_bytes_are_some_pairs, bare_guest, Pairs, Context, EmulatorsOf, no_emulators, put_libxl_content, with_emulators, insert_leaves, pairs_in, texts_are_canonical, emulators_in_order, fold, option_map, put_parts, FinMap, map_of, or_left, or_right, part_there}
 use Rattle.std.proofs.lemmas.Cmp.{eq_by_cmp_equiv}
-use Rattle.mig_guest.specs.Parts.{put_parts}
-use Rattle.std.specs.FinMap.{FinMap}
-use Rattle.mig_policy.specs.PairMaps.{map_of}
 use Rattle.mig_libxl_form.specs.Emulators.{emulators_of, emulator_parts}
 use Rattle.mig_libxl.proofs.Canon.{bare_get}
 use Rattle.mig_libxl.proofs.EmulatorParts.{KeysDiffer, in_order_holds, in_order_differ, emulators_found}
 use Rattle.mig_restore_form.proofs.PartsInOrder.{or_none}
 use Rattle.mig_libxl.proofs.EmulatorRecords.{content_of, record_of_part, some_pairs}
-use Rattle.std.proofs.lemmas.Bool.{or_left, or_right}
-use Rattle.mig_libxl_form.proofs.EmulatorGuests.{part_there}
 use Rattle.mig_libxl_form.proofs.Stores.{some_added}
 use Rattle.std.specs.FinMap as maps
 

@@ -1,18 +1,10 @@
 -- The parts of emulators in the order of their records: all of a guest, and none twice.
-use Rattle.mig_libxl.proofs.Common.{◌≡◌, ◌≢◌, ◌↔◌, ℕ, ◌+◌, ◌<◌, ◌≤◌, Bool, true, false, cond, List, [], ◌∷◌, ◌++◌, length, Option, Some, None, inl, inr, refl, sym, ap, subst, ◌∙◌, arith, ◌==◌, nat_lt, All, option_or, eq_by_cmp, is_lt, nat_cmp, Equal, find, and_parts, eq-eqb, eqb-true, or_cases, All-nil, All-cons, All-head, All-tail, IsFormed, is_emulator_code, width_of, GuestOf, part_cmp, Part, PartMap, parts_of, EmulatorPairs, EmulatorContext, PartKey, all_of, part_exact, IsOf, of_part, common_steps, ltb-true, ne_eqb, NextPart, same_parts, all_found, emulators_after}
-use Rattle.std.proofs.Common.{◌*◌}
-use Rattle.std.proofs.lemmas.List.{nil_from_length}
-use Rattle.std.specs.Prelude.{⊤}
+use Rattle.mig_libxl.proofs.Common.{◌≡◌, ◌≢◌, ◌↔◌, ℕ, ◌+◌, ◌<◌, ◌≤◌, Bool, true, false, cond, List, [], ◌∷◌, ◌++◌, length, Option, Some, None, inl, inr, refl, sym, ap, subst, ◌∙◌, arith, ◌==◌, nat_lt, All, option_or, eq_by_cmp, is_lt, nat_cmp, Equal, find, and_parts, eq-eqb, eqb-true, or_cases, All-nil, All-cons, All-head, All-tail, IsFormed, is_emulator_code, width_of, GuestOf, part_cmp, Part, PartMap, parts_of, EmulatorPairs, EmulatorContext, PartKey, all_of, part_exact, IsOf, of_part, common_steps, ltb-true, ne_eqb, NextPart, same_parts, all_found, emulators_after, ◌*◌, nil_from_length, ⊤, Contains, ordering_reverse, All-append, All-contains, All-contains_itself, All-weaker, parts_after, found_holds, mixed}
 use Rattle.std.specs.FinMap.Entries.{by_order, put, same_entries}
-use Rattle.std.specs.List.{Contains}
-use Rattle.std.specs.Ordering.{ordering_reverse}
-use Rattle.std.proofs.lemmas.List.Elements.{All-append, All-contains, All-contains_itself, All-weaker}
 use Rattle.std.proofs.lemmas.Map.Lookups.{exact_pairs, exact_unsigned}
-use Rattle.mig_guest.specs.Parts.{parts_after}
 use Rattle.mig_guest.proofs.Common.{All-filter, Greater, IsAntisymmetric, IsTotalOrder, Less, Ordering, T, below_all, filter_passes, find-where_key, is_eq, is_sorted, nat_cmp_total, on_total, ordering_then, then_total}
 use Rattle.mig_guest.proofs.PartCursor.{both_of, less, true_of}
 use Rattle.mig_canon.proofs.Wholes.{code_next}
-use Rattle.mig_canon.proofs.CanonMaps.{found_holds, mixed}
 use Rattle.mig_canon.specs.CanonStream.{AreEmulatorsInOrder, NextEmulator, emulator_cmp, emulators_in_order, in_emulator_order}
 use Rattle.std.specs.FinMap as maps
 

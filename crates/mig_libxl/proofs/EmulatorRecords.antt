@@ -1,10 +1,7 @@
 -- The records of a guest's emulators: each is spelled as the format says, and together they say the emulators.
-use Rattle.mig_libxl.proofs.Common.{◌≡◌, ℕ, ◌+◌, ◌<◌, ◌≤◌, List, ◌++◌, length, Some, inl, inr, refl, sym, subst, arith, append_assoc, length-append, ◌-◌, ◌==◌, nat_le, if◌then◌else◌, and_parts, eqb-true, leb-true, or_cases, little_bytes, IsFormed, width_of, GuestOf, Part, EmulatorPairs, PartKey, IsOf, of_part, some_bytes_are_some_pairs, LibxlRecord, LibxlContent, Pairs, Context, pairs_in, spelled, emulator_body, is_record, most_pairs, most_body}
+use Rattle.mig_libxl.proofs.Common.{◌≡◌, ℕ, ◌+◌, ◌<◌, ◌≤◌, List, ◌++◌, length, Some, inl, inr, refl, sym, subst, arith, append_assoc, length-append, ◌-◌, ◌==◌, nat_le, if◌then◌else◌, and_parts, eqb-true, leb-true, or_cases, little_bytes, IsFormed, width_of, GuestOf, Part, EmulatorPairs, PartKey, IsOf, of_part, some_bytes_are_some_pairs, LibxlRecord, LibxlContent, Pairs, Context, pairs_in, spelled, emulator_body, is_record, most_pairs, most_body, HasLibxlContent, IsFront, IsLibxlRecord, AreCanonicalPairs, SpellPairs}
 use Rattle.mig_policy.proofs.KeyLaws.{pairs_are_read}
-use Rattle.mig_libxl_form.specs.Spelled.{HasLibxlContent, IsFront, IsLibxlRecord}
 use Rattle.byteorder.specs.Numbers.{length-bytes_low_first}
-use Rattle.mig_headers.specs.Pairs.{AreCanonicalPairs}
-use Rattle.mig_policy.specs.PairFaults.{SpellPairs}
 use Rattle.mig_records.specs.Records.{head_of}
 use Rattle.mig_records.proofs.HeadBytes.{type_in_head, len_in_head}
 use Rattle.mig_canon.specs.CanonStream.{emulator_record}

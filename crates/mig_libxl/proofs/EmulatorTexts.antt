@@ -1,6 +1,5 @@
 -- How the record of an emulator's part is spelled.
-use Rattle.mig_libxl.proofs.Common.{◌≡◌, ℕ, ◌+◌, ◌≤◌, true, List, ◌++◌, length, Some, inl, inr, arith, ◌-◌, ◌==◌, nat_le, and_parts, eqb-true, leb-true, or_cases, little_bytes, padding_len, is_emulator_code, width_of, GuestOf, IsFormed, EmulatorPairs, EmulatorContext, PartKey, IsOf, of_part, emulator_body, most_pairs, most_body}
-use Rattle.std.proofs.Common.{replicate}
+use Rattle.mig_libxl.proofs.Common.{◌≡◌, ℕ, ◌+◌, ◌≤◌, true, List, ◌++◌, length, Some, inl, inr, arith, ◌-◌, ◌==◌, nat_le, and_parts, eqb-true, leb-true, or_cases, little_bytes, padding_len, is_emulator_code, width_of, GuestOf, IsFormed, EmulatorPairs, EmulatorContext, PartKey, IsOf, of_part, emulator_body, most_pairs, most_body, replicate}
 use Rattle.mig_records.specs.Records.{head_of}
 use Rattle.mig_records.proofs.RecordTexts.{record_text}
 use Rattle.mig_canon.specs.CanonStream.{emulator_record}

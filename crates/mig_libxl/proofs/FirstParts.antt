@@ -1,10 +1,8 @@
 -- What the first part of a code says of all parts.
-use Rattle.mig_libxl.proofs.Common.{◌≡◌, ℕ, ◌≤◌, Bool, true, false, List, [], ◌∷◌, Option, Some, None, is_some, refl, sym, ap, subst, ◌∙◌, arith, ◌==◌, ◌&&◌, ◌||◌, All, list_any, is_lt, nat_cmp, Equal, eqb-true, All-head, part_cmp, Part, PartMap, parts_of, PartKey, all_of, has_emulators, is_of_converter, common_steps, ne_eqb, list_any_none, NextPart}
-use Rattle.std.proofs.Common.{filter}
+use Rattle.mig_libxl.proofs.Common.{◌≡◌, ℕ, ◌≤◌, Bool, true, false, List, [], ◌∷◌, Option, Some, None, is_some, refl, sym, ap, subst, ◌∙◌, arith, ◌==◌, ◌&&◌, ◌||◌, All, list_any, is_lt, nat_cmp, Equal, eqb-true, All-head, part_cmp, Part, PartMap, parts_of, PartKey, all_of, has_emulators, is_of_converter, common_steps, ne_eqb, list_any_none, NextPart, filter, eqb-false}
 use Rattle.std.specs.Ordering.{ordering_then}
 use Rattle.std.specs.declared.cmp.Ordering.{Ordering}
 use Rattle.std.specs.declared.cmp.Ordering.TheVariants.{Less, Greater}
-use Rattle.std.proofs.lemmas.Bool.{eqb-false}
 use Rattle.std.proofs.lemmas.Cmp.{nat_cmp_total, ranked, tied_itself}
 use Rattle.std.proofs.lemmas.List.Elements.{All-filter, filter_passes}
 use Rattle.std.specs.FinMap as maps

@@ -1,15 +1,6 @@
 -- A stream of either form behind its first 8 bytes, as it is read.
-use Rattle.mig_libxl.proofs.Common.{◌≡◌, ℕ, Bool, true, false, cond, List, [], ◌++◌, length, take, drop, nat_le, nat_lt, nat_eq, Option, Some, None, Ok, refl, sym, ap, subst, ◌∙◌, arith, length-append, le-leb, lt-leb, ◌>>=◌, part, placed, Passes, Cause, Truncated, LibxlHeader, header_at, bare_at, Bare, ltb-true, stop_at, AgreesWithJudging, image_behind, behind_header}
-use Rattle.std.proofs.Common.{Result, Err}
-use Rattle.mig_bytes.specs.Judged.{Judged, tried, Matches}
-use Rattle.mig_headers.specs.declared.fault.Place.{Place}
-use Rattle.mig_bytes.specs.Fields.{be64}
-use Rattle.mig_bytes.specs.Judged.Judged.{Faulty}
-use Rattle.mig_bytes.specs.declared.stop.Stop.{Stop}
-use Rattle.mig_bytes.proofs.Joins.{part_whole, part_passes}
+use Rattle.mig_libxl.proofs.Common.{◌≡◌, ℕ, Bool, true, false, cond, List, [], ◌++◌, length, take, drop, nat_le, nat_lt, nat_eq, Option, Some, None, Ok, refl, sym, ap, subst, ◌∙◌, arith, length-append, le-leb, lt-leb, ◌>>=◌, part, placed, Passes, Cause, Truncated, LibxlHeader, header_at, bare_at, Bare, ltb-true, stop_at, AgreesWithJudging, image_behind, behind_header, Result, Err, Judged, tried, Matches, Place, be64, Faulty, Stop, part_whole, part_passes, libxl_ident, fault_of_marker, ImageHeader}
 use Rattle.mig_headers.proofs.HeaderLaws.{marker_of}
-use Rattle.mig_headers.specs.Headers.{libxl_ident, fault_of_marker}
-use Rattle.mig_headers.specs.declared.fault.Place.TheVariants.{ImageHeader}
 use Rattle.mig_restore.proofs.Behind.{behind_is}
 use Rattle.mig_restore_form.specs.Stream.{image_at, marker_at, opening_at}
 use Rattle.mig_libxl_form.specs.Stream.{StreamOf, wrapped_at, stream_at}

@@ -1,7 +1,5 @@
 -- The image that the reader keeps, as heads ask for it.
-use Rattle.mig_libxl.proofs.Common.{◌≡◌, Option, Some, None, refl, ap, subst, ImageOf, Holds}
-use Rattle.std.proofs.lemmas.Option.{same_Some}
-use Rattle.mig_headers.specs.declared.kind.Kind.{Kind}
+use Rattle.mig_libxl.proofs.Common.{◌≡◌, Option, Some, None, refl, ap, subst, ImageOf, Holds, same_Some, Kind}
 use Rattle.mig_libxl_form.specs.Behind.{kind_of_image}
 
 module _ {I : Type 0} (is_of : I → ImageOf → Type 0) where

@@ -1,22 +1,8 @@
 -- What is kept of an image, as what is kept of a stream.
-use Rattle.mig_libxl.proofs.Common.{◌≡◌, List, Option, Some, None, Ok, refl, sym, ap, subst, ◌∙◌, ℕ, ImageOf, Reading, LibxlRecord, EmulatorsOf, Bare, Wrapped, Holds, IsLibxlBegun, IsLibxlSeen, WrapperSeen, Pv, false, IfSome, no_emulators, image_among, emulators_of, with_emulators, none_set, mean_kind, IsStreamedBare}
-use Rattle.std.proofs.Common.{Result, Err}
-use Rattle.std.proofs.lemmas.Option.{same_Some}
-use Rattle.std.specs.Prelude.{IfOk}
-use Rattle.mig_restore_form.specs.Mean.{mean}
-use Rattle.mig_bytes.proofs.Joins.{any_stop}
-use Rattle.mig_bytes.specs.Judged.{AgreesWithJudging, Judged}
-use Rattle.mig_bytes.specs.declared.stop.Stop.{Stop}
-use Rattle.mig_headers.specs.declared.fault.Cause.{Cause}
-use Rattle.mig_headers.specs.declared.fault.Place.{Place}
-use Rattle.mig_restore_form.specs.Stream.{image_behind}
-use Rattle.mig_headers.specs.declared.kind.Kind.{Kind}
-use Rattle.mig_libxl.specs.Seen.{IsClosed}
-use Rattle.mig_libxl_form.specs.Stream.{StreamOf}
+use Rattle.mig_libxl.proofs.Common.{◌≡◌, List, Option, Some, None, Ok, refl, sym, ap, subst, ◌∙◌, ℕ, ImageOf, Reading, LibxlRecord, EmulatorsOf, Bare, Wrapped, Holds, IsLibxlBegun, IsLibxlSeen, WrapperSeen, Pv, false, IfSome, no_emulators, image_among, emulators_of, with_emulators, none_set, mean_kind, IsStreamedBare, Result, Err, same_Some, IfOk, mean, any_stop, AgreesWithJudging, Judged, Stop, Cause, Place, image_behind, Kind, IsClosed, StreamOf, IsStreamed}
 use Rattle.mig_libxl.specs.Reads.{IsStreamReading, IsStreamTally}
 use Rattle.mig_outline.specs.Judges.{IsTally}
 use Rattle.mig_outline.specs.declared.judge.Tally.{Tally}
-use Rattle.mig_pvtables.specs.Whole.{IsStreamed}
 use Rattle.mig_restore.specs.Reads.{IsReading as IsImageReading}
 
 pub reading_kind : (reading : Reading) (image : ImageOf) → IsImageReading reading image → reading.guest.kind ≡ image.opening.kind

@@ -1,10 +1,9 @@
 -- A record behind its head and behind its content, and what the reader has seen once it was read.
-use Rattle.mig_libxl.proofs.Common.{◌≡◌, ℕ, ◌+◌, false, List, [], ◌∷◌, ◌++◌, length, nat_eq, Option, Some, None, refl, sym, ap, subst, ◌∙◌, arith, length-append, ◌||◌, padding_len, ◌>>=◌, part, placed, Passes, Truncated, ImageOf, LibxlRecord, LibxlContent, image_in, image_among, EmulatorsOf, put_libxl_content, libxl_head_at, body_of_type, libxl_content_at, Holds, IsLibxlSeen, WrapperSeen, le32, emulators_of, TakesLibxl, emulators_more, among_more, behind_content, behind_head}
+use Rattle.mig_libxl.proofs.Common.{◌≡◌, ℕ, ◌+◌, false, List, [], ◌∷◌, ◌++◌, length, nat_eq, Option, Some, None, refl, sym, ap, subst, ◌∙◌, arith, length-append, ◌||◌, padding_len, ◌>>=◌, part, placed, Passes, Truncated, ImageOf, LibxlRecord, LibxlContent, image_in, image_among, EmulatorsOf, put_libxl_content, libxl_head_at, body_of_type, libxl_content_at, Holds, IsLibxlSeen, WrapperSeen, le32, emulators_of, TakesLibxl, emulators_more, among_more, behind_content, behind_head, emulator_more, among_first}
 use Rattle.mig_headers.specs.declared.fault.Place.TheVariants.{LibxlRecord as AtRecord}
 use Rattle.mig_records.specs.declared.head.RecordHead.{RecordHead}
 use Rattle.mig_records.specs.Heads.{head_in}
 use Rattle.mig_libxl_form.specs.Judging.{libxl_record_at}
-use Rattle.mig_libxl_form.proofs.Among.{emulator_more, among_first}
 
 -- a body has its record's place
 pub body_is : (records : List LibxlRecord) (e : EmulatorsOf) (n type len : ℕ) → e ≡ emulators_of records → n ≡ length records → nat_eq type 1 ≡ false → (i : List ℕ) → libxl_content_at records type len i ≡ placed (AtRecord n) (body_of_type e type len i)

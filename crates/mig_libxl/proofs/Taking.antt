@@ -1,14 +1,7 @@
 -- What the reader keeps of a record's content.
-use Rattle.mig_libxl.proofs.Common.{◌≡◌, ℕ, ◌-◌, ◌≤◌, ◌<◌, true, false, List, length, take, drop, nat_eq, nat_le, nat_lt, Option, Some, None, Ok, refl, sym, ap, subst, ◌∙◌, arith, ◌||◌, le-leb, lt-leb, common_steps, ◌>>=◌, Passes, Cause, pairs_fault, ImageOf, LibxlContent, image_in, Image, Pairs, Context, EmulatorsOf, add_pairs, put_libxl_content, emulator_key, Holds, WrapperSeen, length-drop, le32, AgreesWithJudging, pairs_in, TakesLibxl}
-use Rattle.std.proofs.lemmas.Bool.{le-ltb, lt-ltb}
-use Rattle.std.proofs.lemmas.List.{take_all}
-use Rattle.std.proofs.lemmas.Option.{none-some, same_Some}
-use Rattle.mig_headers.specs.declared.fault.Cause.TheVariants.{BadEmulator, TooManyPairs, EmulatorIndex}
+use Rattle.mig_libxl.proofs.Common.{◌≡◌, ℕ, ◌-◌, ◌≤◌, ◌<◌, true, false, List, length, take, drop, nat_eq, nat_le, nat_lt, Option, Some, None, Ok, refl, sym, ap, subst, ◌∙◌, arith, ◌||◌, le-leb, lt-leb, common_steps, ◌>>=◌, Passes, Cause, pairs_fault, ImageOf, LibxlContent, image_in, Image, Pairs, Context, EmulatorsOf, add_pairs, put_libxl_content, emulator_key, Holds, WrapperSeen, length-drop, le32, AgreesWithJudging, pairs_in, TakesLibxl, le-ltb, lt-ltb, take_all, none-some, same_Some, BadEmulator, TooManyPairs, EmulatorIndex, spelled_with, fine_pairs, most_pairs}
 use Rattle.mig_restore_form.specs.Stream.{image_at}
-use Rattle.mig_libxl_form.specs.Emulators.{spelled_with}
 use Rattle.mig_libxl_form.specs.Judging.{fault_of_pairs, fault_of_context, inner_at}
-use Rattle.mig_libxl_form.proofs.Bodies.{fine_pairs}
-use Rattle.mig_guest.specs.Limits.{most_pairs}
 
 -- ---- the causes of an emulator's body
 

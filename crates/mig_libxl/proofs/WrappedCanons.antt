@@ -1,9 +1,6 @@
 -- The canonical stream of a guest that has emulators: its records, each in its place.
-use Rattle.mig_libxl.proofs.Common.{◌≡◌, ℕ, ◌+◌, ◌<◌, ◌≤◌, ◌-◌, Bool, true, false, List, [], ◌∷◌, ◌++◌, length, map, nat_eq, Some, None, refl, sym, ap, subst, ◌∙◌, inl, inr, arith, append_assoc, append-nil, length-append, unwrap_or, if◌then◌else◌, All, find, eqb-true, or_cases, All-head, All-tail, eq_by_cmp, all_of, part_total, IsFormed, is_emulator_code, GuestOf, part_cmp, Part, PartKey, put_pairs, text_of_map, ImageOf, text_of_emulators, LibxlRecord, is_libxl_ended, image_among, Pairs, Context, EmulatorsOf, add_pairs, put_libxl_content, store_at, one_more, FollowsLibxl, insert_leaves, pairs_in, texts_are_canonical, emulator_record, emulators_of, emulators_more, among_more, ended_more, most_pairs, most_records}
-use Rattle.mig_headers.specs.Pairs.{Pair}
+use Rattle.mig_libxl.proofs.Common.{◌≡◌, ℕ, ◌+◌, ◌<◌, ◌≤◌, ◌-◌, Bool, true, false, List, [], ◌∷◌, ◌++◌, length, map, nat_eq, Some, None, refl, sym, ap, subst, ◌∙◌, inl, inr, arith, append_assoc, append-nil, length-append, unwrap_or, if◌then◌else◌, All, find, eqb-true, or_cases, All-head, All-tail, eq_by_cmp, all_of, part_total, IsFormed, is_emulator_code, GuestOf, part_cmp, Part, PartKey, put_pairs, text_of_map, ImageOf, text_of_emulators, LibxlRecord, is_libxl_ended, image_among, Pairs, Context, EmulatorsOf, add_pairs, put_libxl_content, store_at, one_more, FollowsLibxl, insert_leaves, pairs_in, texts_are_canonical, emulator_record, emulators_of, emulators_more, among_more, ended_more, most_pairs, most_records, Pair, EmulatorsFit, ◌⊎◌}
 use Rattle.mig_bytes.specs.Sequences.{Spells}
-use Rattle.mig_libxl_form.specs.Spelled.{EmulatorsFit}
-use Rattle.std.proofs.Common.{◌⊎◌}
 use Rattle.mig_libxl.proofs.EmulatorParts.{IsEmulatorPart, KeysDiffer}
 use Rattle.mig_libxl.proofs.EmulatorRecords.{content_of, record_of_part, some_pairs, emulator_is_spelled}
 use Rattle.mig_libxl.proofs.EmulatorMaps.{apart}

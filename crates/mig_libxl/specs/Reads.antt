@@ -1,16 +1,13 @@
 -- What a reader of streams of either form answers.
 use Rattle.std.specs.Prelude.{◌≡◌, ℕ, List, length, Option, Some, is_some, Result}
 use Rattle.std.specs.FinMap as maps
-use Rattle.mig_bytes.specs.Answers.{or_stop}
-use Rattle.mig_bytes.specs.Judged.{AgreesWithJudging}
+use Rattle.mig_libxl.specs.Common.{or_stop, AgreesWithJudging, ImageOf, StreamOf, image_of_stream, guest_of, stream_at}
 use Rattle.mig_bytes.specs.declared.answer.Answer.{Answer}
 use Rattle.mig_headers.specs.declared.fault.Cause.{Cause}
 use Rattle.mig_headers.specs.declared.fault.Place.{Place}
 use Rattle.mig_restore_form.specs.Mean.{differs_of}
-use Rattle.mig_restore_form.specs.Stream.{ImageOf}
 use Rattle.mig_outline.specs.declared.judge.Tally.{Tally}
 use Rattle.mig_restore.specs.declared.read.Reading.{Reading}
-use Rattle.mig_libxl_form.specs.Stream.{StreamOf, image_of_stream, guest_of, stream_at}
 
 -- a reading of a stream: the guest that it means, and of its image the version, the number of records, and how many entries
 -- behind a VERIFY differ

@@ -1,16 +1,10 @@
 -- What the reader of a libxl stream keeps of the records before. Of an image it keeps an I, of which is said of which image it
 -- is, what holds of it always, and its kind.
 use Rattle.std.specs.Prelude.{◌≡◌, ◌==◌, ◌||◌, ℕ, ⊤, false, List, length, Option, Some, None, IfSome, IsSome}
-use Rattle.std.specs.Option.{option_map}
-use Rattle.mig_headers.specs.declared.kind.Kind.{Kind}
-use Rattle.mig_headers.specs.declared.kind.Kind.TheVariants.{Pv}
-use Rattle.mig_restore_form.specs.Stream.{ImageOf}
-use Rattle.mig_libxl_form.specs.Content.{LibxlRecord, LibxlContent}
+use Rattle.mig_libxl.specs.Common.{option_map, Kind, Pv, ImageOf, LibxlRecord, LibxlContent, has_emulator, image_in, image_among, AreEmulators}
 use Rattle.mig_libxl_form.specs.declared.head.RecordsBehind.{RecordsBehind}
-use Rattle.mig_libxl_form.specs.Among.{has_emulator, image_in, image_among}
 use Rattle.mig_libxl_form.specs.Emulators.{no_emulators, put_libxl_content, emulators_of}
 use Rattle.mig_libxl.specs.declared.read.WrapperSeen.{WrapperSeen}
-use Rattle.mig_libxl_form.specs.Formed.{AreEmulators}
 
 -- what is kept of the image, where there was one
 abbrev pub Holds : {I : Type 0} → (I → ImageOf → Type 0) → Option I → Option ImageOf → Type 0

@@ -1,20 +1,9 @@
 ghost use Rattle.std.specs.Prelude.{◌≡◌, IfOk, List, Some};
-ghost use Rattle.mig_bytes.specs.Answers.{or_stop};
-ghost use Rattle.mig_bytes.specs.Faults.{RisesOnReadFault};
-ghost use Rattle.mig_bytes.specs.Judged.{AgreesWithJudging};
-ghost use Rattle.mig_headers.specs.declared.kind.Kind.{Kind};
-ghost use Rattle.mig_headers.specs.declared.kind.Kind.TheVariants.{Pv};
+ghost use Rattle.mig_libxl.specs.Common.{or_stop, RisesOnReadFault, AgreesWithJudging, Kind, Pv, image_among, LibxlRecord, AreEmulators, StreamOf, Bare, Wrapped, IsStreamed, IsStreamedBare, ImageOf, image_at, image_behind};
 ghost use Rattle.mig_libxl.specs.Reads.{IsStreamReading, IsStreamTally};
-ghost use Rattle.mig_libxl_form.specs.Among.{image_among};
-ghost use Rattle.mig_libxl_form.specs.Content.{LibxlRecord};
 ghost use Rattle.mig_libxl_form.specs.Emulators.{emulators_of, no_emulators};
-ghost use Rattle.mig_libxl_form.specs.Formed.{AreEmulators};
-ghost use Rattle.mig_libxl_form.specs.Stream.{StreamOf};
-ghost use Rattle.mig_libxl_form.specs.Stream.StreamOf.{Bare, Wrapped};
 ghost use Rattle.mig_outline.specs.Judges.{IsTally};
-ghost use Rattle.mig_pvtables.specs.Whole.{IsStreamed, IsStreamedBare};
 ghost use Rattle.mig_restore.specs.Reads.{IsReading as IsImageReading};
-ghost use Rattle.mig_restore_form.specs.Stream.{ImageOf, image_at, image_behind};
 
 use mig_bytes::{Memory, Source};
 use mig_headers::Kind;

@@ -1,23 +1,14 @@
 ghost use Rattle.std.specs.Prelude.{Option, ◌≡◌, ◌≤◌, ◌+◌, ◌==◌, ◌∷◌, [], ◌++◌, ⊤, ◌≢◌, ◌<◌, List, true, None, IfOk, IfNone, OnOk, IsErrOf};
-ghost use Rattle.mig_bytes.specs.Answers.{or_stop};
-ghost use Rattle.mig_bytes.specs.Faults.{RisesOnReadFault};
-ghost use Rattle.mig_bytes.specs.Judged.{AgreesWithJudging};
+ghost use Rattle.mig_libxl.specs.Common.{or_stop, RisesOnReadFault, AgreesWithJudging, most_body, IsStreamed, LibxlRecord, ImageOf, option_map, Wrapped, header_at, libxl_records_at, wrapped_at, bare_at, stream_at};
 ghost use Rattle.mig_bytes.specs.declared.stop.Stop.TheVariants.{Memory as NoMemory};
-ghost use Rattle.mig_headers.specs.RecordTypes.{most_body};
 ghost use Rattle.mig_headers.specs.declared.fault.Cause.TheVariants.{Truncated};
-ghost use Rattle.mig_pvtables.specs.Whole.{IsStreamed};
 ghost use Rattle.mig_records.specs.Heads.{head_in};
 ghost use Rattle.mig_restore_form.specs.Judging.{most_records};
-ghost use Rattle.mig_libxl_form.specs.Content.{LibxlRecord};
 ghost use Rattle.mig_libxl_form.specs.Behind.{AreBehind, MayFollow, kind_of_image};
-ghost use Rattle.mig_restore_form.specs.Stream.{ImageOf};
-ghost use Rattle.std.specs.Option.{option_map};
 ghost use Rattle.mig_libxl.specs.Seen.{Holds, behind_of};
 ghost use Rattle.mig_libxl_form.specs.Content.LibxlContent.{Nothing};
 ghost use Rattle.mig_libxl_form.specs.Judging.{fault_of_libxl_head, libxl_head_at, pairs_at, context_at, skipped_at, inner_at, body_of_type, libxl_content_at, libxl_record_at, allows_length as length_allowed};
 ghost use Rattle.mig_libxl.specs.Seen.{IsLibxlSeen, IsLibxlBegun, IsClosed};
-ghost use Rattle.mig_libxl_form.specs.Stream.StreamOf.{Wrapped};
-ghost use Rattle.mig_libxl_form.specs.Stream.{header_at, libxl_records_at, wrapped_at, bare_at, stream_at};
 ghost use Rattle.mig_libxl.specs.Reads.{ReadsStream, JudgesStream};
 
 use crate::image::KeptImage;

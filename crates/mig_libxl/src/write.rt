@@ -1,14 +1,11 @@
 ghost use Rattle.std.specs.Prelude.{◌≡◌, ◌+◌, ◌≤◌, ◌==◌, ◌&&◌, ◌++◌, [], true, length, IfSome};
-ghost use Rattle.std.specs.Option.{option_map};
+ghost use Rattle.mig_libxl.specs.Common.{option_map, FaultHasCause, most_body, IsWhole};
 ghost use Rattle.std.specs.Ordering.{is_lt};
 ghost use Rattle.std.specs.List.{list_any};
 ghost use Rattle.std.specs.FinMap as maps;
 ghost use Rattle.byteorder.specs.Endian.{little_bytes};
 ghost use Rattle.mig_bytes.specs.Bytes.{Puts};
-ghost use Rattle.mig_bytes.specs.Faults.{FaultHasCause};
-ghost use Rattle.mig_headers.specs.RecordTypes.{most_body};
 ghost use Rattle.mig_guest.specs.Formed.{IsFormed, is_emulator_code};
-ghost use Rattle.mig_pvtables.specs.Whole.{IsWhole};
 ghost use Rattle.mig_records.specs.Records.{spelled};
 ghost use Rattle.mig_canon.specs.CanonStream.{has_emulators as some_emulators, is_of_converter as from_converter, emulator_record, emulator_cmp, NextEmulator, emulators_in_order, text_of_emulators, opening_text, wrapper_opening, wrapper_closing, canon_any};
 

@@ -1,15 +1,7 @@
 -- An accepted guest is whole, with the parts of its emulators: its image means a whole guest, and each record that is spelled
 -- leaves the emulators well formed.
-use Rattle.mig_libxl_form.proofs.Common.{◌≡◌, ℕ, ◌≤◌, ◌<◌, true, false, List, [], ◌∷◌, ◌++◌, length, nat_eq, Option, Some, None, refl, sym, ap, subst, ◌∙◌, arith, ◌||◌, eqb-true, length-append, AreBytes, Spells, no_part, one_more, pairs_are_read, Pair, Pv, PartKey, GuestOf, IsImage, ImageOf, LibxlRecord, LibxlContent, is_libxl_ended, image_in, image_among, Context, EmulatorsOf, no_emulators, put_libxl_content, add_pairs, AreEmulators, IsStreamedBare, HasLibxlContent, EmulatorsFit, FollowsLibxl, Bare, Wrapped, drop_at, none-some, same_Some, spelled_with, IsStreamed, has_emulator, IsFront, IsLibxlRecord, IsStream, AcceptedStream, optional, ends, pairs, context, StreamOf, image_of_stream, guest_of, most_pairs, most_body}
-use Rattle.std.proofs.lemmas.List.Elements.{All-drop, All-take}
-use Rattle.mig_pvtables.specs.Whole.{IsWhole}
-use Rattle.std.proofs.lemmas.Bool.{false≢true, or_parts}
-use Rattle.std.proofs.lemmas.List.{take_at}
-use Rattle.mig_policy.specs.PairFaults.{SpellPairs}
-use Rattle.mig_pvtables.specs.Blank.{blank, IsOfBytes}
-use Rattle.mig_restore_form.specs.Mean.{mean}
+use Rattle.mig_libxl_form.proofs.Common.{◌≡◌, ℕ, ◌≤◌, ◌<◌, true, false, List, [], ◌∷◌, ◌++◌, length, nat_eq, Option, Some, None, refl, sym, ap, subst, ◌∙◌, arith, ◌||◌, eqb-true, length-append, AreBytes, Spells, no_part, one_more, pairs_are_read, Pair, Pv, PartKey, GuestOf, IsImage, ImageOf, LibxlRecord, LibxlContent, is_libxl_ended, image_in, image_among, Context, EmulatorsOf, no_emulators, put_libxl_content, add_pairs, AreEmulators, IsStreamedBare, HasLibxlContent, EmulatorsFit, FollowsLibxl, Bare, Wrapped, drop_at, none-some, same_Some, spelled_with, IsStreamed, has_emulator, IsFront, IsLibxlRecord, IsStream, AcceptedStream, optional, ends, pairs, context, StreamOf, image_of_stream, guest_of, most_pairs, most_body, All-drop, All-take, IsWhole, false≢true, or_parts, take_at, SpellPairs, blank, IsOfBytes, mean, mean_kind}
 use Rattle.mig_restore_form.proofs.AcceptedWhole.{accepted_whole}
-use Rattle.mig_restore_form.proofs.Meaning.{mean_kind}
 use Rattle.mig_libxl_form.specs.Emulators.{emulators_of}
 use Rattle.mig_libxl_form.proofs.EmulatorGuests.{guest_done}
 use Rattle.mig_libxl_form.proofs.Formed.{context_kept, pairs_kept, none_yet}

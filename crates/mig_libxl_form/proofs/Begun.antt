@@ -1,8 +1,6 @@
 -- What is there after an error: the first of some parts, or the first pairs of a store.
-use Rattle.mig_libxl_form.proofs.Common.{◌≡◌, List, [], ◌∷◌, ◌++◌, map, refl, sym, ap, ◌∙◌, append_assoc, fold-append, Part, PartMap, put_part, put_parts, GuestOf, EmulatorsOf, emulator_parts, store_part, Bool, true, false, cond, Some, Result, Ok, Err, arith, eq_by_cmp, tied, part_cmp, part_exact, part_total, PartKey, Pair, PairMap, put_pairs, add_pairs, is_at, ArePartsBefore, stores_seen}
+use Rattle.mig_libxl_form.proofs.Common.{◌≡◌, List, [], ◌∷◌, ◌++◌, map, refl, sym, ap, ◌∙◌, append_assoc, fold-append, Part, PartMap, put_part, put_parts, GuestOf, EmulatorsOf, emulator_parts, store_part, Bool, true, false, cond, Some, Result, Ok, Err, arith, eq_by_cmp, tied, part_cmp, part_exact, part_total, PartKey, Pair, PairMap, put_pairs, add_pairs, is_at, ArePartsBefore, stores_seen, AreBegun, ArePairsBegun, ArePartsBegun}
 use Rattle.std.specs.Result.{OnErr}
-use Rattle.mig_policy.specs.PairMaps.{AreBegun}
-use Rattle.mig_libxl_form.specs.Emulators.{ArePairsBegun, ArePartsBegun}
 use Rattle.mig_libxl_form.proofs.Stores.{Entry, store_in, got_store, put_store, store_found, store_set}
 use Rattle.std.specs.FinMap as maps
 

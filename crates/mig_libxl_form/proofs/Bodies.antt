@@ -1,16 +1,9 @@
 -- The bodies of records: those without fault are those that are spelled.
-use Rattle.mig_libxl_form.proofs.Common.{◌≡◌, ℕ, ◌+◌, ◌≤◌, ◌<◌, Bool, true, false, cond, List, [], ◌∷◌, ◌++◌, length, take, drop, nat_eq, nat_le, Option, None, refl, sym, ap, subst, ◌∙◌, arith, take-append-drop, length-append, ◌&&◌, ◌||◌, eqb-true, le-leb, leb-true, lt-leb, common_steps, drop_at, said_goes, said_passes, Passes, Cause, Truncated, PartKey, pairs_fault, put_pairs, text_of_map, pairs_are_read, LibxlRecord, LibxlContent, Pairs, Context, EmulatorsOf, store_at, body_of_type, HasLibxlContent, EmulatorsFit, nil_from_length, length-drop, length-take-le, leb-false, both_none, neither_some, no_fault, rows_fine, pairs_in, Nothing, emulators_of, spelled_with, IsFront, optional, ends, pairs, context, most_body}
-use Rattle.std.proofs.Common.{nat_lt, not, ltb-false}
-use Rattle.std.proofs.lemmas.Bool.{le-ltb, not-false}
+use Rattle.mig_libxl_form.proofs.Common.{◌≡◌, ℕ, ◌+◌, ◌≤◌, ◌<◌, Bool, true, false, cond, List, [], ◌∷◌, ◌++◌, length, take, drop, nat_eq, nat_le, Option, None, refl, sym, ap, subst, ◌∙◌, arith, take-append-drop, length-append, ◌&&◌, ◌||◌, eqb-true, le-leb, leb-true, lt-leb, common_steps, drop_at, said_goes, said_passes, Passes, Cause, Truncated, PartKey, pairs_fault, put_pairs, text_of_map, pairs_are_read, LibxlRecord, LibxlContent, Pairs, Context, EmulatorsOf, store_at, body_of_type, HasLibxlContent, EmulatorsFit, nil_from_length, length-drop, length-take-le, leb-false, both_none, neither_some, no_fault, rows_fine, pairs_in, Nothing, emulators_of, spelled_with, IsFront, optional, ends, pairs, context, most_body, nat_lt, not, ltb-false, le-ltb, not-false, drop-append-le, said_at, is_optional, BadEmulator, TooManyPairs, EmulatorIndex, most_pairs}
 use Rattle.byteorder.specs.Endian.{little_number}
 use Rattle.mig_libxl_form.specs.Judging.{emulator_key, allows_length, field_rows, fault_of_libxl_fields, fault_of_pairs, fault_of_context, pairs_at, context_at, skipped_at}
-use Rattle.std.proofs.lemmas.List.{drop-append-le}
 use Rattle.byteorder.specs.Numbers.{little_from-append}
 use Rattle.mig_bytes.specs.Fields.{le32}
-use Rattle.mig_bytes.specs.Judged.{said_at}
-use Rattle.mig_headers.specs.RecordTypes.{is_optional}
-use Rattle.mig_headers.specs.declared.fault.Cause.TheVariants.{BadEmulator, TooManyPairs, EmulatorIndex}
-use Rattle.mig_guest.specs.Limits.{most_pairs}
 
 -- a field in the front of a body
 pub front_field : (front text : List ℕ) (at : ℕ) → length front ≡ 8 → at + 4 ≤ 8 → le32 (front ++ text) at ≡ le32 front at

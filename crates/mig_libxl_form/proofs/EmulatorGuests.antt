@@ -1,22 +1,10 @@
 -- A guest with the parts of its emulators: what it has at each key, and that it is whole, in its blank form and of bytes.
-use Rattle.mig_libxl_form.proofs.Common.{◌≡◌, ℕ, ◌+◌, ◌≤◌, true, false, List, [], ◌∷◌, ◌++◌, length, map, refl, sym, ap, subst, ◌∙◌, arith, option_or, option_map, fold-append, le-leb, AreBytes, Kind, Pv, Hvm, GuestOf, part_cmp, Part, PartMap, put_part, put_parts, PartKey, part_total, part_exact, PairMap, text_of_map, EmulatorsOf, no_emulators, store_part, AreEmulators, IsStreamed, IsStreamedBare, nil_from_length, Option, Some, None, is_none, insert_holds, maps_are_of_pairs, emulator_parts, IsEmulatorKey, IsStore, most_pairs, most_policy_entries, most_body}
-use Rattle.std.proofs.Common.{◌-◌}
-use Rattle.std.specs.Prelude.{T, if◌then◌else◌}
-use Rattle.std.specs.FinMap.{is_sorted}
-use Rattle.std.specs.List.{All}
-use Rattle.std.proofs.lemmas.List.Elements.{All-head, All-tail, All-append, All-map, All-weaker}
+use Rattle.mig_libxl_form.proofs.Common.{◌≡◌, ℕ, ◌+◌, ◌≤◌, true, false, List, [], ◌∷◌, ◌++◌, length, map, refl, sym, ap, subst, ◌∙◌, arith, option_or, option_map, fold-append, le-leb, AreBytes, Kind, Pv, Hvm, GuestOf, part_cmp, Part, PartMap, put_part, put_parts, PartKey, part_total, part_exact, PairMap, text_of_map, EmulatorsOf, no_emulators, store_part, AreEmulators, IsStreamed, IsStreamedBare, nil_from_length, Option, Some, None, is_none, insert_holds, maps_are_of_pairs, emulator_parts, IsEmulatorKey, IsStore, most_pairs, most_policy_entries, most_body, ◌-◌, T, if◌then◌else◌, is_sorted, All, All-head, All-tail, All-append, All-map, All-weaker, all_found, Each, with_emulators, lt-ltb, and_from, blank_of, seen, find_seen, entries_shown, parts_set, Missing}
 use Rattle.mig_guest.specs.Formed.{IsPart, IsFormed, is_emulator_code, width_of, is_policy}
 use Rattle.mig_guest.specs.declared.part_code.PartCode.TheVariants.{EmulatorPairs, EmulatorContext}
-use Rattle.mig_guest.proofs.Found.{all_found, Each}
-use Rattle.mig_libxl_form.specs.Emulators.{with_emulators}
-use Rattle.std.proofs.lemmas.Bool.{lt-ltb, and_from}
 use Rattle.mig_guest.specs.PartKeys.{context_key}
 use Rattle.mig_guest.proofs.Counts.{same_parts}
 use Rattle.mig_guest.proofs.PartSets.{put_other}
-use Rattle.mig_pvtables.specs.Blank.{blank_of}
-use Rattle.mig_guest.proofs.KeyedMaps.{seen, find_seen, entries_shown}
-use Rattle.mig_restore_form.proofs.PartsInOrder.{parts_set}
-use Rattle.mig_headers.specs.declared.fault.Cause.TheVariants.{Missing}
 use Rattle.mig_pvtables.specs.Faults.{fault_of_guest, faults_for, first_cause, too_many}
 use Rattle.std.specs.FinMap as maps
 

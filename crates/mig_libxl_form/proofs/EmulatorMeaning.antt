@@ -1,10 +1,6 @@
 -- Of each emulator the last context decides, and of each key of its store the last pair.
-use Rattle.mig_libxl_form.proofs.Common.{◌≡◌, ℕ, Bool, true, false, cond, List, [], ◌∷◌, ◌++◌, Option, Some, None, refl, sym, ap, ◌∙◌, unwrap_or, option_or, nat_cmp, eq_by_cmp, Pair, part_cmp, PartMap, PartKey, tied, part_total, part_exact, PairMap, put_pairs, LibxlRecord, LibxlContent, Image, Pairs, Context, EmulatorsOf, no_emulators, store_at, add_pairs, put_libxl_content, common_steps, arith, slice_cmp, Nothing, or_none}
-use Rattle.std.specs.Prelude.{fold, option_and_then}
+use Rattle.mig_libxl_form.proofs.Common.{◌≡◌, ℕ, Bool, true, false, cond, List, [], ◌∷◌, ◌++◌, Option, Some, None, refl, sym, ap, ◌∙◌, unwrap_or, option_or, nat_cmp, eq_by_cmp, Pair, part_cmp, PartMap, PartKey, tied, part_total, part_exact, PairMap, put_pairs, LibxlRecord, LibxlContent, Image, Pairs, Context, EmulatorsOf, no_emulators, store_at, add_pairs, put_libxl_content, common_steps, arith, slice_cmp, Nothing, or_none, fold, option_and_then, last_pair_value, same_key, part_ties}
 use Rattle.mig_policy.proofs.LastValues.{values_put}
-use Rattle.mig_policy.specs.PairMaps.{last_pair_value}
-use Rattle.mig_restore_form.specs.Mean.{same_key}
-use Rattle.mig_restore_form.proofs.Meaning.{part_ties}
 use Rattle.mig_libxl_form.specs.Emulators.{emulators_of, context_in, last_context, pairs_for, pairs_said, value_in_store}
 use Rattle.std.specs.FinMap as maps
 

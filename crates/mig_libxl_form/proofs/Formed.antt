@@ -1,13 +1,8 @@
 -- Emulators stay well formed, whatever pairs and contexts come.
-use Rattle.mig_libxl_form.proofs.Common.{◌≡◌, ℕ, ◌+◌, ◌≤◌, ◌<◌, List, [], ◌∷◌, ◌++◌, length, Option, Some, None, refl, sym, subst, arith, unwrap_or, nat_cmp, AreBytes, Pair, PartKey, part_total, part_exact, pairs_fault, PairMap, text_of_map, put_pairs, pairs_are_read, some_bytes_are_some_pairs, EmulatorsOf, store_at, add_pairs, AreEmulators, ◌∙◌, no_emulators, slice_cmp, none-some, insert_holds, maps_are_of_pairs, IsEmulatorKey, IsStore, most_pairs, most_body}
-use Rattle.std.specs.List.{AllByRecursion, flat_map}
+use Rattle.mig_libxl_form.proofs.Common.{◌≡◌, ℕ, ◌+◌, ◌≤◌, ◌<◌, List, [], ◌∷◌, ◌++◌, length, Option, Some, None, refl, sym, subst, arith, unwrap_or, nat_cmp, AreBytes, Pair, PartKey, part_total, part_exact, pairs_fault, PairMap, text_of_map, put_pairs, pairs_are_read, some_bytes_are_some_pairs, EmulatorsOf, store_at, add_pairs, AreEmulators, ◌∙◌, no_emulators, slice_cmp, none-some, insert_holds, maps_are_of_pairs, IsEmulatorKey, IsStore, most_pairs, most_body, AllByRecursion, flat_map, entries-insert, nat_list_cmp_total, All-from_recursion, recursion_from_All, text_of_pair}
 use Rattle.std.specs.declared.cmp.Ordering.TheVariants.{Equal, Less, Greater}
-use Rattle.std.specs.FinMap.{entries-insert}
 use Rattle.std.specs.FinMap.Entries.{put, by_order}
-use Rattle.std.specs.Cmp.Lexicographic.{nat_list_cmp_total}
-use Rattle.std.proofs.lemmas.List.Elements.{All-from_recursion, recursion_from_All}
 use Rattle.mig_bytes.proofs.ByteLists.{Bytes, bytes_front, bytes_back}
-use Rattle.mig_headers.specs.Pairs.{text_of_pair}
 use Rattle.mig_policy.specs.PairMaps.{IsOfPairs, text_of_entry, pairs_in}
 use Rattle.std.specs.FinMap as maps
 

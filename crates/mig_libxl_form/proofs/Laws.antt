@@ -1,18 +1,11 @@
 -- What judging accepts is what is spelled as the format says, of either form.
-use Rattle.mig_libxl_form.proofs.Common.{◌≡◌, ℕ, Bool, true, false, cond, List, [], ◌∷◌, ◌++◌, length, take, drop, Some, None, refl, sym, ap, subst, ◌∙◌, arith, append_assoc, take-append-drop, nat_eq, nat_le, ◌&&◌, eqb-true, leb-true, Judged, ◌>>=◌, placed, Passes, said_goes, said_passes, Spells, no_part, one_more, Cause, Truncated, Place, GuestOf, IsImage, ImageOf, LibxlRecord, is_libxl_ended, image_among, FollowsLibxl, libxl_records_at, Bare, Wrapped, length-take-le, length-drop, both_pass, placed_passes, same_passes, then_passes, libxl_ident, marker_of, image_at, accepted_is_image, IsStream, AcceptedStream, StreamOf, image_of_stream, guest_of, same_Some}
-use Rattle.std.proofs.Common.{inl, inr, ◌⊎◌}
-use Rattle.std.proofs.lemmas.Bool.{and_parts, eq-eqb}
+use Rattle.mig_libxl_form.proofs.Common.{◌≡◌, ℕ, Bool, true, false, cond, List, [], ◌∷◌, ◌++◌, length, take, drop, Some, None, refl, sym, ap, subst, ◌∙◌, arith, append_assoc, take-append-drop, nat_eq, nat_le, ◌&&◌, eqb-true, leb-true, Judged, ◌>>=◌, placed, Passes, said_goes, said_passes, Spells, no_part, one_more, Cause, Truncated, Place, GuestOf, IsImage, ImageOf, LibxlRecord, is_libxl_ended, image_among, FollowsLibxl, libxl_records_at, Bare, Wrapped, length-take-le, length-drop, both_pass, placed_passes, same_passes, then_passes, libxl_ident, marker_of, image_at, accepted_is_image, IsStream, AcceptedStream, StreamOf, image_of_stream, guest_of, same_Some, inl, inr, ◌⊎◌, and_parts, eq-eqb, Faulty, accepted_spelled, spelled_accepted, IsImageHeader, IsLibxlHeader, fault_of_libxl, is_from_legacy, marker, unless_ok, IsWrapped}
 use Rattle.mig_headers.specs.declared.fault.Place.TheVariants.{LibxlHeader}
 use Rattle.mig_libxl_form.specs.Stream.{header_at, bare_at, wrapped_at, stream_at, IsStreamRefused}
 use Rattle.byteorder.specs.Numbers.{big_from-append}
 use Rattle.mig_bytes.specs.Fields.{be32, be64}
-use Rattle.mig_bytes.specs.Judged.Judged.{Faulty}
-use Rattle.mig_bytes.proofs.Sequences.{accepted_spelled, spelled_accepted}
-use Rattle.mig_headers.specs.Headers.{IsImageHeader, IsLibxlHeader, fault_of_libxl, is_from_legacy, marker}
-use Rattle.mig_headers.proofs.HeaderLaws.{unless_ok}
 use Rattle.mig_headers.proofs.LibxlHeaders.{libxl_is_spelled}
 use Rattle.mig_restore_form.proofs.Converse.{image_is_accepted as image_passes}
-use Rattle.mig_libxl_form.specs.Spelled.{IsWrapped}
 use Rattle.mig_libxl_form.specs.Judging.{libxl_record_at}
 use Rattle.mig_libxl_form.proofs.Records.{found, record_goes, not_ended}
 use Rattle.mig_libxl_form.proofs.Forms.{behind_header, form_wrapped}

@@ -1,16 +1,10 @@
 -- Records: those that pass are those that are spelled.
-use Rattle.mig_libxl_form.proofs.Common.{◌≡◌, ℕ, ◌≤◌, ◌<◌, Bool, true, false, cond, List, [], ◌++◌, length, nat_eq, Option, Some, None, is_some, is_none, refl, sym, ap, subst, ◌∙◌, arith, append_assoc, length-append, ◌&&◌, ◌||◌, eqb-true, lt-leb, common_steps, Judged, ◌>>=◌, placed, Passes, said_goes, said_passes, Cause, Truncated, Place, Kind, Pv, Hvm, IsImage, ImageOf, LibxlRecord, LibxlContent, is_libxl_ended, image_among, Image, body_of_type, HasLibxlContent, EmulatorsFit, FollowsLibxl, nil_from_length, leb-false, both_pass, placed_passes, same_passes, then_passes, both_none, neither_some, no_fault, rows_fine, image_at, accepted_is_image, has_emulator, emulators_of, IsLibxlRecord, most_body, most_records}
-use Rattle.mig_bytes.specs.Bytes.{padding_len}
-use Rattle.mig_bytes.specs.Judged.{part}
+use Rattle.mig_libxl_form.proofs.Common.{◌≡◌, ℕ, ◌≤◌, ◌<◌, Bool, true, false, cond, List, [], ◌++◌, length, nat_eq, Option, Some, None, is_some, is_none, refl, sym, ap, subst, ◌∙◌, arith, append_assoc, length-append, ◌&&◌, ◌||◌, eqb-true, lt-leb, common_steps, Judged, ◌>>=◌, placed, Passes, said_goes, said_passes, Cause, Truncated, Place, Kind, Pv, Hvm, IsImage, ImageOf, LibxlRecord, LibxlContent, is_libxl_ended, image_among, Image, body_of_type, HasLibxlContent, EmulatorsFit, FollowsLibxl, nil_from_length, leb-false, both_pass, placed_passes, same_passes, then_passes, both_none, neither_some, no_fault, rows_fine, image_at, accepted_is_image, has_emulator, emulators_of, IsLibxlRecord, most_body, most_records, padding_len, part, append-nil, part_passes, part_whole, Found, IsLibxlComplete}
 use Rattle.mig_records.specs.Records.{IsRecord}
 use Rattle.mig_libxl_form.specs.Judging.{libxl_head_at, libxl_content_at, is_pv, order_rows, fault_of_libxl_fields, fault_of_order, fault_of_libxl_head, inner_at, libxl_record_at}
-use Rattle.std.proofs.lemmas.List.{append-nil}
 use Rattle.mig_bytes.specs.Fields.{le32}
-use Rattle.mig_bytes.proofs.Joins.{part_passes, part_whole}
-use Rattle.mig_bytes.proofs.Sequences.{Found}
 use Rattle.mig_headers.specs.declared.fault.Place.TheVariants.{LibxlRecord as AtRecord}
 use Rattle.mig_restore_form.proofs.Converse.{image_is_accepted}
-use Rattle.mig_libxl_form.specs.Spelled.{IsLibxlComplete}
 use Rattle.mig_libxl_form.specs.Spelled.IsLibxlRecord.{image as an_image, body as a_body}
 use Rattle.mig_libxl_form.proofs.Bodies.{FineFields, fields_fine, fine_fields, body_says, body_goes, length_fits, has_no_image}
 

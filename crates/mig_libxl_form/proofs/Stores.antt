@@ -1,8 +1,7 @@
 -- The stores as their tree lists them, and pairs added to one.
-use Rattle.mig_libxl_form.proofs.Common.{◌≡◌, ◌<◌, List, [], ◌∷◌, length, map, cond, Option, Some, None, refl, sym, ap, ◌∙◌, arith, unwrap_or, option_map, Pair, PartKey, part_cmp, PartMap, part_total, part_exact, PairMap, put_pairs, EmulatorsOf, store_at, add_pairs, is_at, stores_seen}
+use Rattle.mig_libxl_form.proofs.Common.{◌≡◌, ◌<◌, List, [], ◌∷◌, length, map, cond, Option, Some, None, refl, sym, ap, ◌∙◌, arith, unwrap_or, option_map, Pair, PartKey, part_cmp, PartMap, part_total, part_exact, PairMap, put_pairs, EmulatorsOf, store_at, add_pairs, is_at, stores_seen, shown, entries_seen, get_seen, seen_insert}
 use Rattle.std.specs.List.Sorted.{IsStrictlySortedBy}
 use Rattle.std.specs.Map.{keys_of, lookup}
-use Rattle.mig_guest.proofs.KeyedMaps.{shown, entries_seen, get_seen, seen_insert}
 use Rattle.mig_policy.specs.PairMaps.{pairs_in}
 use Rattle.std.specs.FinMap as maps
 

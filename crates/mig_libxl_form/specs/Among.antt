@@ -1,8 +1,7 @@
 -- What stands among the records of a libxl stream.
 use Rattle.std.specs.Prelude.{Bool, List, [], ◌∷◌, Option, Some, None, ◌==◌, ◌||◌}
 use Rattle.std.specs.List.{list_any}
-use Rattle.std.specs.Option.{option_or}
-use Rattle.mig_restore_form.specs.Stream.{ImageOf}
+use Rattle.mig_libxl_form.specs.Common.{option_or, ImageOf}
 use Rattle.mig_libxl_form.specs.Content.{LibxlContent, LibxlRecord}
 use Rattle.mig_libxl_form.specs.Content.LibxlContent.{Image}
 

@@ -1,10 +1,6 @@
 -- What the head of a libxl record is judged by, of the records before it.
 use Rattle.std.specs.Prelude.{◌≡◌, ◌≤◌, ◌<◌, ℕ, true, false, List, length, Option, Some, None, IsSome}
-use Rattle.mig_headers.specs.RecordTypes.{most_body}
-use Rattle.mig_headers.specs.declared.kind.Kind.{Kind}
-use Rattle.mig_headers.specs.declared.kind.Kind.TheVariants.{Pv}
-use Rattle.mig_restore_form.specs.Judging.{most_records}
-use Rattle.mig_restore_form.specs.Stream.{ImageOf}
+use Rattle.mig_libxl_form.specs.Common.{most_body, Kind, Pv, most_records, ImageOf}
 use Rattle.mig_libxl_form.specs.Content.{LibxlRecord}
 use Rattle.mig_libxl_form.specs.Among.{has_emulator, image_among}
 use Rattle.mig_libxl_form.specs.Judging.{allows_length}

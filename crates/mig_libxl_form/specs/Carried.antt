@@ -1,8 +1,6 @@
 -- Guests that a stream carries.
 use Rattle.std.specs.Prelude.{◌≡◌}
-use Rattle.mig_guest.specs.Guests.{GuestOf}
-use Rattle.mig_pvtables.specs.Blank.{blank}
-use Rattle.mig_pvtables.specs.Whole.{IsWhole}
+use Rattle.mig_libxl_form.specs.Common.{GuestOf, blank, IsWhole}
 
 -- a whole guest in its blank form
 pub record IsCarried (g : GuestOf) : Type 0 where

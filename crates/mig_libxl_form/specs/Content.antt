@@ -1,8 +1,6 @@
 -- The records of a libxl stream, and what they say (libxl migration stream, "Records").
 use Rattle.std.specs.Prelude.{ℕ, List}
-use Rattle.mig_headers.specs.Pairs.{Pair}
-use Rattle.mig_guest.specs.declared.part_key.PartKey.{PartKey}
-use Rattle.mig_restore_form.specs.Stream.{ImageOf}
+use Rattle.mig_libxl_form.specs.Common.{Pair, PartKey, ImageOf}
 
 -- what a record says: nothing; the image that follows LIBXC_CONTEXT; pairs for an emulator's store, by the key of the part
 -- that they are added to; or an emulator's context, by the key of the part that it is

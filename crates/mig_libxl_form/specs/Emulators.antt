@@ -1,17 +1,11 @@
 -- What the records of emulators mean: of each key of an emulator's store the last value, and of each emulator the last
 -- context (libxl migration stream, "EMULATOR_XENSTORE_DATA" and "EMULATOR_CONTEXT").
 use Rattle.std.specs.Prelude.{◌≡◌, ℕ, List, [], ◌∷◌, ◌++◌, fold, map, Option, Some, None, option_and_then, unwrap_or, if◌then◌else◌, refl, length}
-use Rattle.std.specs.Option.{option_or}
+use Rattle.mig_libxl_form.specs.Common.{option_or, Pair, PartKey, GuestOf, Part, PartMap, parts_code, put_parts, PairMap, pairs_code, put_pairs, text_of_map, same_key}
 use Rattle.std.specs.Coded.{Coded, code_by, coded×}
 use Rattle.std.specs.FinMap as maps
-use Rattle.mig_headers.specs.Pairs.{Pair}
-use Rattle.mig_guest.specs.declared.part_key.PartKey.{PartKey}
 use Rattle.mig_guest.specs.contracts.part_key.PartKey as part_key
-use Rattle.mig_guest.specs.Guests.{GuestOf}
 use Rattle.mig_guest.specs.Order.{part_cmp}
-use Rattle.mig_guest.specs.Parts.{Part, PartMap, parts_code, put_parts}
-use Rattle.mig_policy.specs.PairMaps.{PairMap, pairs_code, put_pairs, text_of_map}
-use Rattle.mig_restore_form.specs.Mean.{same_key}
 use Rattle.mig_libxl_form.specs.Content.{LibxlRecord, LibxlContent}
 use Rattle.mig_libxl_form.specs.Content.LibxlContent.{Nothing, Image, Pairs, Context}
 

@@ -1,11 +1,7 @@
 -- Emulators that are well formed, as a reader keeps them whatever comes, before they are set in a guest.
 use Rattle.std.specs.Prelude.{◌≡◌, ◌≤◌, ◌<◌, ◌+◌, ℕ, List, length, Some}
 use Rattle.std.specs.FinMap as maps
-use Rattle.mig_bytes.specs.Bytes.{AreBytes}
-use Rattle.mig_headers.specs.RecordTypes.{most_body}
-use Rattle.mig_guest.specs.declared.part_key.PartKey.{PartKey}
-use Rattle.mig_guest.specs.Limits.{most_pairs}
-use Rattle.mig_policy.specs.PairMaps.{PairMap, IsOfPairs, text_of_map}
+use Rattle.mig_libxl_form.specs.Common.{AreBytes, most_body, PartKey, most_pairs, PairMap, IsOfPairs, text_of_map}
 use Rattle.mig_libxl_form.specs.Emulators.{EmulatorsOf}
 
 -- the key of an emulator's part of this code

@@ -1,25 +1,10 @@
 -- Judging a record of a libxl stream: its parts in their order, and the causes that are tried in each, in the order of
 -- their numbers.
 use Rattle.std.specs.Prelude.{ℕ, Bool, true, false, List, [], ◌∷◌, length, drop, Option, Some, None, is_some, is_none, ◌==◌, ◌&&◌, ◌||◌, not, nat_le, nat_lt, if◌then◌else◌}
-use Rattle.std.specs.Option.{option_or}
-use Rattle.mig_bytes.specs.Bytes.{padding_len}
-use Rattle.mig_bytes.specs.Fields.{le32}
+use Rattle.mig_libxl_form.specs.Common.{option_or, padding_len, le32, Passes, is_optional, most_body, Kind, Pv, Hvm, Cause, Truncated, BodyTooLong, Unsupported, UnknownMandatory, BadLength, TooManyRecords, EmulatorForPv, ContextCount, BadEmulator, TooManyPairs, EmulatorIndex, Place, PartKey, most_pairs, pairs_fault, pairs_in, most_records, ImageOf, image_at}
 use Rattle.mig_bytes.specs.Judged.{Judged, ◌>>=◌, part, placed, said_at, plain_at}
-use Rattle.mig_bytes.specs.Judged.Judged.{Passes}
-use Rattle.mig_headers.specs.RecordTypes.{is_optional, most_body}
 use Rattle.mig_headers.specs.Rows.{first_fault}
-use Rattle.mig_headers.specs.declared.kind.Kind.{Kind}
-use Rattle.mig_headers.specs.declared.kind.Kind.TheVariants.{Pv, Hvm}
-use Rattle.mig_headers.specs.declared.fault.Cause.{Cause}
-use Rattle.mig_headers.specs.declared.fault.Cause.TheVariants.{Truncated, BodyTooLong, Unsupported, UnknownMandatory, BadLength, TooManyRecords, EmulatorForPv, ContextCount, BadEmulator, TooManyPairs, EmulatorIndex}
-use Rattle.mig_headers.specs.declared.fault.Place.{Place}
 use Rattle.mig_headers.specs.declared.fault.Place.TheVariants.{LibxlRecord as AtRecord}
-use Rattle.mig_guest.specs.declared.part_key.PartKey.{PartKey}
-use Rattle.mig_guest.specs.Limits.{most_pairs}
-use Rattle.mig_policy.specs.PairFaults.{pairs_fault}
-use Rattle.mig_policy.specs.PairMaps.{pairs_in}
-use Rattle.mig_restore_form.specs.Judging.{most_records}
-use Rattle.mig_restore_form.specs.Stream.{ImageOf, image_at}
 use Rattle.mig_libxl_form.specs.Content.{LibxlRecord, LibxlContent}
 use Rattle.mig_libxl_form.specs.Among.{has_emulator, image_among}
 use Rattle.mig_libxl_form.specs.Content.LibxlContent.{Nothing, Image, Pairs, Context}

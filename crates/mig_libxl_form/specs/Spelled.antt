@@ -1,19 +1,8 @@
 -- The spelling of a stream of either form, in the words of the format (libxl migration stream, "Header" and "Records").
 use Rattle.std.specs.Prelude.{◌≡◌, ◌≤◌, ◌<◌, ◌^◌, ℕ, ⊤, true, false, Bool, List, [], ◌++◌, length, Some, None}
-use Rattle.mig_bytes.specs.Fields.{le32}
-use Rattle.mig_bytes.specs.Sequences.{Spells}
-use Rattle.mig_headers.specs.RecordTypes.{most_body}
-use Rattle.mig_headers.specs.Headers.{IsLibxlHeader}
-use Rattle.mig_headers.specs.Pairs.{Pair}
-use Rattle.mig_headers.specs.declared.kind.Kind.TheVariants.{Pv}
-use Rattle.mig_guest.specs.Guests.{GuestOf}
-use Rattle.mig_guest.specs.declared.part_key.PartKey.{PartKey}
-use Rattle.mig_guest.specs.Limits.{most_pairs}
-use Rattle.mig_policy.specs.PairFaults.{SpellPairs}
+use Rattle.mig_libxl_form.specs.Common.{le32, Spells, most_body, IsLibxlHeader, Pair, Pv, GuestOf, PartKey, most_pairs, SpellPairs, most_records, ImageOf}
 use Rattle.mig_records.specs.Records.{IsRecord}
-use Rattle.mig_restore_form.specs.Judging.{most_records}
 use Rattle.mig_restore_form.specs.Spelled.{IsImage}
-use Rattle.mig_restore_form.specs.Stream.{ImageOf}
 use Rattle.mig_libxl_form.specs.Content.{LibxlRecord, LibxlContent}
 use Rattle.mig_libxl_form.specs.Among.{is_libxl_ended, has_emulator, image_among}
 use Rattle.mig_libxl_form.specs.Content.LibxlContent.{Nothing, Image, Pairs, Context}

@@ -1,18 +1,9 @@
 -- Judging a stream of either form: a bare image, or an image inside a libxl stream (libxl migration stream, "Header" and
 -- "Records").
 use Rattle.std.specs.Prelude.{◌≡◌, ℕ, ◌&&◌, ◌==◌, List, length, drop, nat_le, Option, Some, if◌then◌else◌}
-use Rattle.mig_bytes.specs.Fields.{be64}
+use Rattle.mig_libxl_form.specs.Common.{be64, Passes, Faulty, sequence_at, libxl_ident, fault_of_libxl, Cause, Truncated, Place, GuestOf, mean, ImageOf, image_at}
 use Rattle.mig_bytes.specs.Judged.{Judged, ◌>>=◌, placed, said_at}
-use Rattle.mig_bytes.specs.Judged.Judged.{Passes, Faulty}
-use Rattle.mig_bytes.specs.Sequences.{sequence_at}
-use Rattle.mig_headers.specs.Headers.{libxl_ident, fault_of_libxl}
-use Rattle.mig_headers.specs.declared.fault.Cause.{Cause}
-use Rattle.mig_headers.specs.declared.fault.Cause.TheVariants.{Truncated}
-use Rattle.mig_headers.specs.declared.fault.Place.{Place}
 use Rattle.mig_headers.specs.declared.fault.Place.TheVariants.{LibxlHeader}
-use Rattle.mig_guest.specs.Guests.{GuestOf}
-use Rattle.mig_restore_form.specs.Mean.{mean}
-use Rattle.mig_restore_form.specs.Stream.{ImageOf, image_at}
 use Rattle.mig_libxl_form.specs.Content.{LibxlRecord}
 use Rattle.mig_libxl_form.specs.Among.{is_libxl_ended, image_among}
 use Rattle.mig_libxl_form.specs.Emulators.{EmulatorsOf, no_emulators, emulators_of, with_emulators}

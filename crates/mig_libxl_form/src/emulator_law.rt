@@ -1,7 +1,6 @@
 ghost use Rattle.std.specs.Prelude.{◌≡◌, ℕ, List};
 ghost use Rattle.std.specs.FinMap as maps;
-ghost use Rattle.mig_guest.specs.declared.part_key.PartKey.{PartKey};
-ghost use Rattle.mig_policy.specs.PairMaps.{last_pair_value};
+ghost use Rattle.mig_libxl_form.specs.Common.{PartKey, last_pair_value};
 ghost use Rattle.mig_libxl_form.specs.Content.{LibxlRecord};
 ghost use Rattle.mig_libxl_form.specs.Emulators.{emulators_of, last_context, pairs_said, value_in_store};
 

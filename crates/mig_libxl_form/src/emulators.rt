@@ -1,9 +1,6 @@
 ghost use Rattle.std.specs.Prelude.{◌≡◌, ◌≤◌, map, ◌<◌, length, None, OnOk, OnErr, IsErrOf};
 ghost use Rattle.std.specs.FinMap as maps;
-ghost use Rattle.mig_guest.specs.Parts.{put_parts};
-ghost use Rattle.mig_guest.specs.Limits.{most_pairs};
-ghost use Rattle.mig_policy.specs.PairFaults.{pairs_fault};
-ghost use Rattle.mig_policy.specs.PairMaps.{pairs_in, put_pairs, text_of_map};
+ghost use Rattle.mig_libxl_form.specs.Common.{put_parts, most_pairs, pairs_fault, pairs_in, put_pairs, text_of_map};
 ghost use Rattle.mig_policy.specs.declared.pair_map.PairsAnswer.TheVariants.{TooMany};
 ghost use Rattle.mig_libxl_form.specs.Emulators.{no_emulators, store_at, store_part, add_pairs, with_emulators, emulator_parts, ArePairsBegun, ArePartsBegun};
 

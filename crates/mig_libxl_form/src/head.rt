@@ -1,5 +1,5 @@
 ghost use Rattle.std.specs.Prelude.{◌≡◌, ◌≤◌, List, true, IfNone};
-ghost use Rattle.mig_headers.specs.RecordTypes.{most_body};
+ghost use Rattle.mig_libxl_form.specs.Common.{most_body};
 ghost use Rattle.mig_libxl_form.specs.Content.{LibxlRecord};
 ghost use Rattle.mig_libxl_form.specs.Judging.{fault_of_libxl_fields, fault_of_libxl_head, allows_length as length_allowed};
 ghost use Rattle.mig_libxl_form.specs.Behind.{AreBehind, MayFollow};

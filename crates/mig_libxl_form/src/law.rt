@@ -1,11 +1,5 @@
 ghost use Rattle.std.specs.Prelude.{◌≡◌, ◌⊎◌, ℕ, List};
-ghost use Rattle.mig_bytes.specs.Bytes.{AreBytes};
-ghost use Rattle.mig_bytes.specs.Judged.Judged.{Passes};
-ghost use Rattle.mig_headers.specs.declared.fault.Cause.{Cause};
-ghost use Rattle.mig_headers.specs.declared.fault.Place.{Place};
-ghost use Rattle.mig_guest.specs.Guests.{GuestOf};
-ghost use Rattle.mig_pvtables.specs.Blank.{blank, IsOfBytes};
-ghost use Rattle.mig_pvtables.specs.Whole.{IsWhole};
+ghost use Rattle.mig_libxl_form.specs.Common.{AreBytes, Passes, Cause, Place, GuestOf, blank, IsOfBytes, IsWhole};
 ghost use Rattle.mig_libxl_form.specs.Carried.{IsCarried};
 ghost use Rattle.mig_libxl_form.specs.Spelled.{IsStream, AcceptedStream};
 ghost use Rattle.mig_libxl_form.specs.Stream.{StreamOf, stream_at, IsStreamRefused};

@@ -1,11 +1,6 @@
 -- A machine that is exact stays so, call by call.
-use Rattle.mig_machine.proofs.Common.{◌≡◌, ℕ, ◌+◌, ◌-◌, ◌^◌, ◌≤◌, ◌<◌, min, Bool, true, false, cond, List, [], ◌∷◌, length, Option, Some, None, is_some, refl, sym, ap, subst, ◌∙◌, arith, option_map, HostOf, History, LogTook, Since, and_call, after_log, Pfns, pfns_of_words, no_pfns, LineOf, ran, after, logged_after, touched, MachineSeen, HistoryNoted, calls_of, is_paused, log_of, history_of, history_told, course_of, asked_before, AreExact, StandRoundPause, IsExactFrom, IsLaterMachine, RunsOn}
-use Rattle.std.proofs.Common.{unwrap_or}
-use Rattle.mig_guest.specs.History.{one_more, no_history}
+use Rattle.mig_machine.proofs.Common.{◌≡◌, ℕ, ◌+◌, ◌-◌, ◌^◌, ◌≤◌, ◌<◌, min, Bool, true, false, cond, List, [], ◌∷◌, length, Option, Some, None, is_some, refl, sym, ap, subst, ◌∙◌, arith, option_map, HostOf, History, LogTook, Since, and_call, after_log, Pfns, pfns_of_words, no_pfns, LineOf, ran, after, logged_after, touched, MachineSeen, HistoryNoted, calls_of, is_paused, log_of, history_of, history_told, course_of, asked_before, AreExact, StandRoundPause, IsExactFrom, IsLaterMachine, RunsOn, unwrap_or, one_more, no_history, ran_between, after_between, touched_on, touched_same, asked_in, AllCounted, IsExactBy}
 use Rattle.mig_machine_script.specs.Courses.{IsLaterCourse}
-use Rattle.mig_machine_script.specs.Groups.{ran_between}
-use Rattle.mig_machine_script.proofs.CoursesRun.{after_between, touched_on, touched_same}
-use Rattle.mig_machine.specs.Exact.{asked_in, AllCounted, IsExactBy}
 
 -- ---- what the lines of a call do
 

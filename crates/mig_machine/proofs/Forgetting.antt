@@ -1,7 +1,5 @@
 -- A log that was taken of a state that forgets.
-use Rattle.mig_machine.proofs.Common.{◌≡◌, ℕ, Bool, true, false, cond, List, refl, sym, ap, subst, ◌∙◌, ◌==◌, list_any, fun_ext, LogTaken, Ran, Pfns, no_pfns, without_pfns, forgetting}
-use Rattle.mig_guest.specs.MachineStates.{MachineState}
-use Rattle.mig_machine.specs.Forgetful.{forgotten}
+use Rattle.mig_machine.proofs.Common.{◌≡◌, ℕ, Bool, true, false, cond, List, refl, sym, ap, subst, ◌∙◌, ◌==◌, list_any, fun_ext, LogTaken, Ran, Pfns, no_pfns, without_pfns, forgetting, MachineState, forgotten}
 
 -- what isn't in a set stays out of it
 out_by : (b : Bool) (x : Bool) → x ≡ false → cond b false x ≡ false

@@ -1,7 +1,5 @@
 -- A frame number that has a machine frame is below the width.
-use Rattle.mig_machine.proofs.Common.{◌≡◌, ℕ, ◌<◌, Option, Some, None, refl, option_map, HostOf, IsValid}
-use Rattle.std.specs.Prelude.{IfSome}
-use Rattle.mig_guest.specs.Hosts.{HostFrame}
+use Rattle.mig_machine.proofs.Common.{◌≡◌, ℕ, ◌<◌, Option, Some, None, refl, option_map, HostOf, IsValid, IfSome, HostFrame}
 use Rattle.std.specs.FinMap as maps
 
 has_frame : (h : HostOf) (p mfn : ℕ) (frame : Option HostFrame) → IsValid h → maps.get h.frames p ≡ frame → option_map (λ (f : HostFrame). f.machine) frame ≡ Some mfn → p < h.width

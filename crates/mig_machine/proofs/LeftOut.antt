@@ -1,17 +1,13 @@
 -- A set without the numbers of a list, one number after another.
-use Rattle.mig_machine.proofs.Common.{[], ◌∷◌, map, ◌≡◌, ℕ, ◌+◌, ◌/◌, ◌<◌, ◌≤◌, Bool, true, false, cond, List, length, take, refl, sym, ap, ◌∙◌, arith, ◌==◌, list_any, All, LogTook, fun_ext, Pfns, pfns_of_words, without_pfns}
-use Rattle.std.proofs.Common.{nat_eq, ◌%◌, get_or}
-use Rattle.std.specs.Prelude.{◌||◌, Contains}
+use Rattle.mig_machine.proofs.Common.{[], ◌∷◌, map, ◌≡◌, ℕ, ◌+◌, ◌/◌, ◌<◌, ◌≤◌, Bool, true, false, cond, List, length, take, refl, sym, ap, ◌∙◌, arith, ◌==◌, list_any, All, LogTook, fun_ext, Pfns, pfns_of_words, without_pfns, nat_eq, ◌%◌, get_or, ◌||◌, Contains, eqb-true, log_forgotten}
 use Rattle.std.specs.Int.{bit_at}
 use Rattle.std.proofs.lemmas.List.Elements.{All-nil, All-cons}
 use Rattle.std.proofs.lemmas.Map.Views.{Contains-from_any, list_any-from_Contains}
 use Rattle.std.specs.Cmp.{nat_eq_equiv}
-use Rattle.std.proofs.lemmas.Bool.{eqb-true}
 use Rattle.std.proofs.lemmas.List.{get_or_past}
 use Rattle.std.proofs.lemmas.List.Folds.{list_any_more}
 use Rattle.std.proofs.lemmas.Nat.Bits.{bit_at-zero}
 use Rattle.mig_guest.specs.Changes.{without_pfn}
-use Rattle.mig_machine.specs.Forgetful.{log_forgotten}
 
 -- one number more is left out
 one_by : (a b x : Bool) → cond b false (cond a false x) ≡ cond (a || b) false x

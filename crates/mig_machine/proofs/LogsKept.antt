@@ -1,12 +1,7 @@
 -- Logs that are kept in places that were made beforehand.
-use Rattle.mig_machine.proofs.Common.{zero, suc, [], ◌∷◌, ◌++◌, take, drop, map, Option, Some, arith, ◌≡◌, ℕ, ◌+◌, ◌≤◌, ◌<◌, List, Bool, length, slice_set, cond, false, refl, ap, ◌∙◌, common_steps, History, Since, LogTook, and_call, after_log, pfns_of_words, no_pfns}
-use Rattle.std.proofs.Common.{le_refl}
-use Rattle.std.specs.Prelude.{slice_get}
-use Rattle.mig_guest.specs.History.{nothing_asked}
+use Rattle.mig_machine.proofs.Common.{zero, suc, [], ◌∷◌, ◌++◌, take, drop, map, Option, Some, arith, ◌≡◌, ℕ, ◌+◌, ◌≤◌, ◌<◌, List, Bool, length, slice_set, cond, false, refl, ap, ◌∙◌, common_steps, History, Since, LogTook, and_call, after_log, pfns_of_words, no_pfns, le_refl, slice_get, nothing_asked, log_told, log_noted, logs_before, history_in}
 use Rattle.mig_machine.specs.declared.notes.KeptLog.{KeptLog}
-use Rattle.mig_machine.specs.MachineSeen.{log_told}
 use Rattle.mig_machine.specs.declared.notes.Notes.{Notes}
-use Rattle.mig_machine.specs.Noted.{log_noted, logs_before, history_in}
 
 abbrev pub took_of : Option KeptLog → LogTook
 took_of o = log_told (log_noted o)

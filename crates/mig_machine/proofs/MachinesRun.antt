@@ -1,7 +1,5 @@
 -- A machine that runs lines, and what it is at.
-use Rattle.mig_machine.proofs.Common.{◌≡◌, false, refl, arith, Ran, ran, after, MachineSeen, calls_of, is_paused, log_of, machine_state, course_of, IsLaterMachine}
-use Rattle.mig_machine_script.proofs.LinesLogged.{LinesRan}
-use Rattle.mig_machine_script.proofs.CoursesRun.{from_start}
+use Rattle.mig_machine.proofs.Common.{◌≡◌, false, refl, arith, Ran, ran, after, MachineSeen, calls_of, is_paused, log_of, machine_state, course_of, IsLaterMachine, LinesRan, from_start}
 
 -- lines ran
 pub ran_lines : (a b : MachineSeen) → LinesRan a.host b.host (log_of a) (log_of b) → is_paused a ≡ false → Ran (machine_state a) (machine_state b) (log_of b)

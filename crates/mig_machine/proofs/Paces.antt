@@ -1,13 +1,8 @@
 -- From rounds and exact logs to paces.
-use Rattle.mig_machine.proofs.Common.{arith, ◌≡◌, ℕ, zero, suc, ◌+◌, ◌-◌, ◌^◌, min, ◌≤◌, ◌<◌, Bool, true, false, cond, List, [], ◌∷◌, ◌++◌, length, refl, sym, ap, subst, ◌∙◌, HostOf, most_saved_width, LineOf, Pfns, no_pfns, LogTook, History, touched, MachineSeen, is_paused, history_of, asked_before, AreExact, StandRoundPause, IsExactFrom}
+use Rattle.mig_machine.proofs.Common.{arith, ◌≡◌, ℕ, zero, suc, ◌+◌, ◌-◌, ◌^◌, min, ◌≤◌, ◌<◌, Bool, true, false, cond, List, [], ◌∷◌, ◌++◌, length, refl, sym, ap, subst, ◌∙◌, HostOf, most_saved_width, LineOf, Pfns, no_pfns, LogTook, History, touched, MachineSeen, is_paused, history_of, asked_before, AreExact, StandRoundPause, IsExactFrom, ◌*◌, ◌⊎◌, nat_lt, length-append, append-nil, inl, inr, filter, range_with_len, cases_lt, lt-ltb, joined, all_below, size, members}
 use Rattle.mig_guest.proofs.Sizes.{size-le}
-use Rattle.std.proofs.Common.{◌*◌, ◌⊎◌, nat_lt, length-append, append-nil, inl, inr}
-use Rattle.std.specs.Prelude.{filter}
-use Rattle.std.specs.List.{range_with_len}
-use Rattle.std.proofs.lemmas.Bool.{cases_lt, lt-ltb}
 use Rattle.mig_headers.specs.declared.kind.Kind.{Kind}
 use Rattle.mig_headers.specs.declared.kind.Kind.TheVariants.{Pv, Hvm}
-use Rattle.mig_guest.specs.Pfns.{joined, all_below, size, members}
 use Rattle.mig_guest.specs.Rounds.{OfEachLog, to_read, GoesOn, AreCalls, Rounds, Tight, rounds_read, all_read}
 use Rattle.mig_machine.specs.Paced.{Pace, pace_before, GoesOnFrom, IsPace, ArePaces, Paced, sizes, sent_again, read_in, pfns_paced, paces_of, HasPaces}
 

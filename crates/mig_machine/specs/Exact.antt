@@ -1,14 +1,7 @@
 -- What a machine has logged, log by log, as its script alone says it; and what it is to be a machine later on.
 use Rattle.std.specs.Prelude.{◌≡◌, ℕ, ◌+◌, ◌-◌, ◌^◌, ◌≤◌, ◌<◌, min, List, [], ◌∷◌, length, true, false, if◌then◌else◌}
 use Rattle.std.specs.Option.{option_map}
-use Rattle.mig_guest.specs.Hosts.{HostOf}
-use Rattle.mig_guest.specs.History.{LogTook, History, one_more}
-use Rattle.mig_guest.specs.Pfns.{Pfns}
-use Rattle.mig_guest.specs.Rounds.{OfEachLog}
-use Rattle.mig_machine_script.specs.Courses.{IsLaterCourse}
-use Rattle.mig_machine_script.specs.Groups.{ran, ran_between}
-use Rattle.mig_machine_script.specs.HostLines.{after, logged_after}
-use Rattle.mig_machine_script.specs.Touched.{touched}
+use Rattle.mig_machine.specs.Common.{HostOf, LogTook, History, one_more, Pfns, OfEachLog, IsLaterCourse, ran, ran_between, after, logged_after, touched}
 use Rattle.mig_machine.specs.MachineSeen.{MachineSeen, calls_of, is_paused, log_of, history_of, course_of}
 
 -- how many calls were made up to and with the last of these logs, which stand the latest first

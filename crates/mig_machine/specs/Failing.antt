@@ -1,8 +1,6 @@
 -- A machine of which chosen calls fail, and what it is to be that machine later on.
 use Rattle.std.specs.Prelude.{◌≡◌, ℕ, ◌≤◌, ◌↔◌, List, Result, IsErr, OnOk, OnErr, refl}
-use Rattle.std.specs.Coded.{Coded, code_by, coded×, coded_ℕ, coded_list}
-use Rattle.mig_bytes.specs.Memory.{counted_up, IsListed}
-use Rattle.mig_guest.specs.MachineStates.{MachineState}
+use Rattle.mig_machine.specs.Common.{Coded, code_by, coded×, coded_ℕ, coded_list, counted_up, IsListed, MachineState}
 use Rattle.mig_machine.specs.Calls.{KeepsContract}
 use Rattle.mig_machine.specs.Exact.{IsLaterMachine}
 use Rattle.mig_machine.specs.MachineSeen.{MachineSeen, machine_state, machine_code}

@@ -1,11 +1,6 @@
 -- A machine that never logs chosen frame numbers (PFN), and what it is to be that machine later on.
 use Rattle.std.specs.Prelude.{◌≡◌, ℕ, ◌==◌, if◌then◌else◌, false, List, Result, OnOk, map, refl}
-use Rattle.std.specs.Coded.{Coded, code_by, coded×, coded_ℕ, coded_list}
-use Rattle.std.specs.List.{list_any}
-use Rattle.mig_guest.specs.History.{LogTook, History}
-use Rattle.mig_guest.specs.MachineCalls.{LogTaken}
-use Rattle.mig_guest.specs.MachineStates.{MachineState}
-use Rattle.mig_guest.specs.Pfns.{Pfns}
+use Rattle.mig_machine.specs.Common.{Coded, code_by, coded×, coded_ℕ, coded_list, list_any, LogTook, History, LogTaken, MachineState, Pfns}
 use Rattle.mig_machine.specs.Calls.{KeepsContract}
 use Rattle.mig_machine.specs.Exact.{IsLaterMachine}
 use Rattle.mig_machine.specs.MachineSeen.{MachineSeen, machine_state, machine_code}

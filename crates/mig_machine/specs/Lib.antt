@@ -1,3 +1,4 @@
+mod Common
 pub mod MachineSeen
 pub mod Noted
 pub mod MachineFields

@@ -1,9 +1,6 @@
 -- What the fields of a machine are seen as, and what is true of them.
 use Rattle.std.specs.Prelude.{◌≡◌, ℕ, ◌+◌, ◌/◌, ◌≤◌, length, drop, false}
-use Rattle.mig_guest.specs.Hosts.{most_saved_width}
-use Rattle.mig_guest.specs.Pfns.{pfns_of_words}
-use Rattle.mig_machine_script.specs.Groups.{lines_up_to}
-use Rattle.mig_machine_script.specs.HostLines.{room_for}
+use Rattle.mig_machine.specs.Common.{most_saved_width, pfns_of_words, lines_up_to, room_for}
 use Rattle.mig_machine.specs.MachineSeen.{MachineSeen}
 use Rattle.mig_machine.specs.Noted.{noted_in}
 use Rattle.mig_machine.specs.declared.machine.ScriptMachine.TheInside.{Inside}

@@ -1,13 +1,7 @@
 -- A machine as contracts see it. It is data: a set of frame numbers is words of 64 bits, of which bit p mod 64 of word p / 64
 -- tells of p.
 use Rattle.std.specs.Prelude.{ℕ, ◌+◌, Bool, true, List, map, Option, is_some, unwrap_or, refl}
-use Rattle.std.specs.Coded.{Coded, code_by, coded×, coded_ℕ, coded_bool, coded_list, coded_option}
-use Rattle.mig_guest.specs.Hosts.{HostOf, host_code}
-use Rattle.mig_guest.specs.History.{History, LogTook, Since}
-use Rattle.mig_guest.specs.MachineStates.{MachineState}
-use Rattle.mig_guest.specs.Pfns.{Pfns, pfns_of_words}
-use Rattle.mig_machine_script.specs.ScriptLines.{LineOf, line_code}
-use Rattle.mig_machine_script.specs.Courses.{Course}
+use Rattle.mig_machine.specs.Common.{Coded, code_by, coded×, coded_ℕ, coded_bool, coded_list, coded_option, HostOf, host_code, History, LogTook, Since, MachineState, Pfns, pfns_of_words, LineOf, line_code, Course}
 
 -- what was asked since a log was taken, or from the start on
 pub record SinceNoted : Type 0 where

@@ -1,6 +1,6 @@
 -- The history as a machine keeps it: the first `taken` of the logs that were made beforehand.
 use Rattle.std.specs.Prelude.{ℕ, zero, suc, List, [], ◌∷◌, Option, Some, None, slice_get, false}
-use Rattle.mig_guest.specs.History.{History, LogTook}
+use Rattle.mig_machine.specs.Common.{History, LogTook}
 use Rattle.mig_machine.specs.MachineSeen.{LogNoted, HistoryNoted, log_told, history_told}
 use Rattle.mig_machine.specs.declared.notes.KeptLog.{KeptLog}
 use Rattle.mig_machine.specs.declared.notes.Notes.{Notes}

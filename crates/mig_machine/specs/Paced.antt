@@ -1,12 +1,7 @@
 -- The rounds of a live save as a host and a script alone tell them.
 use Rattle.std.specs.Prelude.{◌≡◌, ℕ, ◌+◌, ◌-◌, ◌≤◌, ◌<◌, ◌⊎◌, List, [], ◌∷◌, ◌++◌, length, ⊤}
 use Rattle.mig_headers.specs.declared.kind.Kind.{Kind}
-use Rattle.mig_guest.specs.Hosts.{HostOf}
-use Rattle.mig_machine_script.specs.ScriptLines.{LineOf}
-use Rattle.mig_machine_script.specs.Touched.{touched}
-use Rattle.mig_guest.specs.History.{LogTook}
-use Rattle.mig_guest.specs.Pfns.{Pfns, all_below, joined, members, size}
-use Rattle.mig_guest.specs.Rounds.{AreCalls, Rounds, least_log, most_rounds}
+use Rattle.mig_machine.specs.Common.{HostOf, LineOf, touched, LogTook, Pfns, all_below, joined, members, size, AreCalls, Rounds, least_log, most_rounds}
 use Rattle.mig_machine.specs.MachineSeen.{MachineSeen, history_of}
 use Rattle.mig_machine.specs.Exact.{asked_before}
 

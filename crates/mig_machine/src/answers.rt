@@ -1,9 +1,7 @@
 ghost use Rattle.std.specs.Prelude.{◌≡◌, ℕ, ◌+◌, ◌/◌, ◌≤◌, length};
-ghost use Rattle.mig_guest.specs.MachineCalls.{seen_at, page_peeked};
-ghost use Rattle.mig_guest.specs.Pfns.{pfns_of_words, no_pfns};
+ghost use Rattle.mig_machine.specs.Common.{seen_at, page_peeked, pfns_of_words, no_pfns, later_itself, later_still};
 ghost use Rattle.mig_machine.specs.MachineSeen.{machine_state, course_of};
 ghost use Rattle.mig_machine.specs.Exact.{IsLaterMachine};
-ghost use Rattle.mig_machine_script.proofs.CoursesRun.{later_itself, later_still};
 
 use crate::machine::ScriptMachine;
 use mig_bytes::Failed;

@@ -1,13 +1,7 @@
 ghost use Rattle.std.proofs.Common.{◌∙◌, le_refl, le_trans};
 ghost use Rattle.std.specs.Prelude.{refl, ◌≡◌, ◌+◌, ◌/◌, ◌<◌, ◌↔◌, length, IsTrue, IsErr, IfOk, IfSome, OnOk, OnErr};
-ghost use Rattle.mig_bytes.specs.Faults.{FaultHasCause};
-ghost use Rattle.mig_bytes.specs.Memory.{counted_up, IsListed};
-ghost use Rattle.mig_guest.specs.Hosts.{pfn_in};
-ghost use Rattle.mig_guest.specs.MachineCalls.{seen_at, page_peeked, Peeked, LookedUp, LogTaken, Paused};
-ghost use Rattle.mig_guest.specs.MachineStates.{IsValidState};
-ghost use Rattle.mig_guest.specs.Pfns.{pfns_of_words};
+ghost use Rattle.mig_machine.specs.Common.{FaultHasCause, counted_up, IsListed, pfn_in, seen_at, page_peeked, Peeked, LookedUp, LogTaken, Paused, IsValidState, pfns_of_words, later_itself, later_still};
 ghost use Rattle.mig_machine.specs.Failing.{failing_state, IsLaterFailing, IsFailingCall};
-ghost use Rattle.mig_machine_script.proofs.CoursesRun.{later_itself, later_still};
 ghost use Rattle.mig_machine.specs.MachineSeen.{course_of};
 
 use crate::machine::ScriptMachine;

@@ -1,11 +1,8 @@
 ghost use Rattle.std.proofs.Common.{◌∙◌};
 ghost use Rattle.std.specs.Prelude.{refl, ◌≡◌, ◌+◌, ◌/◌, ◌<◌, length, IfOk, IfSome, OnOk, OnErr};
-ghost use Rattle.mig_guest.specs.Hosts.{pfn_in};
+ghost use Rattle.mig_machine.specs.Common.{pfn_in, seen_at, page_peeked, Peeked, LookedUp, LogTaken, Paused, pfns_of_words, later_itself, later_still};
 ghost use Rattle.mig_machine.specs.MachineSeen.{course_of};
-ghost use Rattle.mig_guest.specs.MachineCalls.{seen_at, page_peeked, Peeked, LookedUp, LogTaken, Paused};
-ghost use Rattle.mig_guest.specs.Pfns.{pfns_of_words};
 ghost use Rattle.mig_machine.specs.Forgetful.{forgetful_state, without_pfns, IsLaterForgetful, TakesMore, IsForgetfulCall};
-ghost use Rattle.mig_machine_script.proofs.CoursesRun.{later_itself, later_still};
 
 use crate::machine::ScriptMachine;
 use mig_bytes::Failed;

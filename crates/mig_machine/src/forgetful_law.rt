@@ -1,5 +1,5 @@
 ghost use Rattle.std.specs.Prelude.{◌≡◌, ℕ, false, Contains};
-ghost use Rattle.std.specs.List.{All};
+ghost use Rattle.mig_machine.specs.Common.{All};
 ghost use Rattle.mig_machine.specs.Forgetful.{ForgetfulSeen, forgetful_state};
 ghost use Rattle.mig_machine.specs.MachineSeen.{log_of};
 

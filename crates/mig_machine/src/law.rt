@@ -1,8 +1,5 @@
 ghost use Rattle.std.specs.Prelude.{◌≡◌, ◌≤◌, false};
-ghost use Rattle.mig_machine_script.specs.Groups.{ran};
-ghost use Rattle.mig_machine_script.specs.HostLines.{after};
-ghost use Rattle.mig_guest.specs.History.{no_history};
-ghost use Rattle.mig_guest.specs.Pfns.{no_pfns};
+ghost use Rattle.mig_machine.specs.Common.{ran, after, no_history, no_pfns};
 ghost use Rattle.mig_machine.specs.MachineSeen.{MachineSeen, calls_of, is_paused, log_of, history_of};
 ghost use Rattle.mig_machine.specs.Exact.{IsLaterMachine, IsExactFrom};
 

@@ -1,9 +1,5 @@
 ghost use Rattle.std.specs.Prelude.{◌≡◌, ◌+◌, ◌/◌, ◌≤◌, false, length, IfOk, OnOk};
-ghost use Rattle.mig_guest.specs.Hosts.{most_saved_width};
-ghost use Rattle.mig_guest.specs.History.{no_history};
-ghost use Rattle.mig_guest.specs.MachineStates.{Ran, IsValidState};
-ghost use Rattle.mig_guest.specs.Pfns.{no_pfns, pfns_of_words};
-ghost use Rattle.mig_machine_script.specs.HostLines.{room_for};
+ghost use Rattle.mig_machine.specs.Common.{most_saved_width, no_history, Ran, IsValidState, no_pfns, pfns_of_words, room_for};
 ghost use Rattle.mig_machine.specs.Noted.{history_in};
 ghost use Rattle.mig_machine.specs.MachineSeen.{calls_of, is_paused, log_of, history_of, machine_state};
 ghost use Rattle.mig_machine.specs.Exact.{RunsOn};

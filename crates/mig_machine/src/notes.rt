@@ -1,6 +1,5 @@
 ghost use Rattle.std.specs.Prelude.{◌≡◌, ℕ, ◌+◌, ◌/◌, ◌^◌, ◌≤◌, ◌<◌, length, IfOk};
-ghost use Rattle.mig_guest.specs.Pfns.{pfns_of_words, no_pfns};
-ghost use Rattle.std.specs.List.{All};
+ghost use Rattle.mig_machine.specs.Common.{pfns_of_words, no_pfns, All};
 
 use mig_bytes::Memory;
 use mig_guest::pfn_set::{clear, contains, insert, none};

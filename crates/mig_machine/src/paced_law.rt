@@ -1,8 +1,6 @@
 ghost use Rattle.std.specs.Prelude.{◌≡◌, ◌+◌, ◌≤◌, ℕ, List, length, true};
 ghost use Rattle.mig_headers.specs.declared.kind.Kind.TheVariants.{Hvm};
-ghost use Rattle.mig_guest.specs.Hosts.{HostOf, most_saved_width};
-ghost use Rattle.mig_machine_script.specs.ScriptLines.{LineOf};
-ghost use Rattle.mig_guest.specs.Rounds.{Rounds, Tight, all_read};
+ghost use Rattle.mig_machine.specs.Common.{HostOf, most_saved_width, LineOf, Rounds, Tight, all_read};
 ghost use Rattle.mig_machine.specs.MachineSeen.{MachineSeen, is_paused, history_of};
 ghost use Rattle.mig_machine.specs.Exact.{IsExactFrom};
 ghost use Rattle.mig_machine.specs.Paced.{Paced, HasPaces, pfns_paced};

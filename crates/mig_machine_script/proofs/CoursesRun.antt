@@ -1,9 +1,6 @@
 -- The lines run by one call more, and by calls between two others.
-use Rattle.mig_machine_script.proofs.Common.{◌≡◌, ℕ, zero, suc, ◌+◌, ◌-◌, ◌<◌, ◌≤◌, ◌^◌, ◌⊎◌, Bool, true, false, cond, List, [], ◌∷◌, ◌++◌, length, take, drop, inl, inr, refl, sym, ap, subst, ◌∙◌, arith, append_assoc, take-add, length-drop, drop_of_length-le, cases_lt, HostOf, Pfns, no_pfns, LineOf, Dot, ends_group, first_group, first_length, lines_up_to, ran, after, after_line, logs, with_logged, logged_after}
-use Rattle.std.proofs.Common.{min, append-nil}
-use Rattle.std.proofs.lemmas.List.Sums.{fold-append}
+use Rattle.mig_machine_script.proofs.Common.{◌≡◌, ℕ, zero, suc, ◌+◌, ◌-◌, ◌<◌, ◌≤◌, ◌^◌, ◌⊎◌, Bool, true, false, cond, List, [], ◌∷◌, ◌++◌, length, take, drop, inl, inr, refl, sym, ap, subst, ◌∙◌, arith, append_assoc, take-add, length-drop, drop_of_length-le, cases_lt, HostOf, Pfns, no_pfns, LineOf, Dot, ends_group, first_group, first_length, lines_up_to, ran, after, after_line, logs, with_logged, logged_after, min, append-nil, fold-append, ran_between}
 use Rattle.mig_machine_script.specs.Courses.{Course, IsLaterCourse}
-use Rattle.mig_machine_script.specs.Groups.{ran_between}
 use Rattle.mig_machine_script.specs.Touched.{touched}
 use Rattle.mig_machine_script.proofs.LinesLogged.{IsRegular, LinesRan, lines_ran}
 

@@ -1,10 +1,6 @@
 -- Bytes are cut at the first that has a value.
-use Rattle.mig_machine_script.proofs.Common.{◌≡◌, ◌≢◌, ℕ, ◌+◌, ◌-◌, ◌<◌, ◌≤◌, Bool, false, List, [], ◌∷◌, ◌++◌, length, take, drop, get_or, nat_eq, cond, Some, None, refl, sym, ap, ◌∙◌, arith, inl, inr, All, position, common_steps, BeginsWithText}
+use Rattle.mig_machine_script.proofs.Common.{◌≡◌, ◌≢◌, ℕ, ◌+◌, ◌-◌, ◌<◌, ◌≤◌, Bool, false, List, [], ◌∷◌, ◌++◌, length, take, drop, get_or, nat_eq, cond, Some, None, refl, sym, ap, ◌∙◌, arith, inl, inr, All, position, common_steps, BeginsWithText, position_or_len, slice_split, get_or-take, slice_split_none, slice_split_first, fails_before_first, split_at_first, passes_at_first}
 use Rattle.std.proofs.Common.{eqb-true, nat_lt}
-use Rattle.std.specs.List.{position_or_len, slice_split}
-use Rattle.std.proofs.lemmas.List.{get_or-take}
-use Rattle.std.proofs.lemmas.List.Splits.{slice_split_none, slice_split_first}
-use Rattle.std.proofs.lemmas.List.Sums.{fails_before_first, split_at_first, passes_at_first}
 
 abbrev pub is_it : ℕ → ℕ → Bool
 is_it c b = nat_eq b c

@@ -1,8 +1,5 @@
 -- The lines before a dot: how many dots are among them, and what follows.
-use Rattle.mig_machine_script.proofs.Common.{◌≡◌, ℕ, zero, suc, ◌+◌, ◌≤◌, ◌⊎◌, Bool, true, false, cond, List, [], ◌∷◌, ◌++◌, length, take, drop, inl, inr, refl, sym, ap, subst, ◌∙◌, arith, append_assoc, take-add, length-drop, length-append, drop_of_length-le, LineOf, Dot, ends_group, first_group, first_length, lines_up_to, ran}
-use Rattle.std.proofs.Common.{filter, take-append-drop}
-use Rattle.std.proofs.lemmas.List.Elements.{filter-append}
-use Rattle.mig_machine_script.specs.Groups.{dots_in}
+use Rattle.mig_machine_script.proofs.Common.{◌≡◌, ℕ, zero, suc, ◌+◌, ◌≤◌, ◌⊎◌, Bool, true, false, cond, List, [], ◌∷◌, ◌++◌, length, take, drop, inl, inr, refl, sym, ap, subst, ◌∙◌, arith, append_assoc, take-add, length-drop, length-append, drop_of_length-le, LineOf, Dot, ends_group, first_group, first_length, lines_up_to, ran, filter, take-append-drop, filter-append, dots_in}
 
 is_dot : (line : LineOf) → ends_group line ≡ true → line ≡ Dot
 is_dot Dot e = refl

@@ -1,9 +1,7 @@
 -- What fields say, and what no line has.
-use Rattle.mig_machine_script.proofs.Common.{◌≡◌, ℕ, ◌<◌, true, List, [], ◌∷◌, length, get_or, Option, Some, None, Result, Ok, Err, sym, ap, subst, arith, decimal, codes, ◌==◌, option_copied, length-slice_split, fields_left, HasFields, LineOf, IsNumber, IsHex, AreNumbers, letter_of, fields_in, Write, Put, Dot}
-use Rattle.std.proofs.Common.{Bor}
+use Rattle.mig_machine_script.proofs.Common.{◌≡◌, ℕ, ◌<◌, true, List, [], ◌∷◌, length, get_or, Option, Some, None, Result, Ok, Err, sym, ap, subst, arith, decimal, codes, ◌==◌, option_copied, length-slice_split, fields_left, HasFields, LineOf, IsNumber, IsHex, AreNumbers, letter_of, fields_in, Write, Put, Dot, Bor, IsAscii-decimal}
 use Rattle.std.specs.Prelude.{IfNone, is_some}
 use Rattle.std.specs.Str.{IsUtf8}
-use Rattle.std.proofs.lemmas.Fmt.{IsAscii-decimal}
 use Rattle.std.proofs.lemmas.Str.{IsUtf8-from_ascii}
 
 -- what holds anyway holds where there is no value

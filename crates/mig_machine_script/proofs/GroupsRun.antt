@@ -1,7 +1,5 @@
 -- A group of lines, line by line, and frame numbers that are logged.
-use Rattle.mig_machine_script.proofs.Common.{◌≡◌, ℕ, zero, suc, ◌+◌, ◌<◌, ◌≤◌, ◌/◌, true, false, cond, List, [], ◌∷◌, drop, Some, inl, inr, refl, sym, ap, subst, ◌∙◌, arith, ◌||◌, cases_lt, eq-eqb, HostOf, no_pfns, LineOf, Dot, ends_group, first_group, first_length, logs, with_logged}
-use Rattle.std.specs.Prelude.{slice_get}
-use Rattle.mig_machine_script.specs.HostLines.{room_of}
+use Rattle.mig_machine_script.proofs.Common.{◌≡◌, ℕ, zero, suc, ◌+◌, ◌<◌, ◌≤◌, ◌/◌, true, false, cond, List, [], ◌∷◌, drop, Some, inl, inr, refl, sym, ap, subst, ◌∙◌, arith, ◌||◌, cases_lt, eq-eqb, HostOf, no_pfns, LineOf, Dot, ends_group, first_group, first_length, logs, with_logged, slice_get, room_of}
 use Rattle.mig_machine_script.proofs.LinesLogged.{IsRegular, line_ran}
 
 pub logs_inside : (h : HostOf) (line : LineOf) (pfn : ℕ) → IsRegular h → logs h line ≡ Some pfn → pfn < h.width

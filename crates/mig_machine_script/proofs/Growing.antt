@@ -1,10 +1,9 @@
 -- Lines are added behind lines; what is left of an input that is too long.
-use Rattle.mig_machine_script.proofs.Common.{◌≡◌, ℕ, List, [], ◌∷◌, ◌++◌, length, map, drop, Option, Some, None, Err, refl, sym, ap, subst, ◌∙◌, arith, length-append, common_steps, LineOf, IsScriptLine, line_said, AreScriptLines, BeginsWithText}
+use Rattle.mig_machine_script.proofs.Common.{◌≡◌, ℕ, List, [], ◌∷◌, ◌++◌, length, map, drop, Option, Some, None, Err, refl, sym, ap, subst, ◌∙◌, arith, length-append, common_steps, LineOf, IsScriptLine, line_said, AreScriptLines, BeginsWithText, map-append}
 use Rattle.std.specs.Io.KnownBytes.{Consumes}
 use Rattle.mig_bytes.specs.Bytes.{Grown}
 use Rattle.mig_bytes.specs.declared.stop.Got.{Got}
 use Rattle.mig_bytes.specs.declared.stop.Got.TheVariants.{Whole, Short}
-use Rattle.std.proofs.lemmas.List.{map-append}
 use Rattle.mig_machine_script.specs.declared.script.Line.{Line}
 use Rattle.mig_machine_script.specs.declared.script.ScriptAnswer.TheVariants.{TooLong}
 use Rattle.mig_machine_script.specs.ScriptAnswers.{ReadsScript}

@@ -1,8 +1,6 @@
 -- All bytes are a script, or have a first bad line.
-use Rattle.mig_machine_script.proofs.Common.{◌≡◌, ◌⊎◌, ℕ, zero, suc, ◌+◌, ◌<◌, ◌≤◌, ◌^◌, List, [], ◌∷◌, length, take, drop, ◌-◌, Option, Some, None, Result, Ok, Err, refl, sym, ap, subst, ◌∙◌, arith, inl, inr, length-append, decimal, codes, ◌==◌, position, cases_eq, cases_lt, length-slice_split, HasFields, LineOf, IsNumber, IsHex, AreNumbers, AreArguments, IsScriptLine, letter_of, fields_in, Write, Retype, Add, Remove, Exchange, Put, Dot, BeginsWithText, IsScript, IsBadLine}
-use Rattle.std.proofs.lemmas.List.{nil_from_length}
+use Rattle.mig_machine_script.proofs.Common.{◌≡◌, ◌⊎◌, ℕ, zero, suc, ◌+◌, ◌<◌, ◌≤◌, ◌^◌, List, [], ◌∷◌, length, take, drop, ◌-◌, Option, Some, None, Result, Ok, Err, refl, sym, ap, subst, ◌∙◌, arith, inl, inr, length-append, decimal, codes, ◌==◌, position, cases_eq, cases_lt, length-slice_split, HasFields, LineOf, IsNumber, IsHex, AreNumbers, AreArguments, IsScriptLine, letter_of, fields_in, Write, Retype, Add, Remove, Exchange, Put, Dot, BeginsWithText, IsScript, IsBadLine, nil_from_length, decimal_is_IsNumeral}
 use Rattle.std.specs.Str.Parse.{digits_value}
-use Rattle.std.proofs.lemmas.Fmt.{decimal_is_IsNumeral}
 use Rattle.hex.specs.Hex.{decode_of}
 use Rattle.hex.specs.declared.error.FromHexError.{FromHexError}
 use Rattle.mig_machine_script.proofs.Cutting.{is_it, behind, cut_line, last_line}

@@ -1,7 +1,5 @@
 -- What a line needs where it applies, and the order in which it is tested.
-use Rattle.mig_machine_script.proofs.Common.{◌≡◌, ℕ, ◌<◌, Bool, true, not, length, Option, Some, None, subst, option_map, ltb-true, HostOf, HostFrame, HostFrames, Add, Exchange, applies, is_unnamed, names_machine}
-use Rattle.std.proofs.lemmas.Bool.{and_parts}
-use Rattle.std.specs.FinMap.{len-entries}
+use Rattle.mig_machine_script.proofs.Common.{◌≡◌, ℕ, ◌<◌, Bool, true, not, length, Option, Some, None, subst, option_map, ltb-true, HostOf, HostFrame, HostFrames, Add, Exchange, applies, is_unnamed, names_machine, and_parts, len-entries}
 use Rattle.mig_pagetypes.specs.Limits.{most_frames}
 use Rattle.mig_machine_script.proofs.NamedMachines.{IsUnused, unused}
 use Rattle.std.specs.FinMap as maps

@@ -1,23 +1,15 @@
 -- Lines change the footprint of no other frame number than those that they put into the log.
-use Rattle.mig_machine_script.proofs.Common.{◌≡◌, ◌≢◌, ℕ, ◌+◌, ◌<◌, ◌≤◌, Bool, true, false, cond, not, nat_eq, List, [], ◌∷◌, ◌++◌, take, drop, length, Option, Some, None, option_and_then, inr, refl, sym, ap, subst, ◌∙◌, arith, ◌||◌, ◌&&◌, option_map, eqb-true, eqb-false, ltb-true, common_steps, none-some, same_Some, inserted, PageType, HostOf, HostFrame, HostFrames, IsOneToOne, IsValid, footprint_of, Pfns, LineOf, Write, Retype, Add, Remove, Exchange, Put, Dot, applies, after_line, after, logs, with_logged, logged_after, is_unnamed, names_machine}
+use Rattle.mig_machine_script.proofs.Common.{◌≡◌, ◌≢◌, ℕ, ◌+◌, ◌<◌, ◌≤◌, Bool, true, false, cond, not, nat_eq, List, [], ◌∷◌, ◌++◌, take, drop, length, Option, Some, None, option_and_then, inr, refl, sym, ap, subst, ◌∙◌, arith, ◌||◌, ◌&&◌, option_map, eqb-true, eqb-false, ltb-true, common_steps, none-some, same_Some, inserted, PageType, HostOf, HostFrame, HostFrames, IsOneToOne, IsValid, footprint_of, Pfns, LineOf, Write, Retype, Add, Remove, Exchange, Put, Dot, applies, after_line, after, logs, with_logged, logged_after, is_unnamed, names_machine, or_parts, leb-true, and_parts, not-true, length-replicate, inserted_other, removed, removed_other, type_has_data, type_of, put_part_in, footprint, with_pfn, changed_by, pfn_changed, is_allowed, is_key, has_length, key_of_numbers, new_frame, typed_as}
 use Rattle.std.proofs.Common.{replicate, is_some, unwrap_or}
 use Rattle.std.specs.Ordering.{eq_by_cmp}
-use Rattle.std.proofs.lemmas.Bool.{or_parts, leb-true, and_parts, not-true}
-use Rattle.std.proofs.lemmas.List.{length-replicate}
-use Rattle.mig_bytes.proofs.NumberMaps.{inserted_other, removed, removed_other}
-use Rattle.mig_pagetypes.specs.PageTypes.{type_has_data, type_of}
 use Rattle.mig_guest.specs.declared.part_key.PartKey.{PartKey}
 use Rattle.mig_guest.specs.Order.{part_cmp}
 use Rattle.mig_guest.specs.Parts.{PartMap}
 use Rattle.mig_guest.proofs.KeyedMaps.{tied}
 use Rattle.mig_guest.proofs.PartOrder.{part_total, part_exact}
-use Rattle.mig_host.specs.HostView.{put_part_in}
 use Rattle.mig_host.specs.Changes.{put_or_stay, page_for}
 use Rattle.mig_guest.specs.PartCodes.{is_fixed}
-use Rattle.mig_guest.specs.Footprints.{footprint}
 use Rattle.mig_guest.specs.MachineStates.{IsSameShape}
-use Rattle.mig_guest.specs.Pfns.{with_pfn}
-use Rattle.mig_machine_script.specs.HostLines.{changed_by, pfn_changed, is_allowed, is_key, has_length, key_of_numbers, new_frame, typed_as}
 use Rattle.mig_machine_script.proofs.NamedMachines.{IsWholePage, KeepsNamed, StaysOrMoves, print_kept, unused, unnamed, stays_put, moves_put, still_one, keeps_named}
 use Rattle.std.specs.FinMap as maps
 

@@ -1,12 +1,7 @@
 -- Machine frames that tables name, and the frame numbers that have them.
-use Rattle.mig_machine_script.proofs.Common.{◌≡◌, ◌≢◌, ℕ, zero, suc, ◌+◌, ◌<◌, ◌≤◌, ◌⊎◌, Bool, true, false, cond, List, [], ◌∷◌, length, Option, Some, None, option_and_then, inl, inr, refl, sym, ap, subst, ◌∙◌, arith, drop_of_length-le, ◌==◌, list_any, option_map, cases_eq, cases_lt, eq-eqb, eqb-true, eqb-false, none-some, same_Some, inserted, PageType, level_of, HostOf, HostFrame, HostFrames, IsOneToOne, IsValid, footprint_of, machine_named, table_in, is_machine, names_machine}
-use Rattle.std.proofs.Common.{◌*◌}
+use Rattle.mig_machine_script.proofs.Common.{◌≡◌, ◌≢◌, ℕ, zero, suc, ◌+◌, ◌<◌, ◌≤◌, ◌⊎◌, Bool, true, false, cond, List, [], ◌∷◌, length, Option, Some, None, option_and_then, inl, inr, refl, sym, ap, subst, ◌∙◌, arith, drop_of_length-le, ◌==◌, list_any, option_map, cases_eq, cases_lt, eq-eqb, eqb-true, eqb-false, none-some, same_Some, inserted, PageType, level_of, HostOf, HostFrame, HostFrames, IsOneToOne, IsValid, footprint_of, machine_named, table_in, is_machine, names_machine, ◌*◌, IfSome, AllByRecursion, range_with_len, nat_cmp-IsAntisymmetric, ne_eqb, or_from, and_parts, not-true, is_hvm_type, is_type_of, pfn_in, has_machine, Footprint, named_by, names_in}
 use mathlib.Core.Path.{fun_ext}
-use Rattle.std.specs.Prelude.{IfSome}
-use Rattle.std.specs.List.{AllByRecursion, range_with_len}
 use Rattle.std.specs.Cmp.{nat_cmp_total}
-use Rattle.std.specs.FinMap.{nat_cmp-IsAntisymmetric}
-use Rattle.std.proofs.lemmas.Bool.{ne_eqb, or_from, and_parts, not-true}
 use Rattle.std.proofs.lemmas.List.Folds.{list_any_at}
 use Rattle.std.proofs.lemmas.List.FromFn.{length-range_with_len, get_or-range_with_len}
 use Rattle.mig_bytes.specs.Fields.{le64}
@@ -14,13 +9,9 @@ use Rattle.mig_headers.specs.declared.kind.Kind.{Kind}
 use Rattle.mig_headers.specs.declared.kind.Kind.TheVariants.{Hvm}
 use Rattle.mig_pagetypes.specs.declared.page_type.PageType.TheVariants.{Notab, Broken, Xalloc}
 use Rattle.mig_guest.specs.declared.table.Entry.TheVariants.{Blank, NotPresent}
-use Rattle.mig_guest.specs.Frames.{is_hvm_type, is_type_of}
-use Rattle.mig_guest.specs.Hosts.{pfn_in}
 use Rattle.mig_guest.specs.Tables.{entry_of, is_blank_slot}
-use Rattle.mig_host.specs.HostView.{has_machine}
 use Rattle.mig_host.proofs.InOrder.{each_entry, found_passes, no_entry, none_passes, some_entry}
 use Rattle.mig_host.proofs.Machines.{only_pfn, no_pfn, pfn_of_machine}
-use Rattle.mig_guest.specs.Footprints.{Footprint, named_by, names_in}
 use Rattle.mig_machine_script.specs.HostLines.{table_names, may_come}
 use Rattle.std.specs.List as list
 use Rattle.std.specs.FinMap as maps

@@ -1,6 +1,5 @@
 -- A text is one line at most.
-use Rattle.mig_machine_script.proofs.Common.{◌≡◌, ℕ, List, [], ◌∷◌, length, refl, sym, subst, ◌∙◌, arith, LineOf, IsNumber, IsHex, AreNumbers, AreArguments, IsScriptLine, letter_of, Write, Retype, Add, Remove, Exchange, Put, Dot}
-use Rattle.std.proofs.lemmas.Fmt.{decimal_injective}
+use Rattle.mig_machine_script.proofs.Common.{◌≡◌, ℕ, List, [], ◌∷◌, length, refl, sym, subst, ◌∙◌, arith, LineOf, IsNumber, IsHex, AreNumbers, AreArguments, IsScriptLine, letter_of, Write, Retype, Add, Remove, Exchange, Put, Dot, decimal_injective}
 use Rattle.hex.proofs.HexLemmas.{decode_of-same}
 use Rattle.mig_machine_script.proofs.FieldsSaid.{initial}
 

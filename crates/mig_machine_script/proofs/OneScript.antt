@@ -1,6 +1,5 @@
 -- Bytes are one script at most, or have one first bad line.
-use Rattle.mig_machine_script.proofs.Common.{◌≡◌, ◌≢◌, ℕ, ◌+◌, List, [], ◌∷◌, ◌++◌, length, refl, sym, ap, subst, ◌∙◌, arith, inl, inr, All, LineOf, IsScriptLine, BeginsWithText, AreScriptLines, IsScript, IsBadLine}
-use Rattle.std.proofs.lemmas.List.Elements.{All-head, All-tail}
+use Rattle.mig_machine_script.proofs.Common.{◌≡◌, ◌≢◌, ℕ, ◌+◌, List, [], ◌∷◌, ◌++◌, length, refl, sym, ap, subst, ◌∙◌, arith, inl, inr, All, LineOf, IsScriptLine, BeginsWithText, AreScriptLines, IsScript, IsBadLine, All-head, All-tail}
 use Rattle.mig_machine_script.proofs.OneLine.{one_line}
 
 -- ---- one first text

@@ -1,6 +1,6 @@
 -- How far the guest of a machine has run a script, and what it is to be later.
 use Rattle.std.specs.Prelude.{◌≡◌, ℕ, ◌≤◌, List}
-use Rattle.mig_guest.specs.Hosts.{HostOf}
+use Rattle.mig_machine_script.specs.Common.{HostOf}
 use Rattle.mig_machine_script.specs.ScriptLines.{LineOf}
 use Rattle.mig_machine_script.specs.Groups.{ran_between}
 use Rattle.mig_machine_script.specs.HostLines.{after}

@@ -1,20 +1,14 @@
 -- What each line of a script does to a host, where it applies, and which frame number it puts into the log.
 use Rattle.std.specs.Prelude.{ℕ, ◌+◌, ◌^◌, ◌==◌, ◌&&◌, Bool, true, false, not, nat_lt, nat_le, if◌then◌else◌, List, [], ◌∷◌, length, replicate, Option, Some, None, is_some}
-use Rattle.std.specs.List.{fold, list_any, range_with_len}
+use Rattle.mig_machine_script.specs.Common.{fold, list_any, range_with_len, most_frames, machine_limit, level_of, type_of, HostOf, HostFrame, HostFrames, has_machine, put_frame, put_part_in, machine_named, table_in, Pfns, with_pfn}
 use Rattle.std.specs.FinMap as maps
 use Rattle.mig_headers.specs.declared.kind.Kind.{Kind}
-use Rattle.mig_pagetypes.specs.Limits.{most_frames, machine_limit}
-use Rattle.mig_pagetypes.specs.PageTypes.{level_of, type_of}
 use Rattle.mig_pagetypes.specs.declared.page_type.PageType.{PageType}
 use Rattle.mig_pagetypes.specs.declared.page_type.PageType.TheVariants.{Notab}
 use Rattle.mig_guest.specs.declared.part_key.PartKey.{PartKey}
 use Rattle.mig_guest.specs.Frames.{is_type_of}
-use Rattle.mig_guest.specs.Hosts.{HostOf, HostFrame, HostFrames}
-use Rattle.mig_host.specs.HostView.{has_machine, put_frame, put_part_in}
 use Rattle.mig_host.specs.Changes.{raw_page_at, page_written, typed, exchanged, without_frame}
 use Rattle.mig_guest.specs.PartCodes.{is_fixed}
-use Rattle.mig_guest.specs.Footprints.{machine_named, table_in}
-use Rattle.mig_guest.specs.Pfns.{Pfns, with_pfn}
 use Rattle.mig_machine_script.specs.ScriptLines.{LineOf}
 use Rattle.mig_machine_script.specs.ScriptLines.LineOf.{Write, Retype, Add, Remove, Exchange, Put, Dot}
 

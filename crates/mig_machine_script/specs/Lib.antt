@@ -1,3 +1,4 @@
+mod Common
 pub mod ScriptLines
 pub mod ScriptFields
 pub mod Scripts

@@ -1,6 +1,6 @@
 -- What the reader of a script answers.
 use Rattle.std.specs.Prelude.{◌≡◌, ◌<◌, ◌≤◌, ℕ, ◌+◌, List, [], drop, length, Option, Some, None, Result, Ok, Err, ⊤}
-use Rattle.mig_bytes.specs.Faults.{Rose}
+use Rattle.mig_machine_script.specs.Common.{Rose}
 use Rattle.mig_machine_script.specs.declared.script.Script.{Script}
 use Rattle.mig_machine_script.specs.declared.script.ScriptAnswer.{ScriptAnswer}
 use Rattle.mig_machine_script.specs.declared.script.ScriptAnswer.TheVariants.{BadLine, TooLong, ReadFault, Memory}

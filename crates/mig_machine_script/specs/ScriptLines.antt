@@ -1,7 +1,7 @@
 -- The lines of a script: what each says, and how it is written. Numbers are written in decimal digits without leading zeros,
 -- bytes in hexadecimal digits of either case, and one space stands between two fields.
 use Rattle.std.specs.Prelude.{◌≡◌, ℕ, zero, suc, ◌<◌, ◌≤◌, ◌^◌, ◌==◌, List, [], ◌∷◌, length, codes, decimal, Ok, refl}
-use Rattle.std.specs.List.{slice_split}
+use Rattle.mig_machine_script.specs.Common.{slice_split}
 use Rattle.std.specs.Coded.{Coded, code_by, coded_ℕ, coded_list}
 use Rattle.hex.specs.Hex.{decode_of}
 use Rattle.mig_machine_script.specs.declared.script.Line.{Line}

@@ -1,6 +1,6 @@
 -- A script: lines ended by LF, of which the last may lack it.
 use Rattle.std.specs.Prelude.{◌≡◌, ◌≢◌, ◌⊎◌, ◌<◌, ℕ, ◌+◌, List, [], ◌∷◌, ◌++◌, length}
-use Rattle.std.specs.List.{All}
+use Rattle.mig_machine_script.specs.Common.{All}
 use Rattle.mig_machine_script.specs.ScriptLines.{LineOf, IsScriptLine}
 
 -- Bytes begin with this text, and the others follow it: the text has no LF, and one ends it; or it is all there is, and it

@@ -1,7 +1,6 @@
 -- What the lines of a script log between two calls.
 use Rattle.std.specs.Prelude.{ℕ, List}
-use Rattle.mig_guest.specs.Hosts.{HostOf}
-use Rattle.mig_guest.specs.Pfns.{Pfns, no_pfns}
+use Rattle.mig_machine_script.specs.Common.{HostOf, Pfns, no_pfns}
 use Rattle.mig_machine_script.specs.ScriptLines.{LineOf}
 use Rattle.mig_machine_script.specs.Groups.{ran, ran_between}
 use Rattle.mig_machine_script.specs.HostLines.{after, logged_after}

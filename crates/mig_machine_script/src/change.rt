@@ -1,9 +1,7 @@
 ghost use Rattle.std.specs.Prelude.{◌≡◌, ◌+◌, ◌≤◌, ◌&&◌, ℕ, true, false, not, is_some, nat_le, nat_lt, if◌then◌else◌, Some, None, IfSome, IfNone};
 ghost use Rattle.std.specs.FinMap as maps;
-ghost use Rattle.mig_pagetypes.specs.PageTypes.{type_of};
-ghost use Rattle.mig_pagetypes.specs.Limits.{machine_limit};
+ghost use Rattle.mig_machine_script.specs.Common.{type_of, machine_limit, has_machine};
 ghost use Rattle.mig_guest.specs.Frames.{is_type_of as is_type_of_kind};
-ghost use Rattle.mig_host.specs.HostView.{has_machine};
 ghost use Rattle.mig_machine_script.specs.ScriptLines.{line_said};
 ghost use Rattle.mig_machine_script.specs.ScriptLines.LineOf.{Write as Writes, Retype as Retypes, Add as Adds, Remove as Removes, Exchange as Exchanges, Put as Puts};
 ghost use Rattle.mig_machine_script.specs.HostLines.{applies, after_line, logs, room_of, may_come, may_go, is_allowed, is_key, has_length, key_of_numbers};

@@ -1,6 +1,5 @@
 ghost use Rattle.std.specs.Prelude.{◌≡◌, ◌==◌, ◌↔◌, ◌∷◌, [], ℕ, List, IfOk, IfNone, IfSome, IsTrue};
-ghost use Rattle.std.specs.List.{position};
-ghost use Rattle.std.specs.Option.{option_copied};
+ghost use Rattle.mig_machine_script.specs.Common.{position, option_copied};
 ghost use Rattle.mig_machine_script.specs.ScriptLines.{fields_in, IsNumber, AreNumbers, IsHex};
 ghost use Rattle.mig_machine_script.specs.ScriptFields.{fields_left};
 

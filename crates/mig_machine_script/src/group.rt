@@ -1,5 +1,5 @@
 ghost use Rattle.std.specs.Prelude.{◌≡◌, ℕ, ◌+◌, ◌/◌, ◌<◌, ◌≤◌, length, drop, get_or, slice_get, Some};
-ghost use Rattle.mig_guest.specs.Pfns.{pfns_of_words};
+ghost use Rattle.mig_machine_script.specs.Common.{pfns_of_words};
 ghost use Rattle.mig_machine_script.specs.ScriptLines.{line_said};
 ghost use Rattle.mig_machine_script.specs.Groups.{ends_group, first_group, first_length};
 ghost use Rattle.mig_machine_script.specs.HostLines.{after, after_line, logs, with_logged, logged_after, room_of, room_for};

@@ -1,5 +1,5 @@
 ghost use Rattle.std.specs.Prelude.{◌≡◌, ◌↔◌, ◌∷◌, [], ℕ, IfOk, IfNone, IfSome, IsTrue, codes};
-ghost use Rattle.std.specs.Option.{option_copied};
+ghost use Rattle.mig_machine_script.specs.Common.{option_copied};
 ghost use Rattle.mig_machine_script.specs.ScriptFields.{fields_left, HasFields};
 ghost use Rattle.mig_machine_script.specs.ScriptLines.{LineOf, AreNumbers, IsScriptLine, line_said};
 

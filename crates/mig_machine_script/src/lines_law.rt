@@ -1,8 +1,6 @@
 ghost use Rattle.std.specs.Prelude.{◌≡◌, ◌≤◌, ◌⊎◌, ◌+◌, ◌∷◌, ◌++◌, ℕ, List, [], false};
-ghost use Rattle.mig_guest.specs.Hosts.{HostOf, IsValid};
-ghost use Rattle.mig_guest.specs.Footprints.{footprint};
+ghost use Rattle.mig_machine_script.specs.Common.{HostOf, IsValid, footprint, Pfns};
 ghost use Rattle.mig_guest.specs.MachineStates.{IsSameShape};
-ghost use Rattle.mig_guest.specs.Pfns.{Pfns};
 ghost use Rattle.mig_machine_script.specs.ScriptLines.{LineOf};
 ghost use Rattle.mig_machine_script.specs.ScriptLines.LineOf.{Dot};
 ghost use Rattle.mig_machine_script.specs.Groups.{ran, dots_in};

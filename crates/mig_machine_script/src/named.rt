@@ -1,9 +1,7 @@
 ghost use Rattle.std.specs.Prelude.{◌≡◌, ◌≤◌, ◌<◌, ℕ, Some};
-ghost use Rattle.std.specs.Option.{option_copied};
+ghost use Rattle.mig_machine_script.specs.Common.{option_copied, level_of, machine_named, table_in};
 ghost use Rattle.mig_guest.specs.Longs.{long_at};
 ghost use Rattle.mig_guest.specs.Tables.{named_frame};
-ghost use Rattle.mig_pagetypes.specs.PageTypes.{level_of};
-ghost use Rattle.mig_guest.specs.Footprints.{machine_named, table_in};
 ghost use Rattle.mig_machine_script.specs.HostLines.{is_machine, table_names as some_slot_names, names_machine};
 
 use mig_bytes::u64_le;

@@ -1,8 +1,6 @@
 ghost use Rattle.std.specs.Prelude.{◌≡◌, ◌==◌, ◌+◌, ◌<◌, ◌≤◌, [], IfOk, IsErrOf, length, map, slice_get, Some};
-ghost use Rattle.std.specs.List.{position};
-ghost use Rattle.std.specs.Option.{option_map};
+ghost use Rattle.mig_machine_script.specs.Common.{position, option_map, Rose};
 ghost use Rattle.mig_bytes.specs.Bytes.{TakesBytes, TakesFew};
-ghost use Rattle.mig_bytes.specs.Faults.{Rose};
 ghost use Rattle.mig_machine_script.specs.ScriptAnswers.{AnswersInput, ReadsScript, RisesOnScriptFault, IsJudgedScript};
 ghost use Rattle.mig_machine_script.specs.ScriptLines.{line_said};
 ghost use Rattle.mig_machine_script.specs.Scripts.{most_script_bytes, BeginsWithText};

@@ -1,14 +1,11 @@
 -- What a judge of images answers that keeps no pages.
 use Rattle.std.specs.Prelude.{◌≡◌, ℕ, List, length, Option, is_some, Result}
 use Rattle.std.specs.FinMap as maps
-use Rattle.mig_bytes.specs.Answers.{or_stop}
-use Rattle.mig_bytes.specs.Judged.{AgreesWithJudging}
+use Rattle.mig_outline.specs.Common.{or_stop, AgreesWithJudging, mean, differs_of, ImageOf, image_at, image_behind}
 use Rattle.mig_bytes.specs.declared.answer.Answer.{Answer}
 use Rattle.mig_headers.specs.declared.fault.Cause.{Cause}
 use Rattle.mig_headers.specs.declared.fault.Place.{Place}
 use Rattle.mig_outline.specs.declared.judge.Tally.{Tally}
-use Rattle.mig_restore_form.specs.Mean.{mean, differs_of}
-use Rattle.mig_restore_form.specs.Stream.{ImageOf, image_at, image_behind}
 
 -- the tally of an image: its version and kind, the number of frames of the guest that its records mean, the number of its
 -- records, and whether frames are compared in it

@@ -1,3 +1,4 @@
+mod Common
 pub mod Forgotten
 pub mod Judges
 pub mod Outline

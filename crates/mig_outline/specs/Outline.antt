@@ -1,15 +1,9 @@
 -- The outline of a guest: its page tables, and of all other frames whether they are NOTAB. It is a guest again, in which XALLOC
 -- stands for NOTAB and BROKEN for all other types without a table, so that those frames have no pages.
 use Rattle.std.specs.Prelude.{ℕ, List, Option, Some, None, fold}
-use Rattle.mig_headers.specs.declared.kind.Kind.{Kind}
-use Rattle.mig_pagetypes.specs.PageTypes.{level_of}
+use Rattle.mig_outline.specs.Common.{Kind, level_of, FrameMap, FrameOf, framed, GuestOf, each_value, type_in_guest, put_content, FrameEntry, Content}
 use Rattle.mig_pagetypes.specs.declared.page_type.PageType.{PageType}
 use Rattle.mig_pagetypes.specs.declared.page_type.PageType.TheVariants.{Notab, Broken, Xalloc}
-use Rattle.mig_guest.specs.Frames.{FrameMap, FrameOf, framed}
-use Rattle.mig_guest.specs.Guests.{GuestOf}
-use Rattle.mig_pvtables.specs.Blank.{each_value}
-use Rattle.mig_restore_form.specs.Mean.{type_in_guest, put_content}
-use Rattle.mig_restore_form.specs.Record.{FrameEntry, Content}
 use Rattle.mig_restore_form.specs.Record.Content.{Nothing, Frames, Sets, Lists, Checks}
 
 abbrev pub outline_type : PageType → PageType

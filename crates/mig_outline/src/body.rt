@@ -1,15 +1,10 @@
 ghost use Rattle.std.specs.Prelude.{◌≡◌, ◌≤◌, ◌^◌, ℕ, ⊤, OnOk, length, false, None, Some, true};
 ghost use Rattle.std.specs.List.{All};
-ghost use Rattle.mig_bytes.specs.Faults.{RisesOnReadFault};
-ghost use Rattle.mig_bytes.specs.Judged.{AgreesWithJudging, each};
+ghost use Rattle.mig_outline.specs.Common.{RisesOnReadFault, AgreesWithJudging, each, level_of, type_has_data, with_places, page_at, entry_at, pages_at, body_at, type_in_word, type_in_guest, GrewByRecord, placed_content};
 ghost use Rattle.mig_headers.specs.RecordTypes.{record_row_of, type_of_number, most_body};
 ghost use Rattle.mig_headers.specs.declared.record_type.RecordType.{RecordType};
 ghost use Rattle.mig_outline.specs.Outline.{outline_type, put_outline_entry, put_outline_entries, put_outline_content};
-ghost use Rattle.mig_pagetypes.specs.PageTypes.{level_of, type_has_data};
 ghost use Rattle.mig_records.specs.Faults.{fault_of_length};
-ghost use Rattle.mig_restore_form.specs.Judging.{with_places, page_at, entry_at, pages_at, body_at, type_in_word};
-ghost use Rattle.mig_restore_form.specs.Mean.{type_in_guest, GrewByRecord};
-ghost use Rattle.mig_restore_form.specs.Record.{placed_content};
 ghost use Rattle.mig_restore_form.specs.Spelled.{IsGoodWord};
 
 use mig_bytes::{Source, Stop};

@@ -1,14 +1,8 @@
 ghost use Rattle.std.specs.Prelude.{◌≡◌, ℕ, ◌<◌, ◌+◌, ◌==◌, ◌||◌, ◌∷◌, [], ◌++◌, List, IfOk, OnOk};
-ghost use Rattle.mig_bytes.specs.Answers.{or_stop};
-ghost use Rattle.mig_bytes.specs.Faults.{RisesOnReadFault};
-ghost use Rattle.mig_bytes.specs.Judged.{AgreesWithJudging};
+ghost use Rattle.mig_outline.specs.Common.{or_stop, RisesOnReadFault, AgreesWithJudging, Opening, Before, most_records, opening_of, record_at, next_at, sent, IsBegun, GrewByRecord, StreamRecord, types_of, is_verified, image_at, image_behind, records_at};
 ghost use Rattle.mig_outline.specs.Judges.{IsTally, JudgesImage, JudgesRest};
 ghost use Rattle.mig_outline.specs.Outline.{outline, put_outline_content};
-ghost use Rattle.mig_restore_form.specs.Judging.{Opening, Before, most_records, opening_of, record_at, next_at};
-ghost use Rattle.mig_restore_form.specs.Mean.{sent, IsBegun, GrewByRecord};
-ghost use Rattle.mig_restore_form.specs.Record.{StreamRecord, types_of, is_verified};
 ghost use Rattle.mig_restore_form.specs.Seen.{IsSeen};
-ghost use Rattle.mig_restore_form.specs.Stream.{image_at, image_behind, records_at};
 
 use crate::body::outline_body;
 use crate::whole::outline_fault;

@@ -1,11 +1,7 @@
 ghost use Rattle.std.specs.Prelude.{◌≡◌, List, fold};
-ghost use Rattle.mig_headers.specs.declared.kind.Kind.{Kind};
-ghost use Rattle.mig_guest.specs.Guests.{GuestOf};
+ghost use Rattle.mig_outline.specs.Common.{Kind, GuestOf, fault_by, fault_of_guest, put_content, put_record, empty_guest, sent, Content, StreamRecord};
 ghost use Rattle.mig_outline.specs.Forgotten.{forgotten_guest};
 ghost use Rattle.mig_outline.specs.Outline.{outline, seen_frames, put_outline_content};
-ghost use Rattle.mig_pvtables.specs.Faults.{fault_by, fault_of_guest};
-ghost use Rattle.mig_restore_form.specs.Mean.{put_content, put_record, empty_guest, sent};
-ghost use Rattle.mig_restore_form.specs.Record.{Content, StreamRecord};
 
 /// What is wrong with a guest at the end of its stream is found without the pages of frames that are no tables.
 #[tactic(auto, using(crate::proofs::Faults::same_fault))]

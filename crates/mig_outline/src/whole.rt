@@ -1,8 +1,7 @@
 ghost use Rattle.std.specs.Prelude.{◌≡◌, OnOk, Some, None, Err};
 ghost use Rattle.mig_guest.specs.Formed.{IsFormed};
-ghost use Rattle.mig_guest.specs.Guests.{GuestOf};
+ghost use Rattle.mig_outline.specs.Common.{GuestOf, fault_of_guest};
 ghost use Rattle.mig_outline.specs.Outline.{outline, seen_frames};
-ghost use Rattle.mig_pvtables.specs.Faults.{fault_of_guest};
 ghost use Rattle.mig_pvtables.specs.declared.testing.WholeAnswer.TheVariants.{Fault};
 
 use mig_guest::{FrameStore, Guest};

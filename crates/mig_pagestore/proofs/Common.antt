@@ -6,8 +6,26 @@ pub use Rattle.std.specs.Option.{ghost_name_of, option_and_then, option_copied, 
 pub use Rattle.std.specs.Ordering.{eq_by_cmp, is_lt, nat_cmp}
 pub use Rattle.mig_pagestore_index.specs.Indexed.{ValueMap}
 pub use Rattle.mig_pagestore.specs.FrameLending.{repaged, with_page}
-pub use Rattle.mig_pagestore.specs.FrameView.{AreCells, IsCell, IsLed, Leads, Moved, SameBut, frame_at, frames_seen, is_place, place_of_page, place_or_0, whole_page}
-pub use Rattle.mig_pagestore.specs.Frames.{FrameMap, FrameOf, Framed, IsFrame, IsSized, frame_page}
+pub use Rattle.mig_pagestore.specs.FrameView.{AreCells, IsCell, IsLed, Leads, LieInRun, Moved, SameBut, frame_at, frames_seen, is_place, place_of_page, place_or_0, whole_page}
+pub use Rattle.mig_pagestore.specs.Frames.{FrameMap, FrameOf, Framed, IsFrame, IsRun, IsSized, frame_page}
 pub use Rattle.mig_pagestore.specs.Packed.{IsArena, Placed}
 pub use Rattle.mig_pagetypes.specs.PageTypes.{number_of, type_has_data, type_of, type_or_none}
 pub use Rattle.mig_pagetypes.specs.declared.page_type.PageType.{PageType}
+pub use Rattle.core.proofs.alloc.Calls.{Al, Answer-typed, Answered, Gives, Gives-Gives, Gives-goes, Goes-blank, Takes, Takes-gives, Takes-goes, answers, at_gives, at_takes, seen}
+pub use Rattle.core.proofs.atomic.Steps.{fm}
+pub use Rattle.mig_bytes.proofs.NumberMaps.{inserted, inserted_other, is_inserted, is_removed, removed, removed_other}
+pub use Rattle.mig_pagetypes.specs.Limits.{pfn_limit}
+pub use Rattle.std.proofs.Math.Seq.{drop-cons, get_or-append_seam}
+pub use Rattle.std.proofs.lemmas.List.{get_or_append_left, length-drop, length-replicate, length-take}
+pub use Rattle.std.proofs.lemmas.Option.{get_or_from_slice_get, slice_get-get_or}
+pub use Rattle.std.proofs.raw_atomic.Walks.{proved_at}
+pub use Rattle.std_alloc.proofs.Rotate.{set_back, set_front}
+pub use contract.BorrowLft.{⊑_trans, ◌⊑◌}
+pub use denote.Param.{bounded, layout, param}
+pub use denote.Shadow.{makes_shadow, shadow}
+pub use denote.Signature.{type_at, types_at}
+pub use denote.Struct.Struct.{Struct, Struct-Makes, within}
+pub use denote.Triple.Call.{calls_at, calls_at_last}
+pub use denote.Triple.Entry.{alive}
+pub use mir.MapTy.{inst_fn}
+pub use types.ByLocal.{get_tag, lands_as, lands_last}

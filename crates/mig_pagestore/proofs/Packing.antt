@@ -1,6 +1,5 @@
 -- What edits in one slab do to all pages.
-use Rattle.mig_pagestore.proofs.Common.{◌≡◌, ℕ, zero, suc, ◌+◌, ◌-◌, ◌*◌, ◌/◌, ◌%◌, ◌<◌, ◌≤◌, List, [], ◌∷◌, ◌++◌, length, take, drop, get_or, set, slice_get, refl, sym, ap, ◌∙◌, subst, arith, length-append, length-set, append-nil, append_assoc, IsArena}
-use Rattle.std_alloc.proofs.Rotate.{set_front, set_back}
+use Rattle.mig_pagestore.proofs.Common.{◌≡◌, ℕ, zero, suc, ◌+◌, ◌-◌, ◌*◌, ◌/◌, ◌%◌, ◌<◌, ◌≤◌, List, [], ◌∷◌, ◌++◌, length, take, drop, get_or, set, slice_get, refl, sym, ap, ◌∙◌, subst, arith, length-append, length-set, append-nil, append_assoc, IsArena, set_front, set_back}
 use Rattle.mig_pagestore.specs.Slab.{Pages}
 use Rattle.mig_pagestore.specs.Packed.{IsPacked, all_pages}
 

@@ -1,9 +1,7 @@
 -- What the pages that are seen of frames tell.
-use Rattle.mig_pagestore.proofs.Common.{◌≡◌, ℕ, ◌<◌, List, [], Option, Some, None, IsSome, is_some, refl, sym, ap, ◌∙◌, subst, inl, inr, MutBor, option_map, option_and_then, option_copied_mut, unwrap_or, get-empty, nat_cmp, cases_eq, PageType, FrameOf, FrameMap, IsSized, frame_page, whole_page, repaged, with_page}
+use Rattle.mig_pagestore.proofs.Common.{◌≡◌, ℕ, ◌<◌, List, [], Option, Some, None, IsSome, is_some, refl, sym, ap, ◌∙◌, subst, inl, inr, MutBor, option_map, option_and_then, option_copied_mut, unwrap_or, get-empty, nat_cmp, cases_eq, PageType, FrameOf, FrameMap, IsSized, frame_page, whole_page, repaged, with_page, pfn_limit, inserted, inserted_other, removed, removed_other}
 use Rattle.std.specs.FinMap as maps
-use Rattle.mig_pagetypes.specs.Limits.{pfn_limit}
 use Rattle.mig_pagestore.specs.PageView.{bytes_of, pages_seen, HasPages}
-use Rattle.mig_bytes.proofs.NumberMaps.{inserted, inserted_other, removed, removed_other}
 use Rattle.mig_pagestore.proofs.Mapping.{get-mapped, len-mapped, mapped-empty, mapped-insert, mapped-remove}
 
 a_page : (o : Option (List ℕ)) → IsSome o → Some (unwrap_or o []) ≡ o

@@ -1,9 +1,6 @@
 -- Numbers that lead to places, each to its own; and what stands at a place.
-use Rattle.mig_pagestore.proofs.Common.{◌≡◌, ◌≢◌, ℕ, zero, suc, ◌+◌, ◌-◌, ◌<◌, ◌≤◌, ◌==◌, Bool, true, false, cond, is_some, replicate, List, [], ◌∷◌, ◌++◌, length, set, slice_get, slice_index, Option, Some, None, Bor, get_or, refl, sym, ap, ◌∙◌, inl, inr, arith, length-append, length-set, get_or-set_same, get_or-set_other, option_copied, cases_eq, eq-eqb, eqb-true, PageType, type_has_data, IsCell, Leads, whole_page, is_place}
-use Rattle.std.proofs.Math.Seq.{get_or-append_seam}
+use Rattle.mig_pagestore.proofs.Common.{◌≡◌, ◌≢◌, ℕ, zero, suc, ◌+◌, ◌-◌, ◌<◌, ◌≤◌, ◌==◌, Bool, true, false, cond, is_some, replicate, List, [], ◌∷◌, ◌++◌, length, set, slice_get, slice_index, Option, Some, None, Bor, get_or, refl, sym, ap, ◌∙◌, inl, inr, arith, length-append, length-set, get_or-set_same, get_or-set_other, option_copied, cases_eq, eq-eqb, eqb-true, PageType, type_has_data, IsCell, Leads, whole_page, is_place, get_or-append_seam, length-replicate, get_or_append_left, get_or_from_slice_get}
 use Rattle.std.proofs.lemmas.Grind.{get_or-set_at}
-use Rattle.std.proofs.lemmas.List.{length-replicate, get_or_append_left}
-use Rattle.std.proofs.lemmas.Option.{get_or_from_slice_get}
 use Rattle.mig_pagestore.specs.FrameView.{cell_type, cell_place, page_at_place}
 
 index_left : (xs ys : List ℕ) (i : ℕ) → i < length xs → slice_index (xs ++ ys) i ≡ slice_index xs i

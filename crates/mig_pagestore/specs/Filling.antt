@@ -1,7 +1,7 @@
 -- What a page that is filled in its place does to the pages and to the frames that have them.
 use Rattle.std.specs.Prelude.{◌≡◌, ℕ, zero, suc, ◌+◌, List, [], ◌∷◌, ◌++◌, length, slice_set, Some, Result, Ok, Err}
 use Rattle.std.specs.FinMap as maps
-use Rattle.mig_pagetypes.specs.declared.page_type.PageType.{PageType}
+use Rattle.mig_pagestore.specs.Common.{PageType}
 use Rattle.mig_pagestore.specs.Frames.{Framed}
 use Rattle.mig_pagestore.specs.Packed.{Placed}
 

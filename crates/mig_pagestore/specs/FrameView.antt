@@ -1,12 +1,9 @@
 -- How an index of cells and pages by place are seen as frames.
 use Rattle.std.specs.Prelude.{◌≡◌, ◌≢◌, ◌==◌, ℕ, zero, suc, ◌+◌, ◌-◌, ◌<◌, ◌≤◌, ◌^◌, Bool, true, false, List, [], cond, length, replicate, slice_index, slice_index_or, Option, Some, None}
-use Rattle.std.specs.Option.{option_map}
+use Rattle.mig_pagestore.specs.Common.{option_map, type_of, type_or_none, type_has_data, PageType, Xtab}
 use Rattle.std.specs.FinMap as maps
 use Rattle.mig_pagestore_index.specs.Indexed.{ValueMap}
-use Rattle.mig_pagetypes.specs.PageTypes.{type_of, type_or_none, type_has_data}
 use Rattle.mig_pagetypes.specs.FrameWords.{word_type, word_pfn}
-use Rattle.mig_pagetypes.specs.declared.page_type.PageType.{PageType}
-use Rattle.mig_pagetypes.specs.declared.page_type.PageType.TheVariants.{Xtab}
 use Rattle.mig_pagestore.specs.Frames.{FrameOf, FrameMap}
 use Rattle.mig_pagestore.specs.Mapped.{mapped}
 

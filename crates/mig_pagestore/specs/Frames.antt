@@ -1,14 +1,8 @@
 -- What a store of frames is: a finite map from PFN to a type, and a page or none, and a number of spare pages.
 use Rattle.std.specs.Prelude.{◌≡◌, ◌≢◌, ⊤, ℕ, ◌+◌, ◌<◌, List, [], ◌∷◌, length, Option, Some, is_some, refl}
-use Rattle.std.specs.Ordering.{nat_cmp}
-use Rattle.std.specs.Option.{option_and_then}
+use Rattle.mig_pagestore.specs.Common.{nat_cmp, option_and_then, Coded, code_by, coded×, coded_ℕ, coded_list, coded_option, PageType, Xtab, type_has_data, pfn_limit}
 use Rattle.std.specs.FinMap as maps
-use Rattle.std.specs.Coded.{Coded, code_by, coded×, coded_ℕ, coded_list, coded_option}
-use Rattle.mig_pagetypes.specs.declared.page_type.PageType.{PageType}
-use Rattle.mig_pagetypes.specs.declared.page_type.PageType.TheVariants.{Xtab}
 use Rattle.mig_pagetypes.specs.contracts.page_type.PageType as page_type
-use Rattle.mig_pagetypes.specs.PageTypes.{type_has_data}
-use Rattle.mig_pagetypes.specs.Limits.{pfn_limit}
 
 -- a frame's type, and its page or none
 pub record FrameOf : Type 0 where

@@ -1,3 +1,4 @@
+mod Common
 pub mod Packed
 pub mod Filling
 pub mod ArenaLends

@@ -1,6 +1,6 @@
 -- A finite map whose values are read otherwise.
 use Rattle.std.specs.Prelude.{map}
-use Rattle.std.specs.Ordering.{nat_cmp}
+use Rattle.mig_pagestore.specs.Common.{nat_cmp}
 use Rattle.std.specs.FinMap as maps
 
 -- the map with g of each value

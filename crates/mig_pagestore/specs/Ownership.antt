@@ -1,13 +1,12 @@
 -- What the parts of a slab own and lend.
 use Rattle.std.specs.Prelude.{ℕ, ◌+◌, ◌-◌, ◌*◌, List, length}
-use Rattle.std.specs.Borrow.{Array, u8}
+use Rattle.mig_pagestore.specs.Common.{Array, u8, Ptr, block_ptr, null_ptr}
 use base.Fraction.{full_share}
 use base.Fml.{Lft, Fml, ffalse, fsep, froom}
 use mir.Syntax.{Ty, ty_array}
 use denote.RattleType.{RattleType}
 use denote.Index.{row}
 use denote.Memory.{lone, mem, shared_of, each_shared}
-use denote.RawPtr.{Ptr, block_ptr, null_ptr}
 use denote.Sharing.{said}
 
 abbrev pub Page : RattleType

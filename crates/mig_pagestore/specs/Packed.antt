@@ -1,6 +1,6 @@
 -- How pages lie in slabs of 64, one slab behind another.
 use Rattle.std.specs.Prelude.{◌≡◌, ℕ, ◌-◌, ◌≤◌, List, [], ◌∷◌, length, ◌++◌, refl}
-use Rattle.std.specs.Coded.{Coded, code_by, coded×, coded_list, coded_ℕ}
+use Rattle.mig_pagestore.specs.Common.{Coded, code_by, coded×, coded_list, coded_ℕ}
 use Rattle.mig_pagestore.specs.Slab.{Pages}
 
 -- the first n places hold pages, and the others are empty

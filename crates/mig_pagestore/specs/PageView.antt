@@ -1,6 +1,6 @@
 -- How frames are seen as pages.
 use Rattle.std.specs.Prelude.{◌≡◌, ℕ, List, [], Some, IsSome}
-use Rattle.std.specs.Option.{unwrap_or}
+use Rattle.mig_pagestore.specs.Common.{unwrap_or}
 use Rattle.std.specs.FinMap as maps
 use Rattle.mig_pagestore.specs.Frames.{FrameOf, FrameMap}
 use Rattle.mig_pagestore.specs.Pages.{PageMap}

@@ -1,9 +1,7 @@
 -- What a page store is: a finite map from PFN to the bytes of a page, and a number of spare pages.
 use Rattle.std.specs.Prelude.{ℕ, ◌+◌, ◌<◌, List, ◌++◌, take, drop, length, IsSome, refl}
-use Rattle.std.specs.Ordering.{nat_cmp}
+use Rattle.mig_pagestore.specs.Common.{nat_cmp, Coded, code_by, coded×, coded_ℕ, coded_list, pfn_limit}
 use Rattle.std.specs.FinMap as map
-use Rattle.std.specs.Coded.{Coded, code_by, coded×, coded_ℕ, coded_list}
-use Rattle.mig_pagetypes.specs.Limits.{pfn_limit}
 
 -- a finite map from PFN to bytes
 abbrev pub PageMap : Type 0

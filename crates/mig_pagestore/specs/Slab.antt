@@ -1,6 +1,6 @@
 -- What a contract sees of a slab: the pages that were put into it, in their order.
 use Rattle.std.specs.Prelude.{ℕ, List, refl}
-use Rattle.std.specs.Coded.{Coded, code_by, coded_list, coded_ℕ}
+use Rattle.mig_pagestore.specs.Common.{Coded, code_by, coded_list, coded_ℕ}
 
 -- the pages, each a list of 4096 bytes
 pub record Pages : Type 0 where

@@ -1,6 +1,6 @@
 //! Pages one behind another, in slabs.
 ghost use Rattle.std.specs.Prelude.{◌≡◌, ◌<◌, ◌≤◌, ◌+◌, ◌*◌, ◌%◌, ◌^◌, [], ◌∷◌, ◌++◌, length, take, drop, flat_map, slice_get, slice_set, OnOk, OnErr, Some};
-ghost use Rattle.std.specs.Borrow.{sem};
+ghost use Rattle.mig_pagestore.specs.Common.{sem};
 
 use crate::slab::{PLACES, Slab};
 use std::alloc::{AllocError, Global};

@@ -1,7 +1,6 @@
 //! The block of raw memory in which a slab's pages lie one behind another. All pointers are here.
 ghost use Rattle.std.specs.Prelude.{◌≡◌, ℕ, ◌+◌, ◌<◌, ◌≤◌, List, [], ◌∷◌, ◌++◌, length, slice_index_or, IfOk};
-ghost use Rattle.std.specs.Borrow.{sem};
-ghost use denote.RawPtr.{Ptr};
+ghost use Rattle.mig_pagestore.specs.Common.{sem, Ptr};
 ghost use Rattle.mig_pagestore.specs.Ownership.{cells_own, cells_lent, deed_owns};
 
 use crate::slab::PLACES;

@@ -1,10 +1,6 @@
 ghost use Rattle.std.specs.Prelude.{◌≡◌, ◌≢◌, ℕ, ◌+◌, ◌-◌, ◌%◌, ◌^◌, ◌<◌, ◌≤◌, ◌⊎◌, List, [], ◌∷◌, ◌++◌, length, flat_map, slice_index_or, vec_capacity, IsTrue, IsSome, IsOk, OnOk, OnErr, IfSome, IfNone, Some, None, Err, true, is_some};
-ghost use Rattle.std.specs.Option.{option_copied, option_copied_mut, option_map};
+ghost use Rattle.mig_pagestore.specs.Common.{option_copied, option_copied_mut, option_map, sem, type_has_data, pfn_limit, Xtab};
 ghost use Rattle.std.specs.FinMap as maps;
-ghost use Rattle.std.specs.Borrow.{sem};
-ghost use Rattle.mig_pagetypes.specs.PageTypes.{type_has_data};
-ghost use Rattle.mig_pagetypes.specs.Limits.{pfn_limit};
-ghost use Rattle.mig_pagetypes.specs.declared.page_type.PageType.TheVariants.{Xtab};
 ghost use Rattle.mig_pagestore.specs.Frames.{FrameOf, frame_page, IsRun, IsSized, framed};
 ghost use Rattle.mig_pagestore.specs.FrameView.{cell_type, cell_place, IsCell, AreCells, page_at_place, frame_at, place_of_page, IsLed, LieInRun, SameBut, Moved};
 ghost use Rattle.mig_pagestore.specs.FrameLending.{LendsFramePage};

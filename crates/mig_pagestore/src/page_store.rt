@@ -1,9 +1,6 @@
 ghost use Rattle.std.specs.Prelude.{◌≡◌, ℕ, ◌+◌, ◌<◌, ◌≤◌, length, IsSome, IsOk, OnOk, OnErr, IfSome, IfNone};
-ghost use Rattle.std.specs.Option.{option_copied, option_copied_mut};
-ghost use Rattle.std.specs.Ordering.{nat_cmp};
+ghost use Rattle.mig_pagestore.specs.Common.{option_copied, option_copied_mut, nat_cmp, sem, pfn_limit};
 ghost use Rattle.std.specs.FinMap as map;
-ghost use Rattle.std.specs.Borrow.{sem};
-ghost use Rattle.mig_pagetypes.specs.Limits.{pfn_limit};
 ghost use Rattle.mig_pagestore.specs.Pages.{spliced, IsSmall};
 
 use crate::frame_store::{FrameStore, whole};

@@ -1,5 +1,5 @@
 ghost use Rattle.std.specs.Prelude.{◌≡◌, ◌+◌, ◌<◌, ◌≤◌, [], ◌∷◌, ◌++◌, length, take, drop, flat_map, slice_get, IfOk, Some};
-ghost use Rattle.std.specs.Borrow.{sem};
+ghost use Rattle.mig_pagestore.specs.Common.{sem};
 
 use crate::cells::{Base, Cells, Deed, allocate, deallocate};
 use std::alloc::{AllocError, Global};

@@ -1,9 +1,6 @@
 -- How many numbers have a value, and what is found beyond the limit.
-use Rattle.mig_pagestore_index.proofs.Common.{◌≡◌, ℕ, zero, suc, ◌+◌, ◌-◌, ◌<◌, ◌≤◌, inl, inr, Bool, true, false, cond, None, IsSome, is_some, refl, sym, ap, ◌∙◌, subst, arith, Becomes, ValueMap, cases_eq}
-use Rattle.std.specs.Ordering.{nat_cmp}
-use Rattle.std.specs.Cmp.{nat_cmp_total}
+use Rattle.mig_pagestore_index.proofs.Common.{◌≡◌, ℕ, zero, suc, ◌+◌, ◌-◌, ◌<◌, ◌≤◌, inl, inr, Bool, true, false, cond, None, IsSome, is_some, refl, sym, ap, ◌∙◌, subst, arith, Becomes, ValueMap, cases_eq, nat_cmp, nat_cmp_total, len-empty, len-insert, len-remove, empty_of_len, get-empty, same_map, get-remove, nat_cmp-IsAntisymmetric}
 use Rattle.std.specs.FinMap as maps
-use Rattle.std.specs.FinMap.{len-empty, len-insert, len-remove, empty_of_len, get-empty, same_map, get-remove, nat_cmp-IsAntisymmetric}
 use Rattle.mig_pagestore_index.specs.Indexed.{valued, gathered}
 use Rattle.mig_pagestore_index.proofs.Fans.{none_or_some}
 use Rattle.mig_pagestore_index.proofs.Gathered.{outside, none_at, some_at, gathered_none, none_is_not_some, gathered_put, gathered_out, ties, differs}

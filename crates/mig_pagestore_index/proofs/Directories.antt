@@ -1,9 +1,7 @@
 -- The keys of a fork.
-use Rattle.mig_pagestore_index.proofs.Common.{◌≡◌, ℕ, ◌<◌, inl, inr, arith, subst, List, slice_index, ap, ◌∙◌}
+use Rattle.mig_pagestore_index.proofs.Common.{◌≡◌, ℕ, ◌<◌, inl, inr, arith, subst, List, slice_index, ap, ◌∙◌, cases_lt, lt-ltb, le-ltb, IsFork, AreWithin, lead, near_keys, leaf_at}
 use Rattle.mig_pagestore_index.specs.declared.directory.Node.{Node}
 use Rattle.std.specs.Prelude.{if◌then◌else◌, nat_lt}
-use Rattle.std.proofs.lemmas.Bool.{cases_lt, lt-ltb, le-ltb}
-use Rattle.mig_pagestore_index.specs.Directories.{IsFork, AreWithin, lead, near_keys, leaf_at}
 
 module _ (split low high : ℕ) (left right : ℕ → ℕ) (is : IsFork split low high left right) where
   pub fork_within : AreWithin low high (λ q. if nat_lt q split then left q else right q)

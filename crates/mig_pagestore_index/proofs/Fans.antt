@@ -1,6 +1,5 @@
 -- What it does to all values that a leaf is taken into use or a value is written.
-use Rattle.mig_pagestore_index.proofs.Common.{[], ◌∷◌, ◌++◌, ◌≡◌, ◌≢◌, replicate, ℕ, zero, suc, ◌^◌, ◌+◌, ◌-◌, ◌*◌, ◌/◌, ◌%◌, ◌<◌, ◌≤◌, ◌⊎◌, List, length, get_or, set, slice_index, refl, sym, ap, ◌∙◌, inl, inr, arith, length-set, get_or-set_same, get_or-set_other, cases_eq, under, IsLevel, IsFan, Becomes, IsTree, HasSpare}
-use Rattle.std.proofs.lemmas.Bool.{cases_lt}
+use Rattle.mig_pagestore_index.proofs.Common.{[], ◌∷◌, ◌++◌, ◌≡◌, ◌≢◌, replicate, ℕ, zero, suc, ◌^◌, ◌+◌, ◌-◌, ◌*◌, ◌/◌, ◌%◌, ◌<◌, ◌≤◌, ◌⊎◌, List, length, get_or, set, slice_index, refl, sym, ap, ◌∙◌, inl, inr, arith, length-set, get_or-set_same, get_or-set_other, cases_eq, under, IsLevel, IsFan, Becomes, IsTree, HasSpare, cases_lt}
 use Rattle.mig_pagestore_index.specs.Leaves.{step}
 
 same_number : (q k : ℕ) → q / 512 ≡ k / 512 → q % 512 ≡ k % 512 → q ≡ k

@@ -1,11 +1,7 @@
 -- What a map that is gathered from values finds, and what a new value does to it.
-use Rattle.mig_pagestore_index.proofs.Common.{◌≡◌, ◌≢◌, ℕ, zero, suc, ◌<◌, ◌≤◌, true, false, Option, Some, None, IsSome, is_some, refl, sym, ap, ◌∙◌, inl, inr, arith, eq-eqb, ne_eqb, cases_eq, Becomes, ValueMap}
-use Rattle.std.specs.Ordering.{nat_cmp, eq_by_cmp}
-use Rattle.std.specs.Cmp.{unsigned_tied, nat_cmp_total}
+use Rattle.mig_pagestore_index.proofs.Common.{◌≡◌, ◌≢◌, ℕ, zero, suc, ◌<◌, ◌≤◌, true, false, Option, Some, None, IsSome, is_some, refl, sym, ap, ◌∙◌, inl, inr, arith, eq-eqb, ne_eqb, cases_eq, Becomes, ValueMap, nat_cmp, eq_by_cmp, unsigned_tied, nat_cmp_total, nat_cmp-IsAntisymmetric, same_map, get-empty, get-insert, get-remove, cases_lt}
 use Rattle.std.specs.FinMap as maps
-use Rattle.std.specs.FinMap.{nat_cmp-IsAntisymmetric, same_map, get-empty, get-insert, get-remove}
 use Rattle.mig_pagestore_index.specs.Indexed.{valued, gathered}
-use Rattle.std.proofs.lemmas.Bool.{cases_lt}
 
 -- a value as an answer; 0 is none
 unfoldable pub some_value : ℕ → Option ℕ

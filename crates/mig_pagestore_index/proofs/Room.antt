@@ -1,6 +1,5 @@
 -- What is left of the room for new numbers.
-use Rattle.mig_pagestore_index.proofs.Common.{ℕ, ◌-◌, ◌≤◌, length, ap, arith, HasRoom, IsAsFull, IsOneLess}
-use Rattle.mig_pagestore_index.specs.declared.tree.Tree.{Tree}
+use Rattle.mig_pagestore_index.proofs.Common.{ℕ, ◌-◌, ◌≤◌, length, ap, arith, HasRoom, IsAsFull, IsOneLess, Tree}
 use Rattle.mig_pagestore_index.specs.declared.directory.Directory.{Directory}
 
 module _ (x y : Tree) (spare : ℕ) where

@@ -1,6 +1,5 @@
 -- Bytes are texts that zeros end, and a rest; so cut, they are the texts between zeros.
-use Rattle.mig_policy.proofs.Common.{◌≡◌, ◌<◌, ℕ, zero, suc, ◌+◌, ◌%◌, Bool, true, false, not, List, [], ◌∷◌, ◌++◌, length, nat_eq, nat_lt, Some, None, refl, sym, ap, ◌∙◌, arith, append_assoc, ◌||◌, ◌⊎◌, if◌then◌else◌, inl, inr, All, flat_map, common_steps, slice_split_at, slice_split_none, All-weaker, All-nil, All-cons, All-head, texts_in, HasNoZero, ended, torn_at}
-use Rattle.std.proofs.lemmas.List.Elements.{All-tail}
+use Rattle.mig_policy.proofs.Common.{◌≡◌, ◌<◌, ℕ, zero, suc, ◌+◌, ◌%◌, Bool, true, false, not, List, [], ◌∷◌, ◌++◌, length, nat_eq, nat_lt, Some, None, refl, sym, ap, ◌∙◌, arith, append_assoc, ◌||◌, ◌⊎◌, if◌then◌else◌, inl, inr, All, flat_map, common_steps, slice_split_at, slice_split_none, All-weaker, All-nil, All-cons, All-head, texts_in, HasNoZero, ended, torn_at, All-tail}
 use Rattle.mig_policy.proofs.TextSteps.{torn_cons}
 
 abbrev pub is_zero : ℕ → Bool

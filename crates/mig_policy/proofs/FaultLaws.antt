@@ -1,6 +1,5 @@
 -- The first fault, computed, is the one in words.
-use Rattle.mig_policy.proofs.Common.{◌≡◌, ◌<◌, ℕ, ◌+◌, ◌%◌, Bool, true, false, List, length, nat_lt, Some, None, sym, ap, ◌∙◌, arith, eqb-true, ◌||◌, ◌⊎◌, if◌then◌else◌, inl, inr, flat_map, common_steps, texts_in, ended, IsTornAt, torn_at}
-use Rattle.std.proofs.Common.{eq-eqb}
+use Rattle.mig_policy.proofs.Common.{◌≡◌, ◌<◌, ℕ, ◌+◌, ◌%◌, Bool, true, false, List, length, nat_lt, Some, None, sym, ap, ◌∙◌, arith, eqb-true, ◌||◌, ◌⊎◌, if◌then◌else◌, inl, inr, flat_map, common_steps, texts_in, ended, IsTornAt, torn_at, eq-eqb}
 use Rattle.mig_policy.proofs.Cuts.{IsCut, cut_of, cut_is, cut_texts, torn_whole, odd_after, parity, is_torn}
 
 sum_zero : (n : ℕ) → 0 + n ≡ n

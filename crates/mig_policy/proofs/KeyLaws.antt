@@ -1,8 +1,5 @@
 -- The first bad key, computed, is the one in words; and bytes without fault spell their pairs.
-use Rattle.mig_policy.proofs.Common.{◌≡◌, ◌<◌, ◌≤◌, ℕ, zero, suc, ◌+◌, Bool, true, false, not, cond, List, [], ◌∷◌, ◌++◌, length, nat_eq, nat_lt, Option, Some, None, refl, sym, ap, subst, ◌∙◌, arith, append_assoc, append-nil, ◌||◌, All, AllByRecursion, flat_map, common_steps, slice_split_at, slice_split_none, All-from_recursion, recursion_from_All, All-weaker, All-nil, All-cons, All-head, fails_before_first, prefix_len-le-length, Pair, IsPair, is_key_byte, text_of_pair, texts_in, HasNoZero, ended, SpellPairs, IsTornAt, torn_at, bad_key_at, fine_len, pairs_of}
-use Rattle.std.specs.List.{join_with_byte}
-use Rattle.std.proofs.lemmas.List.Splits.{slice_split-cons_yes, join_with_byte-slice_split}
-use Rattle.std.proofs.lemmas.List.Elements.{All-append, All-same}
+use Rattle.mig_policy.proofs.Common.{◌≡◌, ◌<◌, ◌≤◌, ℕ, zero, suc, ◌+◌, Bool, true, false, not, cond, List, [], ◌∷◌, ◌++◌, length, nat_eq, nat_lt, Option, Some, None, refl, sym, ap, subst, ◌∙◌, arith, append_assoc, append-nil, ◌||◌, All, AllByRecursion, flat_map, common_steps, slice_split_at, slice_split_none, All-from_recursion, recursion_from_All, All-weaker, All-nil, All-cons, All-head, fails_before_first, prefix_len-le-length, Pair, IsPair, is_key_byte, text_of_pair, texts_in, HasNoZero, ended, SpellPairs, IsTornAt, torn_at, bad_key_at, fine_len, pairs_of, join_with_byte, slice_split-cons_yes, join_with_byte-slice_split, All-append, All-same}
 use Rattle.mig_headers.specs.declared.fault.Cause.{Cause}
 use Rattle.mig_headers.specs.declared.fault.Cause.TheVariants.{BadPairs, BadKey}
 use Rattle.mig_policy.specs.PairFaults.{IsBadKeyAt, IsFirstFault, FirstFaultIsComputed, first_of, pairs_fault}

@@ -1,10 +1,8 @@
 -- Where pairs are added, the last of a key decides.
-use Rattle.mig_policy.proofs.Common.{◌≡◌, ℕ, List, [], ◌∷◌, Option, Some, None, false, refl, sym, ap, ◌∙◌, arith, cond, Bool, true, common_steps, slice_cmp, nat_list_cmp_total, entries_sorted, same_entries_map, flat_map, nat_cmp, if◌then◌else◌, Pair, AreCanonicalPairs, AreRising, text_of_pair, SpellPairs, PairMap, IsOfPairs, put_pair, put_pairs, pair_of, text_of_entry, text_of_map, map_of, merged}
+use Rattle.mig_policy.proofs.Common.{◌≡◌, ℕ, List, [], ◌∷◌, Option, Some, None, false, refl, sym, ap, ◌∙◌, arith, cond, Bool, true, common_steps, slice_cmp, nat_list_cmp_total, entries_sorted, same_entries_map, flat_map, nat_cmp, if◌then◌else◌, Pair, AreCanonicalPairs, AreRising, text_of_pair, SpellPairs, PairMap, IsOfPairs, put_pair, put_pairs, pair_of, text_of_entry, text_of_map, map_of, merged, nat_cmp-IsAntisymmetric, slice_cmp-IsAntisymmetric, eq_by_cmp}
 use Rattle.std.proofs.lemmas.Cmp.{eq_by_cmp_equiv}
 use Rattle.std.proofs.lemmas.Map.Text.{is_eq-slice_cmp}
-use Rattle.std.specs.FinMap.{nat_cmp-IsAntisymmetric, slice_cmp-IsAntisymmetric}
 use Rattle.std.specs.Option.{option_or}
-use Rattle.std.specs.Ordering.{eq_by_cmp}
 use Rattle.std.specs.Prelude.{map}
 use Rattle.std.specs.Str.{bytes_eq}
 use Rattle.mig_guest.proofs.KeyedMaps.{tied}

@@ -1,9 +1,5 @@
 -- Keys that rise are taken off the front of bytes one after another.
-use Rattle.mig_policy.proofs.Common.{◌≡◌, ℕ, Bool, true, false, List, [], ◌∷◌, length, Some, refl, sym, ap, subst, ◌∙◌, arith, ◌&&◌, slice_cmp, nat_cmp, is_lt, AreCanonicalPairs, is_key_byte, texts_in, are_rising_texts}
-use Rattle.std.specs.Prelude.{IsTrue, ◌↔◌}
-use Rattle.std.specs.Cmp.Lexicographic.{slice_partial_cmp, lists_agrees}
-use Rattle.std.specs.Ordering.{is_some_and}
-use Rattle.std.specs.List.{list_all}
+use Rattle.mig_policy.proofs.Common.{◌≡◌, ℕ, Bool, true, false, List, [], ◌∷◌, length, Some, refl, sym, ap, subst, ◌∙◌, arith, ◌&&◌, slice_cmp, nat_cmp, is_lt, AreCanonicalPairs, is_key_byte, texts_in, are_rising_texts, IsTrue, ◌↔◌, slice_partial_cmp, lists_agrees, is_some_and, list_all}
 use Rattle.mig_headers.proofs.PairTexts.{canonical_pairs_are_computed}
 use Rattle.mig_headers.specs.Pairs.{are_canonical_pairs, is_next_key}
 

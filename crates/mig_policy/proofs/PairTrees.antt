@@ -1,15 +1,10 @@
 -- A tree of keys and values, seen as a map of pairs, and how many bytes spell it.
-use Rattle.mig_policy.proofs.Common.{◌≡◌, ℕ, ◌+◌, ◌≤◌, List, [], ◌∷◌, ◌++◌, append_assoc, cond, drop, length, map, Some, None, refl, sym, ap, subst, ◌∙◌, arith, T, flat_map, Ordering, Less, Equal, Greater, nat_cmp, slice_cmp, nat_list_cmp_total, entries-insert, same_entries_map, put, is_sorted, common_steps, Pair, PairMap, AreSetBefore, put_pair, put_pairs, pairs_in, shown, pairs_seen, text_of_entry, text_of_map}
+use Rattle.mig_policy.proofs.Common.{◌≡◌, ℕ, ◌+◌, ◌≤◌, List, [], ◌∷◌, ◌++◌, append_assoc, cond, drop, length, map, Some, None, refl, sym, ap, subst, ◌∙◌, arith, T, flat_map, Ordering, Less, Equal, Greater, nat_cmp, slice_cmp, nat_list_cmp_total, entries-insert, same_entries_map, put, is_sorted, common_steps, Pair, PairMap, AreSetBefore, put_pair, put_pairs, pairs_in, shown, pairs_seen, text_of_entry, text_of_map, Global, is_eq, match_ordering, entries-from_sorted, len-entries, len-empty, is_sorted-put, fold-append}
 use Rattle.std.proofs.lemmas.Option.{none-some, same_Some}
 use Rattle.std.proofs.lemmas.List.{nil_from_length}
-use Rattle.std.proofs.Common.{Global}
 use Rattle.std.specs.declared.vec.Vec.{Vec}
-use Rattle.std.specs.Ordering.{is_eq, match_ordering}
 use Rattle.std.specs.BTreeMap.{insert_entry, is_at}
 use Rattle.std.specs.Map.{keys_of, lookup}
-use Rattle.std.specs.FinMap.{entries-from_sorted, len-entries, len-empty}
-use Rattle.std.specs.FinMap.Entries.{is_sorted-put}
-use Rattle.std.proofs.lemmas.List.Sums.{fold-append}
 use Rattle.std.specs.FinMap as maps
 
 abbrev pub Key : Type 0

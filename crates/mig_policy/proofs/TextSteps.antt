@@ -1,10 +1,5 @@
 -- One text after another is taken off the front of bytes.
-use Rattle.mig_policy.proofs.Common.{◌≡◌, ℕ, ◌+◌, ◌-◌, ◌<◌, ◌≤◌, Bool, true, false, not, List, [], ◌∷◌, ◌++◌, eqb-true, length, drop, nat_eq, nat_lt, cond, Option, Some, None, refl, sym, ap, ◌∙◌, arith, ◌||◌, common_steps, slice_split_none, fails_before_first, prefix_len-le-length, texts_in, torn_at, bad_key_at, fine_len, pairs_of}
-use Rattle.std.proofs.Common.{take}
-use Rattle.std.specs.Prelude.{IfNone}
-use Rattle.std.specs.List.{position, position_or_len}
-use Rattle.std.proofs.lemmas.List.Splits.{slice_split_first, length-slice_split}
-use Rattle.std.proofs.lemmas.List.Sums.{split_at_first, passes_at_first}
+use Rattle.mig_policy.proofs.Common.{◌≡◌, ℕ, ◌+◌, ◌-◌, ◌<◌, ◌≤◌, Bool, true, false, not, List, [], ◌∷◌, ◌++◌, eqb-true, length, drop, nat_eq, nat_lt, cond, Option, Some, None, refl, sym, ap, ◌∙◌, arith, ◌||◌, common_steps, slice_split_none, fails_before_first, prefix_len-le-length, texts_in, torn_at, bad_key_at, fine_len, pairs_of, take, IfNone, position, position_or_len, slice_split_first, length-slice_split, split_at_first, passes_at_first}
 use Rattle.mig_policy.specs.PairMaps.{pairs_in}
 
 abbrev is_zero : ℕ → Bool

@@ -1,8 +1,7 @@
 -- What is wrong with bytes that are to be pairs of texts, key NUL value NUL, one pair after another (libxl migration
 -- stream, "EMULATOR_XENSTORE_DATA").
 use Rattle.std.specs.Prelude.{◌≡◌, ◌⊎◌, ◌<◌, ◌+◌, ◌%◌, ℕ, Bool, true, false, not, List, [], ◌∷◌, ◌++◌, length, Option, Some, None, ◌==◌, nat_lt, ◌||◌, if◌then◌else◌, ◌↔◌}
-use Rattle.std.specs.List.{All, flat_map, position_or_len}
-use Rattle.mig_headers.specs.Pairs.{Pair, IsPair, is_key_byte, text_of_pair, texts_in}
+use Rattle.mig_policy.specs.Common.{All, flat_map, position_or_len, Pair, IsPair, is_key_byte, text_of_pair, texts_in}
 use Rattle.mig_headers.specs.declared.fault.Cause.{Cause}
 use Rattle.mig_headers.specs.declared.fault.Cause.TheVariants.{BadPairs, BadKey}
 

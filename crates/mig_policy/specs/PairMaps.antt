@@ -1,6 +1,6 @@
 -- What pairs of texts say: a finite map from keys to values.
 use Rattle.std.specs.Prelude.{◌≡◌, ◌<◌, ℕ, List, [], ◌∷◌, ◌++◌, length, fold, map, Option, Some, None, ◌↔◌, if◌then◌else◌}
-use Rattle.std.specs.List.{All, flat_map}
+use Rattle.mig_policy.specs.Common.{All, flat_map, Pair, IsPair, AreCanonicalPairs, text_of_pair, texts_in, PartKey, PartMap}
 use Rattle.std.specs.Cmp.Lexicographic.{slice_cmp}
 use Rattle.std.specs.Option.{option_or}
 use Rattle.std.specs.Ordering.{nat_cmp}
@@ -8,9 +8,6 @@ use Rattle.std.specs.FinMap as maps
 use Rattle.std.specs.Str.{bytes_eq}
 use Rattle.std.specs.Coded.{Coded, coded_ℕ, coded_list}
 use Rattle.std.specs.declared.vec.Vec.{Vec}
-use Rattle.mig_headers.specs.Pairs.{Pair, IsPair, AreCanonicalPairs, text_of_pair, texts_in}
-use Rattle.mig_guest.specs.declared.part_key.PartKey.{PartKey}
-use Rattle.mig_guest.specs.Parts.{PartMap}
 use Rattle.mig_policy.specs.PairFaults.{SpellPairs, pairs_fault}
 
 -- values by their keys, in the order of the keys' bytes

@@ -1,6 +1,5 @@
 ghost use Rattle.std.specs.Prelude.{◌≡◌, ◌==◌, ◌||◌, false, not, length, nat_lt};
-ghost use Rattle.std.specs.List.{position};
-ghost use Rattle.mig_headers.specs.Pairs.{is_key_byte, texts_in};
+ghost use Rattle.mig_policy.specs.Common.{position, is_key_byte, texts_in};
 ghost use Rattle.mig_policy.specs.PairFaults.{torn_at, bad_key_at, fine_len, pairs_fault as fault_of, IsFirstFault};
 
 use crate::pairs::may_be_in_key;

@@ -3,7 +3,7 @@ ghost use Rattle.std.specs.FinMap as maps;
 ghost use Rattle.mig_policy.specs.PairFaults.{pairs_fault};
 ghost use Rattle.mig_policy.specs.PairMaps.{text_of_map, pairs_key, part_bytes, merged, merged_at, with_pairs};
 ghost use Rattle.mig_policy.specs.declared.pair_map.PairsAnswer.TheVariants.{TooMany};
-ghost use Rattle.mig_guest.specs.Limits.{most_pairs};
+ghost use Rattle.mig_policy.specs.Common.{most_pairs};
 
 use crate::pair_map::{PairMap, PairsAnswer};
 use mig_bytes::Memory;

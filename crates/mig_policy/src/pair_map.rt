@@ -2,7 +2,7 @@ ghost use Rattle.std.specs.Prelude.{◌≡◌, ◌≤◌, ◌<◌, ◌^◌, ◌+
 ghost use Rattle.std.specs.FinMap as maps;
 ghost use Rattle.mig_policy.specs.PairMaps.{AreBegun, put_pairs, pairs_in, text_of_map, text_of_entry};
 ghost use Rattle.mig_policy.specs.declared.pair_map.PairsAnswer.TheVariants.{TooMany};
-ghost use Rattle.mig_guest.specs.Limits.{most_pairs};
+ghost use Rattle.mig_policy.specs.Common.{most_pairs};
 
 use crate::texts::split_pair;
 use mig_bytes::Memory;

@@ -1,6 +1,5 @@
 ghost use Rattle.std.specs.Prelude.{◌≡◌, ◌<◌, ◌↔◌, length, false, IsTrue, IfNone, IfSome};
-ghost use Rattle.std.specs.List.{list_all};
-ghost use Rattle.mig_headers.specs.Pairs.{AreCanonicalPairs, is_key_byte, is_next_key, texts_in, are_rising_texts, are_canonical_pairs};
+ghost use Rattle.mig_policy.specs.Common.{list_all, AreCanonicalPairs, is_key_byte, is_next_key, texts_in, are_rising_texts, are_canonical_pairs};
 
 use crate::texts::split_text;
 

@@ -1,11 +1,7 @@
 ghost use Rattle.std.specs.Prelude.{◌≡◌, ◌≢◌, ◌%◌, length, IsOk, OnOk};
-ghost use Rattle.std.specs.List.{AllByRecursion};
+ghost use Rattle.mig_policy.specs.Common.{AllByRecursion, replace_code, PartKey, CpuidLeaf, Msr, parts_of_body};
 ghost use Rattle.std.specs.FinMap as maps;
-ghost use Rattle.mig_guest.specs.Parts.{replace_code};
-ghost use Rattle.mig_guest.specs.declared.part_key.PartKey.{PartKey};
-ghost use Rattle.mig_guest.specs.declared.part_code.PartCode.TheVariants.{CpuidLeaf, Msr};
 ghost use Rattle.mig_records.specs.Layouts.{IsSmallKey};
-ghost use Rattle.mig_records.specs.Shapes.{parts_of_body};
 
 use mig_bytes::Memory;
 use mig_guest::{Guest, PartCode};

@@ -1,6 +1,5 @@
 ghost use Rattle.std.specs.Prelude.{◌≡◌, ◌<◌, ◌+◌, ◌==◌, [], ◌∷◌, ◌++◌, length, IfNone, IfSome};
-ghost use Rattle.std.specs.List.{position};
-ghost use Rattle.mig_headers.specs.Pairs.{texts_in};
+ghost use Rattle.mig_policy.specs.Common.{position, texts_in};
 ghost use Rattle.mig_policy.specs.PairMaps.{pairs_in};
 
 /// Where the first zero stands.

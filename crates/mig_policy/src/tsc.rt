@@ -1,7 +1,5 @@
 ghost use Rattle.std.specs.Prelude.{◌≡◌, OnOk, OnErr};
-ghost use Rattle.mig_guest.specs.Parts.{put_parts};
-ghost use Rattle.mig_guest.specs.declared.part_code.PartCode.TheVariants.{Tsc};
-ghost use Rattle.mig_records.specs.Shapes.{parts_of_body};
+ghost use Rattle.mig_policy.specs.Common.{put_parts, Tsc, parts_of_body};
 
 use mig_bytes::Memory;
 use mig_guest::{Guest, PartCode};

@@ -1,7 +1,5 @@
 -- Which entry of a table has no form in a stream, and where it stands.
-use Rattle.mig_pvtables.proofs.Common.{◌≡◌, ℕ, ◌<◌, Bool, true, false, List, Option, Some, None, is_none, refl, sym, ap, ◌∙◌, ◌↔◌, false_from_ne_true, find, option_map, option_or, Entry, Blank, NotPresent, Superpage, Frame, entry, first_superpage, is_superpage, both_none, is_unknown}
-use Rattle.mig_headers.proofs.FirstFaults.{neither_some}
-use Rattle.mig_pvtables.specs.BadEntries.{first_unknown, bad_entry, NamesKnown, HasSuperpage, HasUnknown, IsFirstSlot}
+use Rattle.mig_pvtables.proofs.Common.{◌≡◌, ℕ, ◌<◌, Bool, true, false, List, Option, Some, None, is_none, refl, sym, ap, ◌∙◌, ◌↔◌, false_from_ne_true, find, option_map, option_or, Entry, Blank, NotPresent, Superpage, Frame, entry, first_superpage, is_superpage, both_none, is_unknown, neither_some, first_unknown, bad_entry, NamesKnown, HasSuperpage, HasUnknown, IsFirstSlot}
 use Rattle.mig_pvtables.specs.Faults.{slots}
 use Rattle.mig_pvtables.specs.declared.rename.BadEntry.{BadEntry}
 use Rattle.mig_pvtables.specs.declared.rename.Why.{Why}

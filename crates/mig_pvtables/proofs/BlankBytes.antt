@@ -1,8 +1,6 @@
 -- Pages and parts in their blank form, as bytes written in place.
-use Rattle.mig_pvtables.proofs.Common.{◌≡◌, ◌≢◌, ℕ, ◌+◌, ◌*◌, ◌/◌, ◌<◌, true, false, cond, List, ◌++◌, length, take, drop, refl, sym, ap, ◌∙◌, inl, inr, arith, get_or, Option, Some, None, field_at, field_place, is_marked, cases_lt, lit<, replicate, ◌==◌, ◌&&◌, nat_le, cases_eq, ne_eqb, eq-eqb, long_at, longs, blanked_table, each_stays, put_long, value_blanked, blanked_context, blanked_shared, little_bytes, le64, with_field, Bytes, bytes_from}
-use Rattle.std.proofs.Common.{drop-drop}
+use Rattle.mig_pvtables.proofs.Common.{◌≡◌, ◌≢◌, ℕ, ◌+◌, ◌*◌, ◌/◌, ◌<◌, true, false, cond, List, ◌++◌, length, take, drop, refl, sym, ap, ◌∙◌, inl, inr, arith, get_or, Option, Some, None, field_at, field_place, is_marked, cases_lt, lit<, replicate, ◌==◌, ◌&&◌, nat_le, cases_eq, ne_eqb, eq-eqb, long_at, longs, blanked_table, each_stays, put_long, value_blanked, blanked_context, blanked_shared, little_bytes, le64, with_field, Bytes, bytes_from, drop-drop, longs_back, middle_zeroed}
 use Rattle.std.proofs.lemmas.Bool.{lt-leb, le-leb}
-use Rattle.mig_guest.proofs.Longs.{longs_back, middle_zeroed}
 use borrow.Rule.Slice.PartMut.{put_mid}
 use Rattle.mig_guest.specs.Tables.{blanked_entry}
 use Rattle.mig_pvtables.specs.VcpuContexts.{blanked_value, blanked_shared_value}

@@ -1,7 +1,5 @@
 -- The blank form of a guest of bytes is of bytes, and what the blank form writes as numbers is of bytes whatever it was.
-use Rattle.mig_pvtables.proofs.Common.{◌≡◌, ℕ, zero, suc, ◌%◌, ◌<◌, Bool, true, false, cond, List, Option, Some, None, ap, subst, ◌∙◌, arith, ◌==◌, nat_cmp_total, nat_cmp-IsAntisymmetric, Pv, Hvm, level_of, FrameOf, GuestOf, blanked_table, part_total, part_exact, blanked_page, blanked_frame, blanked_part, blank_of, blank, IsOfBytes, place_of, blanked_context, blanked_shared, byte_at, little_bytes, AreBytes, Kind}
-use Rattle.std.proofs.lemmas.List.Elements.{All-nil, All-cons, All-append, All-replicate}
-use Rattle.std.specs.Int.{bytes_low_first}
+use Rattle.mig_pvtables.proofs.Common.{◌≡◌, ℕ, zero, suc, ◌%◌, ◌<◌, Bool, true, false, cond, List, Option, Some, None, ap, subst, ◌∙◌, arith, ◌==◌, nat_cmp_total, nat_cmp-IsAntisymmetric, Pv, Hvm, level_of, FrameOf, GuestOf, blanked_table, part_total, part_exact, blanked_page, blanked_frame, blanked_part, blank_of, blank, IsOfBytes, place_of, blanked_context, blanked_shared, byte_at, little_bytes, AreBytes, Kind, All-nil, All-cons, All-append, All-replicate, bytes_low_first}
 use Rattle.mig_guest.specs.Longs.{longs}
 use Rattle.mig_pvtables.specs.Blank.{zero_page}
 use Rattle.mig_pvtables.proofs.EachValue.{from_each}

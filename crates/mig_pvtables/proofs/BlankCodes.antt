@@ -1,11 +1,6 @@
 -- The parts of a code, one after another.
-use Rattle.mig_pvtables.proofs.Common.{◌≡◌, ℕ, ◌<◌, Bool, true, false, cond, not, List, [], ◌∷◌, length, Option, Some, None, IfSome, refl, sym, ap, subst, ◌∙◌, arith, ◌&&◌, ◌==◌, option_map, Ordering, eqb-true, eq-eqb, length-map, PartKey, GuestOf, part_cmp, Part, PartMap, parts_after, first_passes, kept_shown, part_total, part_exact, each_value, only, blanked_code}
+use Rattle.mig_pvtables.proofs.Common.{◌≡◌, ℕ, ◌<◌, Bool, true, false, cond, not, List, [], ◌∷◌, length, Option, Some, None, IfSome, refl, sym, ap, subst, ◌∙◌, arith, ◌&&◌, ◌==◌, option_map, Ordering, eqb-true, eq-eqb, length-map, PartKey, GuestOf, part_cmp, Part, PartMap, parts_after, first_passes, kept_shown, part_total, part_exact, each_value, only, blanked_code, is_lt, ordering_reverse, and_parts, and_from, none_passes, shown, is_reached, blanked_up_to}
 use Rattle.std.proofs.Common.{filter}
-use Rattle.std.specs.Ordering.{is_lt, ordering_reverse}
-use Rattle.std.proofs.lemmas.Bool.{and_parts, and_from}
-use Rattle.mig_guest.proofs.Found.{none_passes}
-use Rattle.mig_guest.proofs.KeyedMaps.{shown}
-use Rattle.mig_pvtables.specs.BlankSteps.{is_reached, blanked_up_to}
 use Rattle.std.specs.declared.cmp.Ordering.TheVariants.{Less, Equal, Greater}
 use Rattle.mig_guest.proofs.PartCursor.{kept_both, less, not_itself}
 use Rattle.mig_pvtables.proofs.EachValue.{get_each, entries_each, each_same, same_each}

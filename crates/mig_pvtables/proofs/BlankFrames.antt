@@ -1,7 +1,5 @@
 -- The frames of a guest on its way to its blank form.
-use Rattle.mig_pvtables.proofs.Common.{◌≡◌, ℕ, ◌+◌, ◌<◌, ◌≤◌, cond, List, length, Option, Some, None, refl, sym, ap, ◌∙◌, inl, inr, arith, option_map, nat_cmp, nat_cmp_total, nat_cmp-IsAntisymmetric, cases_lt, lt-ltb, le-ltb, pfn_limit, PageType, level_of, FrameOf, FrameMap, GuestOf, each_value, table_changed, only, with_other_page, with_table_changed}
-use Rattle.std.specs.Prelude.{option_and_then}
-use Rattle.mig_pvtables.specs.BlankSteps.{blanked_below}
+use Rattle.mig_pvtables.proofs.Common.{◌≡◌, ℕ, ◌+◌, ◌<◌, ◌≤◌, cond, List, length, Option, Some, None, refl, sym, ap, ◌∙◌, inl, inr, arith, option_map, nat_cmp, nat_cmp_total, nat_cmp-IsAntisymmetric, cases_lt, lt-ltb, le-ltb, pfn_limit, PageType, level_of, FrameOf, FrameMap, GuestOf, each_value, table_changed, only, with_other_page, with_table_changed, option_and_then, blanked_below}
 use Rattle.mig_pagestore.specs.FrameLending.{with_page, repaged}
 use Rattle.mig_pagestore.proofs.Places.{whole_is}
 use Rattle.mig_pvtables.proofs.EachValue.{get_each, each_same, same_each}

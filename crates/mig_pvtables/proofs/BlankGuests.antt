@@ -1,6 +1,5 @@
 -- A guest whose tables, P2M frames, contexts and shared page are in their blank form is in its own.
-use Rattle.mig_pvtables.proofs.Common.{◌≡◌, ℕ, true, false, cond, List, length, Option, Some, None, is_some, IsSome, IfSome, refl, sym, ap, subst, ◌∙◌, ◌==◌, option_map, nat_cmp_total, nat_cmp-IsAntisymmetric, eqb-true, ne_eqb, Pv, level_of, PartKey, IsFormed, width_of, FrameOf, GuestOf, part_cmp, shared_key, PartMap, blanked_table, part_total, part_exact, each_value, blanked_page, blanked_frame, blanked_part, blank_of, blank, only, with_zero_page, with_table_changed, where_listed, blanked_code, place_of, blanked_context, blanked_shared, SharedInfo, of_part, zero_page}
-use Rattle.mig_guest.proofs.PartRows.{sole}
+use Rattle.mig_pvtables.proofs.Common.{◌≡◌, ℕ, true, false, cond, List, length, Option, Some, None, is_some, IsSome, IfSome, refl, sym, ap, subst, ◌∙◌, ◌==◌, option_map, nat_cmp_total, nat_cmp-IsAntisymmetric, eqb-true, ne_eqb, Pv, level_of, PartKey, IsFormed, width_of, FrameOf, GuestOf, part_cmp, shared_key, PartMap, blanked_table, part_total, part_exact, each_value, blanked_page, blanked_frame, blanked_part, blank_of, blank, only, with_zero_page, with_table_changed, where_listed, blanked_code, place_of, blanked_context, blanked_shared, SharedInfo, of_part, zero_page, sole}
 use Rattle.mig_pvtables.proofs.EachValue.{each_each, same_each, stays_each}
 use Rattle.mig_pvtables.proofs.Only.{then_only}
 use Rattle.mig_pvtables.proofs.Searches.{overwritten}

@@ -1,7 +1,5 @@
 -- The parts of a guest on its way to its blank form.
-use Rattle.mig_pvtables.proofs.Common.{◌≡◌, ℕ, ◌+◌, ◌<◌, true, false, List, ◌++◌, length, take, drop, Some, None, IsSome, IfSome, refl, sym, ap, subst, ◌∙◌, arith, get_or, PartKey, part_cmp, GuestOf, PartMap, shared_key, part_total, part_exact, blanked_shared, each_value, only, little_bytes, with_field, bytes_from}
-use Rattle.std.proofs.Common.{append-nil, append_assoc}
-use Rattle.std.proofs.lemmas.List.{drop_all}
+use Rattle.mig_pvtables.proofs.Common.{◌≡◌, ℕ, ◌+◌, ◌<◌, true, false, List, ◌++◌, length, take, drop, Some, None, IsSome, IfSome, refl, sym, ap, subst, ◌∙◌, arith, get_or, PartKey, part_cmp, GuestOf, PartMap, shared_key, part_total, part_exact, blanked_shared, each_value, only, little_bytes, with_field, bytes_from, append-nil, append_assoc, drop_all}
 use Rattle.byteorder.specs.Numbers.{length-bytes_low_first}
 use Rattle.mig_pvtables.proofs.Only.{insert_only, only_stays, only_alike}
 use Rattle.mig_pvtables.proofs.BlankBytes.{shared_blanked}

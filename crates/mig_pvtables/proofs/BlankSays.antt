@@ -1,6 +1,5 @@
 -- What the entries of a table and the fields of a context say in the blank form: the same.
-use Rattle.mig_pvtables.proofs.Common.{◌≡◌, ℕ, ◌+◌, ◌-◌, ◌*◌, ◌/◌, ◌%◌, ◌^◌, ◌<◌, ◌≤◌, Bool, true, false, cond, not, List, Some, None, refl, sym, ap, subst, ◌∙◌, inl, inr, arith, nat_le, nat_lt, ◌==◌, ◌&&◌, cases_eq, cases_lt, eqb-true, eq-eqb, le-leb, lt-ltb, ne_eqb, Blank, NotPresent, Superpage, Frame, gdt_ents, is_blank_slot, entry, blanked_table, long_at, field_at, field_place, field_value, frame_of_field, is_marked, is_used, value_blanked, blanked_context, pfn_limit, ltb-true, named_frame}
-use Rattle.std.proofs.lemmas.Bool.{leb-true}
+use Rattle.mig_pvtables.proofs.Common.{◌≡◌, ℕ, ◌+◌, ◌-◌, ◌*◌, ◌/◌, ◌%◌, ◌^◌, ◌<◌, ◌≤◌, Bool, true, false, cond, not, List, Some, None, refl, sym, ap, subst, ◌∙◌, inl, inr, arith, nat_le, nat_lt, ◌==◌, ◌&&◌, cases_eq, cases_lt, eqb-true, eq-eqb, le-leb, lt-ltb, ne_eqb, Blank, NotPresent, Superpage, Frame, gdt_ents, is_blank_slot, entry, blanked_table, long_at, field_at, field_place, field_value, frame_of_field, is_marked, is_used, value_blanked, blanked_context, pfn_limit, ltb-true, named_frame, leb-true}
 use Rattle.mig_guest.specs.Tables.{entry_of, blanked_entry}
 use Rattle.mig_pvtables.specs.VcpuContexts.{blanked_value}
 use Rattle.mig_pvtables.proofs.Moduli.{long_of_each}

@@ -1,7 +1,5 @@
 -- Maps with each value changed, by its key.
-use Rattle.mig_pvtables.proofs.Common.{◌≡◌, Bool, is_some, length, length-map, kept_shown, Some, None, refl, sym, ap, ◌∙◌, Ordering, FinMap, IsAntisymmetric, same_map, get-from_entries, get-entries, entries_sorted, option_map, IsTotalOrder, each_value, is_some-mapped}
-use Rattle.std.proofs.Common.{map}
-use Rattle.mig_guest.proofs.KeyedMaps.{find_seen, entries_shown}
+use Rattle.mig_pvtables.proofs.Common.{◌≡◌, Bool, is_some, length, length-map, kept_shown, Some, None, refl, sym, ap, ◌∙◌, Ordering, FinMap, IsAntisymmetric, same_map, get-from_entries, get-entries, entries_sorted, option_map, IsTotalOrder, each_value, is_some-mapped, map, find_seen, entries_shown}
 use Rattle.std.specs.List.{filter}
 use Rattle.std.specs.FinMap as maps
 pub use Rattle.mig_guest.proofs.KeyedMaps.{shown}

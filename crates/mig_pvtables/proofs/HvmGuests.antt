@@ -1,7 +1,5 @@
 -- An HVM guest at the end of its stream: two causes are tried, of its context and of how many frames it has.
-use Rattle.mig_pvtables.proofs.Common.{◌≡◌, ◌∷◌, [], length, Bool, true, false, cond, nat_lt, Some, None, is_none, IsSome, refl, sym, ap, ◌∙◌, option_or, Missing, TooManyFrames, Hvm, most_frames, GuestOf, IsFormed, blank, blank_of, first_cause, faults_for, fault_of_guest, IsWhole}
-use Rattle.mig_guest.specs.Frames.{IsFew}
-use Rattle.mig_guest.specs.PartKeys.{context_key}
+use Rattle.mig_pvtables.proofs.Common.{◌≡◌, ◌∷◌, [], length, Bool, true, false, cond, nat_lt, Some, None, is_none, IsSome, refl, sym, ap, ◌∙◌, option_or, Missing, TooManyFrames, Hvm, most_frames, GuestOf, IsFormed, blank, blank_of, first_cause, faults_for, fault_of_guest, IsWhole, IsFew, context_key}
 use Rattle.std.specs.Prelude.{◌↔◌}
 use Rattle.mig_headers.specs.Rows.{first_fault}
 use Rattle.mig_headers.specs.declared.fault.Cause.{Cause}

@@ -1,10 +1,8 @@
 -- The rows of faults find nothing in a PV guest exactly where what they look for isn't there.
-use Rattle.mig_pvtables.proofs.Common.{◌≡◌, ℕ, ◌+◌, ◌*◌, ◌<◌, ◌≤◌, Bool, true, false, cond, not, List, length, Option, Some, None, is_some, IsSome, refl, sym, ap, ◌∙◌, arith, ◌↔◌, find, ◌&&◌, ◌||◌, range_with_len, option_map, nat_cmp_total, nat_cmp-IsAntisymmetric, eqb-true, eq-eqb, ltb-true, or_parts, or_from, Missing, Pv, PageType, level_of, PartKey, Entry, Frame, gdt_ents, FrameOf, FrameMap, GuestOf, PartMap, p2m_key, vcpu_key, shared_key, entry, EachEntry, part_total, part_exact, field_value, is_used, frame_of_field, count_in, listed_in, listed, first_cause, type_at, is_notab, is_needed, is_this, is_misplaced, find_p2m, find_slot, find_entry, is_absent, fits_field, faults_for, fault_of_guest, IsWhole, cond_some, Notab, Usage, IsEmptyRange, AreP2mFrames, IsCompletePv, misses}
-use Rattle.std.proofs.lemmas.Bool.{cond-true, cond_both}
+use Rattle.mig_pvtables.proofs.Common.{◌≡◌, ℕ, ◌+◌, ◌*◌, ◌<◌, ◌≤◌, Bool, true, false, cond, not, List, length, Option, Some, None, is_some, IsSome, refl, sym, ap, ◌∙◌, arith, ◌↔◌, find, ◌&&◌, ◌||◌, range_with_len, option_map, nat_cmp_total, nat_cmp-IsAntisymmetric, eqb-true, eq-eqb, ltb-true, or_parts, or_from, Missing, Pv, PageType, level_of, PartKey, Entry, Frame, gdt_ents, FrameOf, FrameMap, GuestOf, PartMap, p2m_key, vcpu_key, shared_key, entry, EachEntry, part_total, part_exact, field_value, is_used, frame_of_field, count_in, listed_in, listed, first_cause, type_at, is_notab, is_needed, is_this, is_misplaced, find_p2m, find_slot, find_entry, is_absent, fits_field, faults_for, fault_of_guest, IsWhole, cond_some, Notab, Usage, IsEmptyRange, AreP2mFrames, IsCompletePv, misses, cond-true, cond_both, IsWholePv}
 use Rattle.mig_pvtables.specs.Faults.{find_field, slots, field_numbers, find_in_contexts}
 use Rattle.std.proofs.Common.{◌==◌}
 use Rattle.std.specs.Prelude.{is_none}
-use Rattle.mig_pvtables.specs.WholePv.{IsWholePv}
 use Rattle.mig_pvtables.proofs.Searches.{none_of, any_in_range, find_in_range, first_found, all_none, none_mapped, is_there, are_few}
 use Rattle.std.specs.FinMap as maps
 

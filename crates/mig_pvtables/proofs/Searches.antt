@@ -1,8 +1,5 @@
 -- Searches in ranges, among entries and along rows of causes: when nothing is found.
-use Rattle.mig_pvtables.proofs.Common.{◌≡◌, ℕ, ◌+◌, ◌<◌, ◌≤◌, Bool, true, false, cond, List, [], ◌∷◌, get_or, nat_lt, Option, Some, None, is_none, is_some, IsSome, refl, sym, ap, ◌∙◌, inl, inr, arith, cases_eq, or_from, or_parts, ◌↔◌, find, ⊤, ◌||◌, range_with_len, list_any, option_map, option_or, eq_by_cmp, Ordering, IsTotalOrder, FinMap, IsAntisymmetric, get-entries, entries_sorted, false_from_ne_true, ltb-false, le-ltb, TooManyFrames, most_frames, tied, first_some, first_cause, list_any_at, length-range_with_len, get_or-range_with_len, both_none}
-use Rattle.std.specs.List.{All}
-use Rattle.mig_guest.proofs.Found.{all_found}
-use Rattle.std.proofs.lemmas.List.Elements.{All-head, All-tail}
+use Rattle.mig_pvtables.proofs.Common.{◌≡◌, ℕ, ◌+◌, ◌<◌, ◌≤◌, Bool, true, false, cond, List, [], ◌∷◌, get_or, nat_lt, Option, Some, None, is_none, is_some, IsSome, refl, sym, ap, ◌∙◌, inl, inr, arith, cases_eq, or_from, or_parts, ◌↔◌, find, ⊤, ◌||◌, range_with_len, list_any, option_map, option_or, eq_by_cmp, Ordering, IsTotalOrder, FinMap, IsAntisymmetric, get-entries, entries_sorted, false_from_ne_true, ltb-false, le-ltb, TooManyFrames, most_frames, tied, first_some, first_cause, list_any_at, length-range_with_len, get_or-range_with_len, both_none, All, all_found, All-head, All-tail}
 use Rattle.std.proofs.lemmas.List.Recursion.{or_from_places}
 use Rattle.std.specs.FinMap as maps
 

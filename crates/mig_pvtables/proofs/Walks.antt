@@ -1,9 +1,6 @@
 -- Walks along the entries of a map, up to the first that gives an answer.
-use Rattle.mig_pvtables.proofs.Common.{◌≡◌, ◌≢◌, ℕ, ◌+◌, ◌<◌, ◌≤◌, Bool, true, false, cond, not, List, [], ◌∷◌, length, Option, Some, None, is_some, is_none, refl, sym, ap, subst, inl, inr, cases_eq, ◌∙◌, arith, ◌&&◌, ◌==◌, find, option_map, option_or, nat_lt, Entry, FrameOf, FrameMap, PartKey, PartMap, Part, parts_after, part_total, part_exact, PageType, level_of, first_passes, first_some, find_slot, find_entry, type_at, fits_field, gdt_ents, field_value, frame_of_field, cond_some, entries_from, field_numbers, Usage, most_gdt_entries, misses}
-use Rattle.std.proofs.Common.{Bor}
+use Rattle.mig_pvtables.proofs.Common.{◌≡◌, ◌≢◌, ℕ, ◌+◌, ◌<◌, ◌≤◌, Bool, true, false, cond, not, List, [], ◌∷◌, length, Option, Some, None, is_some, is_none, refl, sym, ap, subst, inl, inr, cases_eq, ◌∙◌, arith, ◌&&◌, ◌==◌, find, option_map, option_or, nat_lt, Entry, FrameOf, FrameMap, PartKey, PartMap, Part, parts_after, part_total, part_exact, PageType, level_of, first_passes, first_some, find_slot, find_entry, type_at, fits_field, gdt_ents, field_value, frame_of_field, cond_some, entries_from, field_numbers, Usage, most_gdt_entries, misses, Bor, MatchOption, parts_of}
 use Rattle.std.specs.Array.{IsWholeChunk}
-use Rattle.std.specs.Option.{MatchOption}
-use Rattle.mig_guest.specs.Parts.{parts_of}
 use Rattle.mig_guest.proofs.NextEntries.{from_zero}
 use Rattle.mig_pvtables.proofs.BlankCodes.{is_next, by_test, next_parts}
 use Rattle.mig_pvtables.proofs.Searches.{cond_none}

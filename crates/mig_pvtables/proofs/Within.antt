@@ -1,6 +1,5 @@
 -- A table without fault has no superpage and names no frame above top.
-use Rattle.mig_pvtables.proofs.Common.{◌≡◌, ℕ, ◌<◌, true, false, List, None, refl, ◌↔◌, ltb-false, le-ltb, Entry, Blank, NotPresent, Superpage, Frame, entry, IsWithin, is_superpage, names_above, first_superpage, both_none}
-use Rattle.mig_pvtables.specs.Tables.{first_outside, fault_of_page_table}
+use Rattle.mig_pvtables.proofs.Common.{◌≡◌, ℕ, ◌<◌, true, false, List, None, refl, ◌↔◌, ltb-false, le-ltb, Entry, Blank, NotPresent, Superpage, Frame, entry, IsWithin, is_superpage, names_above, first_superpage, both_none, first_outside, fault_of_page_table}
 use Rattle.mig_pvtables.proofs.Searches.{none_mapped}
 use Rattle.mig_pvtables.proofs.Slots.{no_slot}
 

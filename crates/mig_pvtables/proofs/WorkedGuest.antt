@@ -1,14 +1,7 @@
 -- The guest of the worked PV stream is whole, so that there is a whole PV guest.
-use Rattle.mig_pvtables.proofs.Common.{◌≡◌, ℕ, ◌-◌, ◌*◌, ◌/◌, ◌^◌, ◌<◌, ◌≤◌, ⊤, true, false, cond, nat_lt, List, [], ◌∷◌, length, length-replicate, Some, None, IsSome, refl, sym, ap, subst, ◌∙◌, inl, inr, arith, le-leb, lit<, ◌==◌, nat_le, option_map, IsTotalOrder, IsAntisymmetric, get-from_entries, nat_cmp, nat_cmp_total, nat_cmp-IsAntisymmetric, cases_eq, cases_lt, ne_eqb, eqb-true, le-ltb, eq-eqb, ltb-true, Pv, level_of, PageType, PartKey, Entry, Blank, NotPresent, Superpage, Frame, IsPart, IsFormed, IsGuestFrame, gdt_ents, FrameOf, FrameMap, GuestOf, long_at, longs, part_cmp, PartMap, p2m_key, vcpu_key, shared_key, EachEntry, entry, IsWithin, is_blank_slot, length_longs, long_of_longs, part_total, part_exact, field_value, is_used, is_marked, frame_of_field, listed_in, listed, type_at, fits_field, blank, IsWhole, ◌&&◌, Ordering, cond_some, Notab, VcpuBasic, SharedInfo, Part, is_present, is_large, named_frame, AreP2mFrames, most_gdt_entries}
-use Rattle.mig_pagetypes.specs.PageTypes.{type_has_data}
-use Rattle.mig_guest.specs.Frames.{is_type_of}
-use Rattle.mig_guest.proofs.Found.{insert_holds}
-use Rattle.mig_guest.proofs.KeyedMaps.{insert_len}
+use Rattle.mig_pvtables.proofs.Common.{◌≡◌, ℕ, ◌-◌, ◌*◌, ◌/◌, ◌^◌, ◌<◌, ◌≤◌, ⊤, true, false, cond, nat_lt, List, [], ◌∷◌, length, length-replicate, Some, None, IsSome, refl, sym, ap, subst, ◌∙◌, inl, inr, arith, le-leb, lit<, ◌==◌, nat_le, option_map, IsTotalOrder, IsAntisymmetric, get-from_entries, nat_cmp, nat_cmp_total, nat_cmp-IsAntisymmetric, cases_eq, cases_lt, ne_eqb, eqb-true, le-ltb, eq-eqb, ltb-true, Pv, level_of, PageType, PartKey, Entry, Blank, NotPresent, Superpage, Frame, IsPart, IsFormed, IsGuestFrame, gdt_ents, FrameOf, FrameMap, GuestOf, long_at, longs, part_cmp, PartMap, p2m_key, vcpu_key, shared_key, EachEntry, entry, IsWithin, is_blank_slot, length_longs, long_of_longs, part_total, part_exact, field_value, is_used, is_marked, frame_of_field, listed_in, listed, type_at, fits_field, blank, IsWhole, ◌&&◌, Ordering, cond_some, Notab, VcpuBasic, SharedInfo, Part, is_present, is_large, named_frame, AreP2mFrames, most_gdt_entries, type_has_data, is_type_of, insert_holds, insert_len, AllByRecursion, L1Tab, L2Tab, L3Tab, L4Pinned, P2mFrames}
 use Rattle.std.specs.Prelude.{not}
-use Rattle.std.specs.List.{AllByRecursion}
 use Rattle.std.proofs.lemmas.List.Filters.{length-filter_both}
-use Rattle.mig_pagetypes.specs.declared.page_type.PageType.TheVariants.{L1Tab, L2Tab, L3Tab, L4Pinned}
-use Rattle.mig_guest.specs.declared.part_code.PartCode.TheVariants.{P2mFrames}
 use Rattle.mig_guest.specs.Tables.{entry_of}
 use Rattle.mig_pvtables.specs.WorkedGuest.{number_at, page_of_byte, worked_page, worked_table, worked_frames, worked_parts, worked_context, worked_pv_guest}
 use Rattle.mig_pvtables.proofs.PvGuests.{pv_whole}

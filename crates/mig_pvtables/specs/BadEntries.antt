@@ -1,10 +1,7 @@
 -- The entry of a machine's table that has no form in a stream.
 use Rattle.std.specs.Prelude.{◌≡◌, ◌<◌, ℕ, ⊤, Bool, false, List, Option, None, IsSome, is_none, find}
-use Rattle.std.specs.Option.{option_map, option_or}
-use Rattle.mig_guest.specs.declared.table.Entry.{Entry}
-use Rattle.mig_guest.specs.declared.table.Entry.TheVariants.{Frame}
+use Rattle.mig_pvtables.specs.Common.{option_map, option_or, Entry, Frame, entry}
 use Rattle.mig_guest.specs.declared.table.Entry.TheVariants as entries
-use Rattle.mig_guest.specs.Tables.{entry}
 use Rattle.mig_pvtables.specs.Faults.{slots}
 use Rattle.mig_pvtables.specs.Tables.{first_superpage}
 use Rattle.mig_pvtables.specs.declared.rename.BadEntry.{BadEntry}

@@ -1,17 +1,7 @@
 -- The blank form of a guest: nothing in it is the hypervisor's own, or is made anew where the guest is restored.
 use Rattle.std.specs.Prelude.{◌≡◌, ℕ, List, map, replicate, Option, Some, None, ◌==◌, if◌then◌else◌}
-use Rattle.std.specs.Option.{option_map}
-use Rattle.std.specs.declared.cmp.Ordering.{Ordering}
+use Rattle.mig_pvtables.specs.Common.{option_map, Ordering, AreBytes, Kind, Pv, Hvm, level_of, PartKey, FrameOf, GuestOf, PartMap, blanked_table}
 use Rattle.std.specs.FinMap as maps
-use Rattle.mig_bytes.specs.Bytes.{AreBytes}
-use Rattle.mig_headers.specs.declared.kind.Kind.{Kind}
-use Rattle.mig_headers.specs.declared.kind.Kind.TheVariants.{Pv, Hvm}
-use Rattle.mig_pagetypes.specs.PageTypes.{level_of}
-use Rattle.mig_guest.specs.declared.part_key.PartKey.{PartKey}
-use Rattle.mig_guest.specs.Frames.{FrameOf}
-use Rattle.mig_guest.specs.Guests.{GuestOf}
-use Rattle.mig_guest.specs.Parts.{PartMap}
-use Rattle.mig_guest.specs.Tables.{blanked_table}
 use Rattle.mig_pvtables.specs.P2mFrames.{place_of}
 use Rattle.mig_pvtables.specs.VcpuContexts.{blanked_context, blanked_shared}
 

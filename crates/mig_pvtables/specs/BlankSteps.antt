@@ -1,17 +1,7 @@
 -- The steps of a walk over a guest: one frame or part after another.
 use Rattle.std.specs.Prelude.{ℕ, ◌-◌, ◌/◌, Bool, false, List, length, Option, None, Some, ◌==◌, ◌&&◌, not, nat_lt, is_some, find, if◌then◌else◌}
-use Rattle.std.specs.List.{list_any, range_with_len}
-use Rattle.std.specs.Ordering.{eq_by_cmp, is_lt}
-use Rattle.std.specs.Option.{option_map}
+use Rattle.mig_pvtables.specs.Common.{list_any, range_with_len, eq_by_cmp, is_lt, option_map, Ordering, level_of, PartKey, FrameOf, long_at, part_cmp, PartMap, p2m_key}
 use Rattle.std.specs.FinMap as maps
-use Rattle.std.specs.declared.cmp.Ordering.{Ordering}
-use Rattle.mig_pagetypes.specs.PageTypes.{level_of}
-use Rattle.mig_guest.specs.declared.part_key.PartKey.{PartKey}
-use Rattle.mig_guest.specs.Frames.{FrameOf}
-use Rattle.mig_guest.specs.Longs.{long_at}
-use Rattle.mig_guest.specs.Order.{part_cmp}
-use Rattle.mig_guest.specs.Parts.{PartMap}
-use Rattle.mig_guest.specs.PartKeys.{p2m_key}
 use Rattle.mig_pvtables.specs.Blank.{zero_page, table_changed}
 use Rattle.mig_pvtables.specs.Faults.{is_this}
 use Rattle.mig_pvtables.specs.P2mFrames.{listed, place_of}

@@ -1,25 +1,7 @@
 -- What is wrong with a guest at the end of its stream: each cause at its least place.
 use Rattle.std.specs.Prelude.{ℕ, ◌+◌, ◌*◌, Bool, true, false, List, [], ◌∷◌, length, Option, Some, None, is_some, is_none, ◌==◌, ◌&&◌, ◌||◌, not, nat_le, nat_lt, find, if◌then◌else◌}
-use Rattle.std.specs.List.{list_any, range_with_len}
-use Rattle.std.specs.Option.{option_map, option_or}
+use Rattle.mig_pvtables.specs.Common.{list_any, range_with_len, option_map, option_or, Kind, Pv, Hvm, Cause, Missing, P2mFrame, TargetAbsent, VcpuFrame, TooManyFrames, PageType, Notab, L4Tab, L4Pinned, level_of, most_frames, PartKey, Entry, Frame, FrameMap, GuestOf, PartMap, p2m_key, vcpu_key, shared_key, context_key, entry, gdt_ents}
 use Rattle.std.specs.FinMap as maps
-use Rattle.mig_headers.specs.declared.kind.Kind.{Kind}
-use Rattle.mig_headers.specs.declared.kind.Kind.TheVariants.{Pv, Hvm}
-use Rattle.mig_headers.specs.declared.fault.Cause.{Cause}
-use Rattle.mig_headers.specs.declared.fault.Cause.TheVariants.{Missing, P2mFrame, TargetAbsent, VcpuFrame, TooManyFrames}
-use Rattle.mig_pagetypes.specs.declared.page_type.PageType.{PageType}
-use Rattle.mig_pagetypes.specs.declared.page_type.PageType.TheVariants.{Notab, L4Tab, L4Pinned}
-use Rattle.mig_pagetypes.specs.PageTypes.{level_of}
-use Rattle.mig_pagetypes.specs.Limits.{most_frames}
-use Rattle.mig_guest.specs.declared.part_key.PartKey.{PartKey}
-use Rattle.mig_guest.specs.declared.table.Entry.{Entry}
-use Rattle.mig_guest.specs.declared.table.Entry.TheVariants.{Frame}
-use Rattle.mig_guest.specs.Frames.{FrameMap}
-use Rattle.mig_guest.specs.Guests.{GuestOf}
-use Rattle.mig_guest.specs.Parts.{PartMap}
-use Rattle.mig_guest.specs.PartKeys.{p2m_key, vcpu_key, shared_key, context_key}
-use Rattle.mig_guest.specs.Tables.{entry}
-use Rattle.mig_guest.specs.Formed.{gdt_ents}
 use Rattle.mig_pvtables.specs.VcpuContexts.{Usage, field_value, is_used, frame_of_field}
 use Rattle.mig_pvtables.specs.P2mFrames.{count_in, listed_in}
 

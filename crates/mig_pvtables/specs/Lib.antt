@@ -1,3 +1,4 @@
+mod Common
 pub mod P2mFrames
 pub mod VcpuContexts
 pub mod Blank

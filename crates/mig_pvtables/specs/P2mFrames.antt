@@ -1,11 +1,8 @@
 -- The P2M frames of a PV guest (libxc migration stream, "X86_PV_P2M_FRAMES"): NOTAB frames, numbered from 0, that hold
 -- for each frame number (PFN) its machine frame (MFN), 512 in each.
 use Rattle.std.specs.Prelude.{ℕ, ◌/◌, List, length, Option, Some, None, ◌==◌, nat_lt, find, if◌then◌else◌}
-use Rattle.std.specs.List.{range_with_len}
+use Rattle.mig_pvtables.specs.Common.{range_with_len, long_at, PartMap, p2m_key}
 use Rattle.std.specs.FinMap as maps
-use Rattle.mig_guest.specs.Longs.{long_at}
-use Rattle.mig_guest.specs.Parts.{PartMap}
-use Rattle.mig_guest.specs.PartKeys.{p2m_key}
 
 -- how many P2M frames are listed
 abbrev pub count_in : Option (List ℕ) → ℕ

@@ -1,8 +1,6 @@
 -- Tables whose entries name other frames: in a stream frame numbers (PFN), in a machine machine frames (MFN).
 use Rattle.std.specs.Prelude.{◌≡◌, ◌<◌, ◌^◌, ℕ, List, Option, Some, None}
-use Rattle.mig_guest.specs.declared.table.Entry.{Entry}
-use Rattle.mig_guest.specs.declared.table.Entry.TheVariants.{Frame}
-use Rattle.mig_guest.specs.Longs.{each_long}
+use Rattle.mig_pvtables.specs.Common.{Entry, Frame, each_long}
 use Rattle.mig_guest.specs.Tables.{entry, entry_of, blanked_table}
 use Rattle.mig_pvtables.specs.Tables.{with_frame}
 

@@ -1,12 +1,8 @@
 -- What is wrong with a page table in a stream (libxc migration stream, "PAGE_DATA"), and what it is to change an entry.
 use Rattle.std.specs.Prelude.{ℕ, ◌+◌, ◌*◌, ◌/◌, ◌%◌, ◌^◌, Bool, true, false, List, Option, nat_lt, find}
-use Rattle.std.specs.Option.{option_map, option_or}
-use Rattle.mig_headers.specs.declared.fault.Cause.{Cause}
+use Rattle.mig_pvtables.specs.Common.{option_map, option_or, Cause, Entry, long_at, entry, named_frame}
 use Rattle.mig_headers.specs.declared.fault.Cause.TheVariants as causes
-use Rattle.mig_guest.specs.declared.table.Entry.{Entry}
 use Rattle.mig_guest.specs.declared.table.Entry.TheVariants.{Superpage, Frame}
-use Rattle.mig_guest.specs.Longs.{long_at}
-use Rattle.mig_guest.specs.Tables.{entry, named_frame}
 use Rattle.mig_pvtables.specs.Faults.{slots}
 
 abbrev pub is_superpage : Entry → Bool

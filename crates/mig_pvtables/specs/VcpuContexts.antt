@@ -2,8 +2,7 @@
 -- 5168 bytes, 646 numbers of 8 bytes. Nineteen of them are fields that hold a frame: rdx (field 0), the GDT's frames
 -- (fields 1 to 16), ctrlreg[3] (17) and ctrlreg[1] (18).
 use Rattle.std.specs.Prelude.{ℕ, ◌+◌, ◌-◌, ◌*◌, ◌/◌, ◌%◌, Bool, true, List, Option, Some, None, ◌==◌, ◌&&◌, not, nat_le, nat_lt, if◌then◌else◌}
-use Rattle.mig_guest.specs.Longs.{long_at, each_long}
-use Rattle.mig_guest.specs.Formed.{gdt_ents}
+use Rattle.mig_pvtables.specs.Common.{long_at, each_long, gdt_ents}
 
 -- the field that stands at place i, where a field does: rdx at byte 616, gdt_frames from byte 4832 on, ctrlreg[3] at
 -- byte 5008, ctrlreg[1] at byte 4992

@@ -1,7 +1,6 @@
 -- Whole guests: those that a stream can carry.
 use Rattle.std.specs.Prelude.{◌≡◌, None}
-use Rattle.mig_guest.specs.Guests.{GuestOf}
-use Rattle.mig_guest.specs.Formed.{IsFormed, HasNoEmulators}
+use Rattle.mig_pvtables.specs.Common.{GuestOf, IsFormed, HasNoEmulators}
 use Rattle.mig_pvtables.specs.Blank.{blank, IsOfBytes}
 use Rattle.mig_pvtables.specs.Faults.{fault_of_guest}
 

@@ -1,15 +1,7 @@
 -- What a whole PV guest is, in the words of the format.
 use Rattle.std.specs.Prelude.{◌≡◌, ◌≤◌, ◌<◌, ℕ, ◌+◌, ◌*◌, true, List, Some, None, IsSome}
 use Rattle.std.specs.FinMap as maps
-use Rattle.mig_pagetypes.specs.declared.page_type.PageType.TheVariants.{Notab}
-use Rattle.mig_guest.specs.declared.part_key.PartKey.{PartKey}
-use Rattle.mig_guest.specs.declared.table.Entry.TheVariants.{Frame}
-use Rattle.mig_guest.specs.Frames.{FrameOf, FrameMap, IsFew}
-use Rattle.mig_guest.specs.Guests.{GuestOf}
-use Rattle.mig_guest.specs.Parts.{PartMap}
-use Rattle.mig_guest.specs.PartKeys.{p2m_key, vcpu_key, shared_key}
-use Rattle.mig_guest.specs.Tables.{EachEntry}
-use Rattle.mig_guest.specs.Formed.{IsFormed, gdt_ents}
+use Rattle.mig_pvtables.specs.Common.{Notab, PartKey, Frame, FrameOf, FrameMap, IsFew, GuestOf, PartMap, p2m_key, vcpu_key, shared_key, EachEntry, IsFormed, gdt_ents}
 use Rattle.mig_pvtables.specs.VcpuContexts.{field_value, is_used, frame_of_field}
 use Rattle.mig_pvtables.specs.P2mFrames.{listed}
 use Rattle.mig_pvtables.specs.Faults.{type_at, fits_field}

@@ -2,14 +2,7 @@
 -- form: frames 1 to 9, of which 4 to 7 are tables of levels 1 to 4, one P2M frame, and one vCPU.
 use Rattle.std.specs.Prelude.{ℕ, ◌-◌, ◌^◌, List, [], ◌∷◌, Some, ◌==◌, replicate, if◌then◌else◌}
 use Rattle.std.specs.FinMap as maps
-use Rattle.mig_headers.specs.declared.kind.Kind.TheVariants.{Pv}
-use Rattle.mig_pagetypes.specs.declared.page_type.PageType.{PageType}
-use Rattle.mig_pagetypes.specs.declared.page_type.PageType.TheVariants.{Notab, L1Tab, L2Tab, L3Tab, L4Pinned}
-use Rattle.mig_guest.specs.Frames.{FrameOf}
-use Rattle.mig_guest.specs.Guests.{GuestOf}
-use Rattle.mig_guest.specs.Longs.{longs}
-use Rattle.mig_guest.specs.Parts.{Part}
-use Rattle.mig_guest.specs.PartKeys.{p2m_key, vcpu_key, shared_key}
+use Rattle.mig_pvtables.specs.Common.{Pv, PageType, Notab, L1Tab, L2Tab, L3Tab, L4Pinned, FrameOf, GuestOf, longs, Part, p2m_key, vcpu_key, shared_key}
 
 -- the number that a list gives a place, and 0 where it gives none
 abbrev pub number_at : List (ℕ × ℕ) → ℕ → ℕ

@@ -1,12 +1,7 @@
 ghost use Rattle.std.specs.Prelude.{◌≡◌, ◌≤◌, ℕ, List, ◌+◌, ◌<◌, ◌^◌, length, get_or, IfSome, IsSome};
 ghost use Rattle.std.specs.FinMap as maps;
-ghost use Rattle.byteorder.specs.Endian.{little_bytes};
-ghost use Rattle.mig_bytes.specs.Fields.{with_field};
-ghost use Rattle.mig_guest.specs.declared.part_key.PartKey.{PartKey};
-ghost use Rattle.mig_guest.specs.Order.{part_cmp};
-ghost use Rattle.mig_guest.specs.PartCodes.{code_number};
+ghost use Rattle.mig_pvtables.specs.Common.{little_bytes, with_field, PartKey, part_cmp, code_number, blanked_table};
 ghost use Rattle.mig_guest.specs.PartKeys.{shared_key as page_key};
-ghost use Rattle.mig_guest.specs.Tables.{blanked_table};
 ghost use Rattle.mig_pvtables.specs.Blank.{each_value, zero_page as zeros, blank as blank_form};
 ghost use Rattle.mig_pvtables.specs.BlankSteps.{only, with_zero_page, where_listed, blanked_code};
 ghost use Rattle.mig_pvtables.specs.VcpuContexts.{blanked_value, blanked_context, blanked_shared};

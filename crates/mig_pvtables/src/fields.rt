@@ -1,7 +1,6 @@
 ghost use Rattle.std.specs.Prelude.{◌≡◌, ◌≤◌, ℕ, List, Option, length, Some, find};
 ghost use Rattle.std.specs.FinMap as maps;
-ghost use Rattle.mig_pagetypes.specs.declared.page_type.PageType.{PageType};
-ghost use Rattle.mig_guest.specs.declared.part_key.PartKey.{PartKey};
+ghost use Rattle.mig_pvtables.specs.Common.{PageType, PartKey};
 ghost use Rattle.mig_pvtables.specs.Faults.{type_at, fits_field, field_numbers, find_in_contexts, misses};
 ghost use Rattle.mig_pvtables.specs.VcpuContexts.{Usage, is_used, says_where};
 

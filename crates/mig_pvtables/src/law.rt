@@ -1,14 +1,7 @@
 ghost use Rattle.std.specs.Prelude.{◌≡◌, ◌↔◌, ◌<◌, ◌∷◌, [], ℕ, List, length, is_none, nat_lt, None, IsSome};
 ghost use Rattle.std.specs.FinMap as maps;
 ghost use Rattle.mig_headers.specs.Rows.{first_fault};
-ghost use Rattle.mig_headers.specs.declared.fault.Cause.TheVariants.{Missing, TooManyFrames};
-ghost use Rattle.mig_headers.specs.declared.kind.Kind.TheVariants.{Pv, Hvm};
-ghost use Rattle.mig_pagetypes.specs.Limits.{most_frames};
-ghost use Rattle.mig_guest.specs.Formed.{IsFormed};
-ghost use Rattle.mig_guest.specs.Frames.{IsFew};
-ghost use Rattle.mig_guest.specs.Guests.{GuestOf};
-ghost use Rattle.mig_guest.specs.PartKeys.{context_key};
-ghost use Rattle.mig_guest.specs.Tables.{entry, IsWithin};
+ghost use Rattle.mig_pvtables.specs.Common.{Missing, TooManyFrames, Pv, Hvm, most_frames, IsFormed, IsFew, GuestOf, context_key, entry, IsWithin};
 ghost use Rattle.mig_pvtables.specs.Blank.{blank, IsOfBytes};
 ghost use Rattle.mig_pvtables.specs.Faults.{fault_of_guest};
 ghost use Rattle.mig_pvtables.specs.Tables.{fault_of_page_table};

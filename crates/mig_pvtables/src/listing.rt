@@ -1,11 +1,6 @@
 ghost use Rattle.std.specs.FinMap as maps;
-ghost use Rattle.mig_guest.specs.PartKeys.{p2m_key};
+ghost use Rattle.mig_pvtables.specs.Common.{p2m_key, option_map, code_number, FrameMap, PartMap, pfn_limit};
 ghost use Rattle.std.specs.Prelude.{◌≡◌, ◌≤◌, ◌<◌, ◌^◌, IfSome, IfOk, IsSome, is_none, ◌==◌, ◌||◌, not, if◌then◌else◌};
-ghost use Rattle.std.specs.Option.{option_map};
-ghost use Rattle.mig_guest.specs.PartCodes.{code_number};
-ghost use Rattle.mig_guest.specs.Frames.{FrameMap};
-ghost use Rattle.mig_guest.specs.Parts.{PartMap};
-ghost use Rattle.mig_pagetypes.specs.Limits.{pfn_limit};
 ghost use Rattle.mig_pvtables.specs.Faults.{first_some, needed_keys, missing_code as code_of_missing, is_needed as has_frames, is_notab, type_at, find_p2m};
 ghost use Rattle.mig_pvtables.specs.P2mFrames.{count_in, listed};
 ghost use Rattle.mig_pvtables.specs.P2mMarks.{clashes};

@@ -1,6 +1,6 @@
 ghost use Rattle.std.specs.Prelude.{◌≡◌, ◌≤◌, ◌<◌, ◌*◌, ◌^◌, ℕ, Option, Some, None, IfSome};
 ghost use Rattle.std.specs.Result.{OnOk, OnErr, IfErr};
-ghost use Rattle.mig_guest.specs.declared.table.Entry.TheVariants.{Frame};
+ghost use Rattle.mig_pvtables.specs.Common.{Frame};
 ghost use Rattle.mig_guest.specs.Tables.{entry as what_is_said};
 ghost use Rattle.mig_pvtables.specs.Renaming.{renamed_table, normalised_table};
 ghost use Rattle.mig_pvtables.specs.BadEntries.{bad_entry, first_unknown};

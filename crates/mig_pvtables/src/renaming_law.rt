@@ -1,8 +1,5 @@
 ghost use Rattle.std.specs.Prelude.{◌≡◌, ◌≢◌, ◌↔◌, ◌<◌, ◌/◌, ◌%◌, ◌^◌, ℕ, List, Option, Some, None};
-ghost use Rattle.mig_bytes.specs.Bytes.{AreBytes};
-ghost use Rattle.mig_guest.specs.declared.table.Entry.TheVariants.{Frame};
-ghost use Rattle.mig_guest.specs.Longs.{long_at};
-ghost use Rattle.mig_guest.specs.Tables.{entry, blanked_table, is_present, is_large};
+ghost use Rattle.mig_pvtables.specs.Common.{AreBytes, Frame, long_at, entry, blanked_table, is_present, is_large};
 ghost use Rattle.mig_pvtables.specs.BadEntries.{bad_entry, IsFirstSlot, HasSuperpage, HasUnknown, NamesKnown};
 ghost use Rattle.mig_pvtables.specs.declared.rename.Why.TheVariants as causes;
 ghost use Rattle.mig_pvtables.specs.Renaming.{renamed_by, renamed_table, normalised_table, entry_named, NamesFit, GoesBack};

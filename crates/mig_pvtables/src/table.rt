@@ -1,7 +1,5 @@
 ghost use Rattle.std.specs.Prelude.{◌≡◌, ◌≤◌, ◌<◌, ◌*◌, ◌^◌, ℕ, IfSome};
-ghost use Rattle.byteorder.specs.Endian.{little_bytes};
-ghost use Rattle.mig_bytes.specs.Fields.{with_field};
-ghost use Rattle.mig_guest.specs.Longs.{long_at};
+ghost use Rattle.mig_pvtables.specs.Common.{little_bytes, with_field, long_at};
 ghost use Rattle.mig_guest.specs.Tables.{entry as what_is_said, named_frame};
 ghost use Rattle.mig_pvtables.specs.Tables.{first_superpage, first_outside, fault_of_page_table, with_frame, is_superpage, names_above};
 

@@ -1,11 +1,6 @@
 ghost use Rattle.std.specs.Prelude.{◌≡◌, ◌≢◌, ◌≤◌, ◌<◌, ℕ, List, [], ◌∷◌, length, IfSome, IfOk, OnOk, Some, None, Err, find};
-ghost use Rattle.std.specs.Option.{option_copied, option_map};
+ghost use Rattle.mig_pvtables.specs.Common.{option_copied, option_map, TargetAbsent, VcpuFrame, Hvm, Pv, level_of, IsFormed, FrameMap};
 ghost use Rattle.std.specs.FinMap as maps;
-ghost use Rattle.mig_headers.specs.declared.fault.Cause.TheVariants.{TargetAbsent, VcpuFrame};
-ghost use Rattle.mig_headers.specs.declared.kind.Kind.TheVariants.{Hvm, Pv};
-ghost use Rattle.mig_pagetypes.specs.PageTypes.{level_of};
-ghost use Rattle.mig_guest.specs.Formed.{IsFormed};
-ghost use Rattle.mig_guest.specs.Frames.{FrameMap};
 ghost use Rattle.mig_guest.specs.Tables.{entry as what_is_said};
 ghost use Rattle.mig_pvtables.specs.Faults.{find_slot, find_entry, is_absent, slots, find_field, needed_keys, first_some, missing, too_many as more_than_allowed, first_cause, fault_by, fault_of_guest};
 ghost use Rattle.mig_pvtables.specs.declared.testing.WholeAnswer.TheVariants.{Fault, Memory as NoMemory};

@@ -1,6 +1,5 @@
 ghost use Rattle.std.specs.Prelude.{◌≡◌, ◌≤◌, ◌<◌, ◌*◌, ◌^◌, true};
-ghost use Rattle.byteorder.specs.Endian.{little_bytes};
-ghost use Rattle.mig_bytes.specs.Fields.{with_field};
+ghost use Rattle.mig_pvtables.specs.Common.{little_bytes, with_field};
 ghost use Rattle.mig_guest.specs.Formed.{gdt_ents as ents_in};
 ghost use Rattle.mig_pvtables.specs.VcpuContexts.{field_place, field_value, field_says, field_says_somewhere, field_of_frame, is_used_somewhere};
 

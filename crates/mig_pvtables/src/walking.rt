@@ -1,11 +1,6 @@
 ghost use Rattle.std.specs.Prelude.{◌≡◌, ◌≤◌, ◌<◌, ℕ, List, length, Some, IfSome};
-ghost use Rattle.std.specs.Ordering.{nat_cmp};
-ghost use Rattle.std.specs.Option.{option_map};
+ghost use Rattle.mig_pvtables.specs.Common.{nat_cmp, option_map, PartKey, part_cmp, p2m_key, NextPart};
 ghost use Rattle.std.specs.FinMap as maps;
-ghost use Rattle.mig_guest.specs.declared.part_key.PartKey.{PartKey};
-ghost use Rattle.mig_guest.specs.Order.{part_cmp};
-ghost use Rattle.mig_guest.specs.PartKeys.{p2m_key};
-ghost use Rattle.mig_guest.specs.Parts.{NextPart};
 ghost use Rattle.mig_pvtables.specs.Blank.{each_value};
 ghost use Rattle.mig_pvtables.specs.BlankSteps.{only, with_table_changed, with_other_page, written_where_listed, blanked_code};
 ghost use Rattle.mig_pvtables.specs.P2mFrames.{count_in};

@@ -1,14 +1,7 @@
 -- The parts that a body of bytes says are of bytes; and parts of bytes that are set leave a map of such parts.
-use Rattle.mig_records.proofs.Common.{◌≡◌, ◌<◌, ℕ, not, List, [], ◌∷◌, ◌++◌, length, take, drop, replicate, Option, Some, None, refl, sym, subst, arith, ◌==◌, take_at, drop_at, true, false, AllByRecursion, PartCode, PartKey, GuestOf, code_number, is_policy, Part, PartMap, put_part, put_parts, Layout, Shape, Table, Single, Named, Chain, Other, AreTableEntries, spelled_key, shape_of, set_parts, IsShaped}
-use Rattle.std.proofs.lemmas.List.Elements.{All-append, All-replicate, All-take, All-drop}
+use Rattle.mig_records.proofs.Common.{◌≡◌, ◌<◌, ℕ, not, List, [], ◌∷◌, ◌++◌, length, take, drop, replicate, Option, Some, None, refl, sym, subst, arith, ◌==◌, take_at, drop_at, true, false, AllByRecursion, PartCode, PartKey, GuestOf, code_number, is_policy, Part, PartMap, put_part, put_parts, Layout, Shape, Table, Single, Named, Chain, Other, AreTableEntries, spelled_key, shape_of, set_parts, IsShaped, All-append, All-replicate, All-take, All-drop, AreBytes, replace_code, p2m_key, part_total, part_exact, listed_over, set_p2m, BodiesSayBytes}
 use Rattle.std.specs.FinMap as maps
-use Rattle.mig_bytes.specs.Bytes.{AreBytes}
-use Rattle.mig_guest.specs.Parts.{replace_code}
-use Rattle.mig_guest.specs.PartKeys.{p2m_key}
 use Rattle.mig_guest.proofs.Found.{insert_holds, kept_holds}
-use Rattle.mig_guest.proofs.PartOrder.{part_total, part_exact}
-use Rattle.mig_records.specs.PvBodies.{listed_over, set_p2m}
-use Rattle.mig_records.specs.Shapes.{BodiesSayBytes}
 use Rattle.mig_records.proofs.Reading.{named_all}
 
 abbrev IsByte : ℕ → Type 0

@@ -1,10 +1,8 @@
 -- The canonical bodies of a well formed guest's parts of a code say these parts, in a length that their record's type has: a
 -- lemma for each shape.
-use Rattle.mig_records.proofs.Common.{◌≡◌, ℕ, ◌+◌, ◌*◌, ◌-◌, ◌%◌, ◌<◌, ◌≤◌, ◌^◌, Bool, true, false, not, List, [], ◌∷◌, ◌++◌, length, map, replicate, nat_le, nat_lt, None, refl, sym, ap, subst, ◌∙◌, arith, rules, length-append, append_assoc, append-nil, ◌==◌, ◌&&◌, ⊤, All, and_parts, and_from, and_right, or_right, le-ltb, eqb-true, eq-eqb, le-leb, leb-true, ltb-true, length-replicate, little_number, little_bytes, little_number-reads_back, length-bytes_low_first, first_fault, Cause, no_fault, PartCode, P2mFrames, VcpuBasic, VcpuMsrs, PartKey, GuestOf, row_of, code_number, small_number, IsFormed, IsContent, IsCut, gdt_ents, is_policy, width_of, Part, Layout, Shape, Table, Single, Named, Chain, Other, fault_of_key, spelled_key, entry_width, front_width, AreTableEntries, IsTableFront, IsTable, entries_text, front_text, table_text, shape_of, IsShaped, IsRow, fault_of_content, sole_key, named_parts, IsSingle, IsNamed, IsChain, IsRecordBody, SayAll, part_body, bodies_by_shape, contents_by_shape, parts_at, CanonicalBodiesSay, most_gdt_entries, most_policy_entries, vcpu_limit, most_body}
-use Rattle.std.proofs.lemmas.List.Elements.{All-head, All-tail}
+use Rattle.mig_records.proofs.Common.{◌≡◌, ℕ, ◌+◌, ◌*◌, ◌-◌, ◌%◌, ◌<◌, ◌≤◌, ◌^◌, Bool, true, false, not, List, [], ◌∷◌, ◌++◌, length, map, replicate, nat_le, nat_lt, None, refl, sym, ap, subst, ◌∙◌, arith, rules, length-append, append_assoc, append-nil, ◌==◌, ◌&&◌, ⊤, All, and_parts, and_from, and_right, or_right, le-ltb, eqb-true, eq-eqb, le-leb, leb-true, ltb-true, length-replicate, little_number, little_bytes, little_number-reads_back, length-bytes_low_first, first_fault, Cause, no_fault, PartCode, P2mFrames, VcpuBasic, VcpuMsrs, PartKey, GuestOf, row_of, code_number, small_number, IsFormed, IsContent, IsCut, gdt_ents, is_policy, width_of, Part, Layout, Shape, Table, Single, Named, Chain, Other, fault_of_key, spelled_key, entry_width, front_width, AreTableEntries, IsTableFront, IsTable, entries_text, front_text, table_text, shape_of, IsShaped, IsRow, fault_of_content, sole_key, named_parts, IsSingle, IsNamed, IsChain, IsRecordBody, SayAll, part_body, bodies_by_shape, contents_by_shape, parts_at, CanonicalBodiesSay, most_gdt_entries, most_policy_entries, vcpu_limit, most_body, All-head, All-tail, IsOf, sole}
 use Rattle.mig_bytes.specs.Fields.{le32}
 use Rattle.mig_guest.proofs.CodeParts.{parts_are, few_small}
-use Rattle.mig_guest.proofs.PartRows.{IsOf, sole}
 use Rattle.mig_records.proofs.Spelled.{scanned_chain}
 use Rattle.mig_records.proofs.TableSpelled.{table_len}
 use Rattle.mig_records.proofs.Rows.{all_rows, record_allows, has_allowed}

@@ -1,7 +1,5 @@
 -- A head spells its type and length.
-use Rattle.std.proofs.Common.{◌≡◌, ◌<◌, ◌^◌, ℕ, [], sym, ap, ◌∙◌, append-nil}
-use Rattle.byteorder.specs.Endian.{little_bytes, little_number}
-use Rattle.byteorder.specs.Numbers.{little_number-reads_back}
+use Rattle.mig_records.proofs.Common.{◌≡◌, ◌<◌, ◌^◌, ℕ, [], sym, ap, ◌∙◌, append-nil, little_bytes, little_number, little_number-reads_back}
 use Rattle.mig_bytes.specs.Fields.{le32}
 use Rattle.mig_records.specs.Records.{head_of}
 

@@ -1,12 +1,9 @@
 -- What a body says are parts that a guest of its kind may have, a lemma for each shape; and so reading it keeps a guest well
 -- formed.
-use Rattle.mig_records.proofs.Common.{◌≡◌, ℕ, ◌+◌, ◌*◌, ◌-◌, ◌%◌, ◌≤◌, Bool, true, false, List, [], ◌∷◌, ◌++◌, length, take, replicate, nat_le, nat_lt, None, Ok, refl, sym, ap, subst, ◌∙◌, inl, inr, arith, rules, length-append, length-take-le, ◌==◌, ◌&&◌, ⊤, AllByRecursion, and_parts, and_from, or_cases, eqb-true, eq-eqb, leb-true, le-leb, ltb-false, take_at, little_number, rows_fine, PartCode, P2mFrames, VcpuBasic, VcpuMsrs, PartKey, row_of, code_number, Part, PartMap, IsPart, IsFormed, IsContent, IsCut, AreParts, gdt_ents, width_of, is_policy, is_emulator_code, HasNoEmulators, Shape, Table, Single, Named, Chain, Other, front_width, entry_width, fault_of_key, spelled_key, IsSmallKey, shape_of, has_shape, parts_of_body, parts_by_shape, IsRow, fault_of_content, named_parts, IsShaped, IsNamed, sole_key, IsBody, HasBodyLength, BodiesSayParts, set_parts, BodiesKeepFormed, most_gdt_entries, most_policy_entries, most_body}
+use Rattle.mig_records.proofs.Common.{◌≡◌, ℕ, ◌+◌, ◌*◌, ◌-◌, ◌%◌, ◌≤◌, Bool, true, false, List, [], ◌∷◌, ◌++◌, length, take, replicate, nat_le, nat_lt, None, Ok, refl, sym, ap, subst, ◌∙◌, inl, inr, arith, rules, length-append, length-take-le, ◌==◌, ◌&&◌, ⊤, AllByRecursion, and_parts, and_from, or_cases, eqb-true, eq-eqb, leb-true, le-leb, ltb-false, take_at, little_number, rows_fine, PartCode, P2mFrames, VcpuBasic, VcpuMsrs, PartKey, row_of, code_number, Part, PartMap, IsPart, IsFormed, IsContent, IsCut, AreParts, gdt_ents, width_of, is_policy, is_emulator_code, HasNoEmulators, Shape, Table, Single, Named, Chain, Other, front_width, entry_width, fault_of_key, spelled_key, IsSmallKey, shape_of, has_shape, parts_of_body, parts_by_shape, IsRow, fault_of_content, named_parts, IsShaped, IsNamed, sole_key, IsBody, HasBodyLength, BodiesSayParts, set_parts, BodiesKeepFormed, most_gdt_entries, most_policy_entries, most_body, scan, cut_at, Kind, scan_cut}
 use mathlib.Core.Logic.{◌⊎◌}
-use Rattle.mig_headers.specs.Contexts.{scan, cut_at}
-use Rattle.mig_headers.specs.declared.kind.Kind.{Kind}
 use Rattle.mig_headers.specs.declared.record_type.RecordType.TheVariants as types
 use Rattle.mig_headers.proofs.Chains.{end_fits}
-use Rattle.mig_headers.proofs.ContextTexts.{scan_cut}
 use Rattle.mig_guest.proofs.Kept.{parts_keep, policies_keep, parts_plain, policies_plain}
 use Rattle.mig_records.proofs.Spelled.{chain_scanned, named_cut}
 use Rattle.mig_records.proofs.TableSpelled.{table_len, size_is}

@@ -1,27 +1,19 @@
 -- A well formed PV guest stays so where P2M frames are listed.
-use Rattle.mig_records.proofs.Common.{◌≡◌, ◌≢◌, ℕ, ◌+◌, ◌-◌, ◌*◌, ◌/◌, ◌<◌, ◌≤◌, Bool, true, false, cond, List, length, drop, nat_le, Option, Some, None, refl, sym, ap, ◌∙◌, subst, arith, length-append, length-drop, eqb-true, eq-eqb, leb-true, leb-false, PartCode, P2mFrames, PartKey, GuestOf, row_of, code_number, IsPart, IsTop, IsInside, IsGuestFrame, IsFormed, is_policy, width_of, most_policy_entries}
+use Rattle.mig_records.proofs.Common.{◌≡◌, ◌≢◌, ℕ, ◌+◌, ◌-◌, ◌*◌, ◌/◌, ◌<◌, ◌≤◌, Bool, true, false, cond, List, length, drop, nat_le, Option, Some, None, refl, sym, ap, ◌∙◌, subst, arith, length-append, length-drop, eqb-true, eq-eqb, leb-true, leb-false, PartCode, P2mFrames, PartKey, GuestOf, row_of, code_number, IsPart, IsTop, IsInside, IsGuestFrame, IsFormed, is_policy, width_of, most_policy_entries, Kind, AreBytes, recursion_from_All, p2m_key, put_other, part_total, part_exact, of_part, sole, with_bytes, p2m_count, IsP2m, listed_over, greater, set_p2m}
 use Rattle.std.specs.FinMap as maps
 use Rattle.std.specs.FinMap.{get-insert}
 use Rattle.std.specs.Ordering.{eq_by_cmp}
-use Rattle.mig_headers.specs.declared.kind.Kind.{Kind}
 use Rattle.mig_headers.specs.declared.kind.Kind.TheVariants.{Pv, Hvm}
 use Rattle.mig_pagetypes.specs.Limits.{top_limit}
-use Rattle.mig_bytes.specs.Bytes.{AreBytes}
-use Rattle.std.proofs.lemmas.List.Elements.{recursion_from_All}
 use Rattle.mig_bytes.proofs.ByteLists.{word_below}
 use Rattle.mig_records.proofs.PvLaws.{list_is}
 use Rattle.mig_guest.specs.declared.table.Entry.{Entry}
 use Rattle.mig_guest.specs.declared.table.Entry.TheVariants.{Blank, NotPresent, Superpage, Frame}
 use Rattle.mig_guest.specs.Frames.{FrameOf}
 use Rattle.mig_guest.specs.Order.{part_cmp}
-use Rattle.mig_guest.specs.PartKeys.{p2m_key}
 use Rattle.mig_guest.specs.Tables.{IsWithin}
 use Rattle.mig_guest.proofs.Counts.{same_parts}
 use Rattle.mig_guest.proofs.KeyedMaps.{tied}
-use Rattle.mig_guest.proofs.PartSets.{put_other}
-use Rattle.mig_guest.proofs.PartOrder.{part_total, part_exact}
-use Rattle.mig_guest.proofs.PartRows.{of_part, sole, with_bytes}
-use Rattle.mig_records.specs.PvBodies.{p2m_count, IsP2m, listed_over, greater, set_p2m}
 
 -- ---- the greater of two frame numbers
 

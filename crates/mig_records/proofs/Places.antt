@@ -1,9 +1,7 @@
 -- The first place of a list where a test passes.
+use Rattle.mig_records.proofs.Common.{common_steps, position_or_len, list_any, IsFirst}
 use Rattle.std.proofs.Common.{◌≡◌, ◌<◌, ℕ, zero, suc, Bool, true, false, List, [], ◌∷◌, length, Some, None, position, All, arith}
-use Rattle.std.proofs.lemmas.Grind.{common_steps}
 use Rattle.std.proofs.lemmas.List.Quantifiers.{position-Some}
-use Rattle.std.specs.List.{position_or_len, list_any}
-use Rattle.mig_records.specs.Words.{IsFirst}
 
 module _ (p : ℕ → Bool) where
   -- there is a place of the first exactly where some element passes

@@ -1,10 +1,7 @@
 -- Entries one after another, as a loop goes over them: the first, and the others behind it.
-use Rattle.mig_records.proofs.Common.{◌≡◌, ◌≢◌, ◌<◌, ◌≤◌, ℕ, zero, suc, ◌+◌, ◌*◌, ◌-◌, ◌^◌, Bool, true, false, cond, not, List, [], ◌∷◌, length, drop, Some, None, Result, Ok, Err, refl, sym, ap, subst, ◌∙◌, arith, length-drop, get_or-drop, AllByRecursion, slice_index, OnOk, OnErr, little_number, little_from-lt, Cause, both_none, PartCode, PartKey, GuestOf, code_number, Part, PartMap, put_part, put_parts, Layout, IsLayout, IsSmallKey, entry_width, front_width, AreTableEntries, key_in, entry_part, entry_parts, fault_of_key, fault_of_entry, fault_of_entries, fault_of_table, entry_count, parts_of_table, is_policy, cleared, set_parts, named_parts}
+use Rattle.mig_records.proofs.Common.{◌≡◌, ◌≢◌, ◌<◌, ◌≤◌, ℕ, zero, suc, ◌+◌, ◌*◌, ◌-◌, ◌^◌, Bool, true, false, cond, not, List, [], ◌∷◌, length, drop, Some, None, Result, Ok, Err, refl, sym, ap, subst, ◌∙◌, arith, length-drop, get_or-drop, AllByRecursion, slice_index, OnOk, OnErr, little_number, little_from-lt, Cause, both_none, PartCode, PartKey, GuestOf, code_number, Part, PartMap, put_part, put_parts, Layout, IsLayout, IsSmallKey, entry_width, front_width, AreTableEntries, key_in, entry_part, entry_parts, fault_of_key, fault_of_entry, fault_of_entries, fault_of_table, entry_count, parts_of_table, is_policy, cleared, set_parts, named_parts, mul-suc, pow-le-pow_right, option_or, put_other, puts_other, cleared_other}
 use Rattle.std.proofs.Common.{◌==◌}
-use Rattle.std.proofs.Math.Nat.{mul-suc, pow-le-pow_right}
-use Rattle.std.specs.Option.{option_or}
 use Rattle.std.specs.FinMap as maps
-use Rattle.mig_guest.proofs.PartSets.{put_other, puts_other, cleared_other}
 use Rattle.mig_records.proofs.TableSpelled.{fine_table}
 
 -- the bytes of memory

@@ -1,13 +1,9 @@
 -- How records are spelled, and the numbers in front of a body.
+use Rattle.mig_records.proofs.Common.{flat_map-append, take-append-le, padding_len, little_bytes, length-bytes_low_first}
 use Rattle.std.proofs.Common.{List, [], ap, append-nil, drop, length, replicate, sym, take, ℕ, ◌++◌, ◌+◌, ◌∙◌, ◌∷◌, ◌≡◌, ◌≤◌}
 use Rattle.std.proofs.Math.Seq.{take-append-add}
-use Rattle.std.proofs.lemmas.Grind.{flat_map-append}
-use Rattle.std.proofs.lemmas.List.{take-append-le}
-use Rattle.mig_bytes.specs.Bytes.{padding_len}
 use Rattle.mig_records.specs.Records.{Record, text_of, head_of, spelled}
-use Rattle.byteorder.specs.Endian.{little_bytes}
 use Rattle.mig_bytes.specs.Fields.{with_field}
-use Rattle.byteorder.specs.Numbers.{length-bytes_low_first}
 use Rattle.byteorder.proofs.Bytes.{take-bytes_low_first}
 
 -- ---- a record

@@ -1,7 +1,6 @@
 -- What is to be shown of each row.
-use Rattle.mig_records.proofs.Common.{◌≡◌, ℕ, zero, suc, ◌+◌, ◌*◌, ◌%◌, ◌<◌, ◌^◌, Bool, true, false, not, List, [], ◌∷◌, length, drop, None, Option, Some, refl, subst, arith, rules, ◌==◌, and_parts, not-false, ltb-true, first_fault, Cause, rows_fine, neither_some, PartCode, P2mFrames, CpuidLeaf, Msr, code_number, small_number, Layout, layout, entry_width, front_width, fault_of_key, fault_of_entries, entry_count, fault_of_table, shape_of, IsRow, HasBodyLength, fault_of_body, vcpu_limit}
+use Rattle.mig_records.proofs.Common.{◌≡◌, ℕ, zero, suc, ◌+◌, ◌*◌, ◌%◌, ◌<◌, ◌^◌, Bool, true, false, not, List, [], ◌∷◌, length, drop, None, Option, Some, refl, subst, arith, rules, ◌==◌, and_parts, not-false, ltb-true, first_fault, Cause, rows_fine, neither_some, PartCode, P2mFrames, CpuidLeaf, Msr, code_number, small_number, Layout, layout, entry_width, front_width, fault_of_key, fault_of_entries, entry_count, fault_of_table, shape_of, IsRow, HasBodyLength, fault_of_body, vcpu_limit, record_row_of, type_of_number}
 use Rattle.std.specs.Prelude.{nat_lt}
-use Rattle.mig_headers.specs.RecordTypes.{record_row_of, type_of_number}
 use Rattle.mig_headers.specs.declared.record_type.RecordType.{RecordType}
 use Rattle.mig_records.proofs.TableSpelled.{length_passes}
 

@@ -1,10 +1,7 @@
 -- The bodies without fault are those that are spelled so: a lemma for each shape.
-use Rattle.mig_records.proofs.Common.{◌≡◌, ℕ, ◌+◌, ◌≤◌, Bool, true, List, [], ◌∷◌, length, take, drop, nat_lt, Option, Some, None, Result, Ok, Err, refl, sym, ap, ◌∙◌, arith, length-append, length-drop, length-take-le, take-append-drop, ltb-false, le-ltb, take_at, little_number, Cause, BadLength, first_fault, both_none, neither_some, rows_fine, no_fault, PartCode, code_number, Part, Shape, Table, Single, Named, Chain, Other, fault_of_key, shape_of, sole_key, named_parts, IsSingle, IsNamed, IsChain, IsShaped, IsRow, fault_of_content, fault_of_scan, cut, fault_by_shape, parts_by_shape, has_shape, BodiesAreSpelled, BodiesSayOne}
+use Rattle.mig_records.proofs.Common.{◌≡◌, ℕ, ◌+◌, ◌≤◌, Bool, true, List, [], ◌∷◌, length, take, drop, nat_lt, Option, Some, None, Result, Ok, Err, refl, sym, ap, ◌∙◌, arith, length-append, length-drop, length-take-le, take-append-drop, ltb-false, le-ltb, take_at, little_number, Cause, BadLength, first_fault, both_none, neither_some, rows_fine, no_fault, PartCode, code_number, Part, Shape, Table, Single, Named, Chain, Other, fault_of_key, shape_of, sole_key, named_parts, IsSingle, IsNamed, IsChain, IsShaped, IsRow, fault_of_content, fault_of_scan, cut, fault_by_shape, parts_by_shape, has_shape, BodiesAreSpelled, BodiesSayOne, option_or, scan, cut_at, contexts_are_spelled}
 use Rattle.std.specs.Prelude.{◌↔◌}
-use Rattle.std.specs.Option.{option_or}
 use Rattle.mig_headers.specs.declared.fault.ContextFault.{ContextFault}
-use Rattle.mig_headers.specs.Contexts.{scan, cut_at}
-use Rattle.mig_headers.proofs.ContextTexts.{contexts_are_spelled}
 use Rattle.mig_records.proofs.TableSpelled.{Cut, cut_of, behind_value, first_number, second_number, size_is, length_is, length_passes, table_forth, table_back}
 use Rattle.mig_records.proofs.Rows.{all_rows}
 

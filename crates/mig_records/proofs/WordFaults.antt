@@ -1,12 +1,8 @@
 -- What is wrong with the words of a PAGE_DATA.
+use Rattle.mig_records.proofs.Common.{Kind, BadPageType, PfnOutside, first_fault, has_reserved_type, names_outside, IsFirst, fault_of_words}
 use Rattle.std.proofs.Common.{◌≡◌, ℕ, Bool, true, false, List, [], ◌∷◌, Some, None, All, position, slice_index, refl, sym, ap, subst, ◌∙◌}
 use Rattle.std.proofs.lemmas.List.Folds.{list_any_none}
-use Rattle.mig_headers.specs.declared.kind.Kind.{Kind}
-use Rattle.mig_headers.specs.declared.fault.Cause.TheVariants.{BadPageType, PfnOutside}
 use Rattle.mig_pagetypes.specs.FrameWords.{word_type, word_pfn}
-use Rattle.mig_headers.specs.Rows.{first_fault}
-use Rattle.mig_records.specs.Words.{has_reserved_type, names_outside, IsFirst}
-use Rattle.mig_records.specs.Faults.{fault_of_words}
 use Rattle.mig_records.proofs.Places.{position_some, position_none, place_is_first, none_pass}
 
 pub reserved_found : (kind : Kind) (top : ℕ) (ws : List ℕ) (entry n : ℕ) → Some entry ≡ position has_reserved_type ws → n ≡ word_type (slice_index ws entry)

@@ -1,13 +1,6 @@
 -- What is wrong with a part of a record, as rows of a test and a cause that are tried in order.
 use Rattle.std.specs.Prelude.{ℕ, ◌+◌, ◌*◌, Bool, true, List, [], ◌∷◌, Option, Some, None, ◌==◌, not, nat_lt}
-use Rattle.std.specs.List.{list_any}
-use Rattle.mig_headers.specs.declared.fault.Cause.{Cause}
-use Rattle.mig_headers.specs.declared.fault.Cause.TheVariants.{BodyTooLong, BadLength, NoPages, BadPageType, PfnOutside}
-use Rattle.mig_headers.specs.declared.kind.Kind.{Kind}
-use Rattle.mig_headers.specs.declared.record_type.RecordType.{RecordType}
-use Rattle.mig_headers.specs.RecordTypes.{record_row_of, type_of_number, most_body}
-use Rattle.mig_headers.specs.Rows.{first_fault}
-use Rattle.mig_pagetypes.specs.FrameWords.{word_type, word_pfn}
+use Rattle.mig_records.specs.Common.{list_any, Cause, BodyTooLong, BadLength, NoPages, BadPageType, PfnOutside, Kind, RecordType, record_row_of, type_of_number, most_body, first_fault, word_type, word_pfn}
 use Rattle.mig_records.specs.Words.{has_reserved_type, names_outside, first_place, first_word}
 
 -- a body of more than most_body bytes

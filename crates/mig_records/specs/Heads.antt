@@ -1,6 +1,6 @@
 -- What the 8 bytes of a record's head say.
 use Rattle.std.specs.Prelude.{ℕ, List}
-use Rattle.mig_bytes.specs.Fields.{le32}
+use Rattle.mig_records.specs.Common.{le32}
 use Rattle.mig_records.specs.declared.head.RecordHead.{RecordHead}
 
 -- the type and the length of the body, 4 bytes each

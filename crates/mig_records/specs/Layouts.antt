@@ -2,18 +2,7 @@
 -- these have, and whether the number of entries stands before them, is a layout (libxc migration stream, "HVM_PARAMS",
 -- "X86_CPUID_POLICY", "X86_MSR_POLICY").
 use Rattle.std.specs.Prelude.{◌≡◌, ◌<◌, ◌≤◌, ℕ, zero, suc, ◌+◌, ◌*◌, ◌/◌, ◌^◌, Bool, true, false, List, [], ◌∷◌, ◌++◌, length, take, drop, replicate, Option, None, ◌==◌, not, if◌then◌else◌}
-use Rattle.std.specs.List.{flat_map}
-use Rattle.std.specs.Option.{option_or}
-use Rattle.byteorder.specs.Endian.{little_number, little_bytes}
-use Rattle.mig_bytes.specs.Fields.{le32}
-use Rattle.mig_headers.specs.Rows.{first_fault}
-use Rattle.mig_headers.specs.declared.fault.Cause.{Cause}
-use Rattle.mig_headers.specs.declared.fault.Cause.TheVariants.{BadLength, VcpuId, ParamIndex}
-use Rattle.mig_guest.specs.declared.part_code.PartCode.{PartCode}
-use Rattle.mig_guest.specs.declared.part_code.PartCode.TheVariants.{VcpuBasic, VcpuExtended, VcpuXsave, VcpuMsrs, HvmParam}
-use Rattle.mig_guest.specs.declared.part_key.PartKey.{PartKey}
-use Rattle.mig_guest.specs.PartCodes.{code_number, small_number}
-use Rattle.mig_guest.specs.Parts.{Part}
+use Rattle.mig_records.specs.Common.{flat_map, option_or, little_number, little_bytes, le32, first_fault, Cause, BadLength, VcpuId, ParamIndex, PartCode, VcpuBasic, VcpuExtended, VcpuXsave, VcpuMsrs, HvmParam, PartKey, code_number, small_number, Part}
 use Rattle.mig_records.specs.declared.layout.Layout.{Layout}
 
 -- whether a table's entries are counted, and the bytes of a key's two numbers and of a part

@@ -1,3 +1,4 @@
+mod Common
 pub mod Heads
 pub mod Records
 pub mod Words

@@ -1,17 +1,7 @@
 -- The bodies of X86_PV_INFO, X86_PV_P2M_FRAMES and the records of vCPUs (libxc migration stream, "Records").
 use Rattle.std.specs.Prelude.{◌≡◌, ℕ, ◌+◌, ◌-◌, ◌*◌, ◌/◌, Bool, true, false, List, [], ◌∷◌, ◌++◌, length, drop, slice_index, Option, Some, None, ◌==◌, ◌&&◌, ◌||◌, not, nat_le, nat_lt, if◌then◌else◌}
 use Rattle.std.specs.FinMap as maps
-use Rattle.mig_bytes.specs.Fields.{le32}
-use Rattle.mig_headers.specs.Rows.{first_fault}
-use Rattle.mig_headers.specs.declared.fault.Cause.{Cause}
-use Rattle.mig_headers.specs.declared.fault.Cause.TheVariants.{BadLength, Pv32, BadPvInfo, P2mStart, VcpuId, GdtEnts}
-use Rattle.mig_headers.specs.RecordTypes.{vcpu_limit}
-use Rattle.mig_guest.specs.declared.part_code.PartCode.{PartCode}
-use Rattle.mig_guest.specs.declared.part_code.PartCode.TheVariants.{VcpuBasic, VcpuExtended, VcpuXsave, VcpuMsrs}
-use Rattle.mig_guest.specs.Guests.{GuestOf}
-use Rattle.mig_guest.specs.Formed.{gdt_ents}
-use Rattle.mig_guest.specs.PartKeys.{p2m_key}
-use Rattle.mig_guest.specs.Limits.{most_gdt_entries}
+use Rattle.mig_records.specs.Common.{le32, first_fault, Cause, BadLength, Pv32, BadPvInfo, P2mStart, VcpuId, GdtEnts, vcpu_limit, PartCode, VcpuBasic, VcpuExtended, VcpuXsave, VcpuMsrs, GuestOf, gdt_ents, p2m_key, most_gdt_entries}
 
 -- ---- X86_PV_INFO: the guest's width in bytes, the levels of its page tables, and 6 bytes that are ignored
 

@@ -1,9 +1,6 @@
 -- A record as bytes (libxc migration stream, "Records").
 use Rattle.std.specs.Prelude.{◌≡◌, ℕ, List, ◌++◌, length, replicate}
-use Rattle.std.specs.List.{flat_map}
-use Rattle.byteorder.specs.Endian.{little_bytes}
-use Rattle.mig_bytes.specs.Bytes.{padding_len}
-use Rattle.mig_bytes.specs.Fields.{le32}
+use Rattle.mig_records.specs.Common.{flat_map, little_bytes, padding_len, le32}
 
 -- a record: 8 bytes with its type and the length of its body, the body, and padding of any value
 pub record IsRecord (type : ℕ) (body bytes : List ℕ) : Type 0 where

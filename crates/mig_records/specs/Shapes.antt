@@ -1,27 +1,10 @@
 -- The body of each record that sets parts of one code: its shape, a row for each code, and what a body of each shape says
 -- (libxc migration stream, "Records").
 use Rattle.std.specs.Prelude.{◌≡◌, ◌≤◌, ℕ, ◌+◌, ◌&&◌, Bool, true, false, List, [], ◌∷◌, ◌++◌, length, take, drop, replicate, map, Option, Some, None, Result, Ok, Err, ◌==◌, not, nat_lt, if◌then◌else◌, ◌↔◌, ⊤}
-use Rattle.std.specs.List.{AllByRecursion}
-use Rattle.std.specs.Option.{option_or}
+use Rattle.mig_records.specs.Common.{AllByRecursion, option_or, little_number, little_bytes, AreBytes, Cause, BadLength, GdtEnts, BadContext, record_row_of, type_of_number, most_body, first_fault, Kind, RecordType, PartCode, P2mFrames, VcpuBasic, VcpuExtended, VcpuXsave, SharedInfo, Tsc, HvmContext, HvmParam, VcpuMsrs, CpuidLeaf, Msr, EmulatorPairs, EmulatorContext, PartKey, Part, PartMap, put_parts, replace_code, parts_of, row_of, code_number, GuestOf, IsFormed, AreParts, gdt_ents, is_policy, most_gdt_entries}
 use Rattle.std.specs.FinMap as maps
-use Rattle.byteorder.specs.Endian.{little_number, little_bytes}
-use Rattle.mig_bytes.specs.Bytes.{AreBytes}
-use Rattle.mig_headers.specs.declared.fault.Cause.{Cause}
-use Rattle.mig_headers.specs.declared.fault.Cause.TheVariants.{BadLength, GdtEnts, BadContext}
 use Rattle.mig_headers.specs.declared.fault.ContextFault.{ContextFault}
 use Rattle.mig_headers.specs.Contexts.{ContextEntry, IsContext, scan, cut_at}
-use Rattle.mig_headers.specs.RecordTypes.{record_row_of, type_of_number, most_body}
-use Rattle.mig_headers.specs.Rows.{first_fault}
-use Rattle.mig_headers.specs.declared.kind.Kind.{Kind}
-use Rattle.mig_headers.specs.declared.record_type.RecordType.{RecordType}
-use Rattle.mig_guest.specs.declared.part_code.PartCode.{PartCode}
-use Rattle.mig_guest.specs.declared.part_code.PartCode.TheVariants.{P2mFrames, VcpuBasic, VcpuExtended, VcpuXsave, SharedInfo, Tsc, HvmContext, HvmParam, VcpuMsrs, CpuidLeaf, Msr, EmulatorPairs, EmulatorContext}
-use Rattle.mig_guest.specs.declared.part_key.PartKey.{PartKey}
-use Rattle.mig_guest.specs.Parts.{Part, PartMap, put_parts, replace_code, parts_of}
-use Rattle.mig_guest.specs.PartCodes.{row_of, code_number}
-use Rattle.mig_guest.specs.Guests.{GuestOf}
-use Rattle.mig_guest.specs.Formed.{IsFormed, AreParts, gdt_ents, is_policy}
-use Rattle.mig_guest.specs.Limits.{most_gdt_entries}
 use Rattle.mig_records.specs.declared.shape.Shape.{Shape}
 use Rattle.mig_records.specs.declared.shape.Shape.TheVariants.{Table, Single, Named, Chain, Other}
 use Rattle.mig_records.specs.Layouts.{layout, fault_of_key, spelled_key, key_in, IsTable, table_text, fault_of_table, parts_of_table, IsLayout, IsSmallKey}

@@ -1,10 +1,6 @@
 -- The frame words of a PAGE_DATA record (libxc migration stream, "PAGE_DATA").
 use Rattle.std.specs.Prelude.{◌≡◌, ◌<◌, ℕ, ◌+◌, ◌*◌, Bool, true, false, List, length, map, ◌&&◌, nat_lt, nat_le, count_by, slice_index}
-use Rattle.std.specs.List.{position_or_len, range_with_len}
-use Rattle.mig_bytes.specs.Fields.{le64}
-use Rattle.mig_headers.specs.declared.kind.Kind.{Kind}
-use Rattle.mig_headers.specs.declared.kind.Kind.TheVariants.{Pv, Hvm}
-use Rattle.mig_pagetypes.specs.FrameWords.{word_type, word_pfn, word_has_data}
+use Rattle.mig_records.specs.Common.{position_or_len, range_with_len, le64, Kind, Pv, Hvm, word_type, word_pfn, word_has_data}
 
 -- the first n words that the bytes spell
 abbrev pub words : ℕ → List ℕ → List ℕ

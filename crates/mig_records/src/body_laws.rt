@@ -1,12 +1,6 @@
 ghost use Rattle.std.specs.Prelude.{◌≡◌, ◌↔◌, ◌≤◌, ℕ, true, List, length, drop, None};
 ghost use Rattle.std.specs.FinMap as maps;
-ghost use Rattle.mig_bytes.specs.Bytes.{AreBytes};
-ghost use Rattle.mig_bytes.specs.Fields.{le32};
-ghost use Rattle.mig_headers.specs.declared.kind.Kind.TheVariants.{Pv};
-ghost use Rattle.mig_guest.specs.declared.part_code.PartCode.{PartCode};
-ghost use Rattle.mig_guest.specs.Guests.{GuestOf};
-ghost use Rattle.mig_guest.specs.PartKeys.{p2m_key};
-ghost use Rattle.mig_guest.specs.Formed.{IsFormed};
+ghost use Rattle.mig_records.specs.Common.{AreBytes, le32, Pv, PartCode, GuestOf, p2m_key, IsFormed};
 ghost use Rattle.mig_records.specs.PvBodies.{IsPvInfo, fault_of_pv_info, IsP2m, fault_of_p2m, set_p2m, is_vcpu, fault_of_vcpu};
 ghost use Rattle.mig_records.specs.Shapes.{BodiesAreSpelled, BodiesSayOne, BodiesSayParts, BodiesSayBytes, BodiesKeepFormed, CanonicalBodiesSay, HasBodyLength, fault_of_body};
 

@@ -1,9 +1,7 @@
 ghost use Rattle.std.specs.Prelude.{◌≡◌, IsErrOf, ⊤};
-ghost use Rattle.mig_bytes.specs.Bytes.{padding_len};
-ghost use Rattle.mig_bytes.specs.Faults.{RisesOnReadFault};
+ghost use Rattle.mig_records.specs.Common.{padding_len, RisesOnReadFault, Truncated};
 ghost use Rattle.mig_bytes.specs.Judged.{AgreesWithJudging, part};
 ghost use Rattle.mig_bytes.specs.declared.stop.Stop.TheVariants.{Memory};
-ghost use Rattle.mig_headers.specs.declared.fault.Cause.TheVariants.{Truncated};
 ghost use Rattle.mig_records.specs.Heads.{head_in};
 
 use crate::RecordHead;

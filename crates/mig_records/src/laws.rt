@@ -1,11 +1,8 @@
 ghost use Rattle.std.specs.Prelude.{◌≡◌, ℕ, ◌<◌, ◌^◌, ◌↔◌, List, length, replicate, slice_index, All, Some, None, true, false};
 ghost use Rattle.std.specs.declared.option.Option.{Option};
 ghost use Rattle.std.specs.Io.KnownBytes.{Appends};
-ghost use Rattle.mig_bytes.specs.Bytes.{padding_len};
-ghost use Rattle.mig_headers.specs.declared.kind.Kind.{Kind};
-ghost use Rattle.mig_headers.specs.declared.fault.Cause.TheVariants.{BadPageType, PfnOutside};
+ghost use Rattle.mig_records.specs.Common.{padding_len, Kind, BadPageType, PfnOutside, word_type, word_pfn};
 ghost use Rattle.mig_pagetypes.specs.PageTypes.{type_of};
-ghost use Rattle.mig_pagetypes.specs.FrameWords.{word_type, word_pfn};
 ghost use Rattle.mig_records.specs.Faults.{fault_of_words};
 ghost use Rattle.mig_records.specs.Heads.{head_in};
 ghost use Rattle.mig_records.specs.Records.{head_of, spelled, IsRecord};

@@ -1,5 +1,5 @@
 ghost use Rattle.std.specs.Prelude.{◌≡◌, ◌≤◌, ◌<◌, ◌^◌, length, drop};
-ghost use Rattle.byteorder.specs.Endian.{little_number};
+ghost use Rattle.mig_records.specs.Common.{little_number};
 
 use byteorder::{ByteOrder, LittleEndian};
 

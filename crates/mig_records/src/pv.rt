@@ -1,5 +1,5 @@
 ghost use Rattle.std.specs.Prelude.{◌≡◌, ◌≤◌, true, length, drop, None, OnOk, OnErr};
-ghost use Rattle.mig_bytes.specs.Fields.{le32};
+ghost use Rattle.mig_records.specs.Common.{le32};
 ghost use Rattle.mig_records.specs.PvBodies.{fault_of_pv_info, fault_of_p2m, set_p2m, fault_of_vcpu_record};
 ghost use Rattle.mig_records.specs.Faults.{fault_of_length};
 

@@ -1,9 +1,6 @@
 ghost use Rattle.std.specs.Prelude.{◌≡◌, ◌≢◌, ◌≤◌, ◌+◌, true, false, length, take, [], ◌∷◌, None, IsOk, OnOk, OnErr};
-ghost use Rattle.std.specs.List.{AllByRecursion};
+ghost use Rattle.mig_records.specs.Common.{AllByRecursion, put_parts, code_number, PartKey};
 ghost use Rattle.std.specs.FinMap as maps;
-ghost use Rattle.mig_guest.specs.Parts.{put_parts};
-ghost use Rattle.mig_guest.specs.PartCodes.{code_number};
-ghost use Rattle.mig_guest.specs.declared.part_key.PartKey.{PartKey};
 ghost use Rattle.mig_records.specs.Layouts.{IsSmallKey};
 ghost use Rattle.mig_records.specs.Shapes.{shape_of, sole_key, fault_by_shape, parts_by_shape, fault_of_body, parts_of_body, set_parts, is_chain, fault_of_content};
 ghost use Rattle.mig_records.specs.declared.shape.Shape.TheVariants.{Single, Named};

@@ -1,11 +1,7 @@
 ghost use Rattle.std.specs.Prelude.{◌≡◌, ◌≢◌, ◌≤◌, ◌+◌, ◌*◌, length, [], true, None, IsOk, OnOk, OnErr, IsTrue, ◌↔◌};
-ghost use Rattle.std.specs.List.{AllByRecursion};
+ghost use Rattle.mig_records.specs.Common.{AllByRecursion, put_part, put_parts, code_number, PartKey, is_policy};
 ghost use Rattle.std.specs.FinMap as maps;
-ghost use Rattle.mig_guest.specs.Parts.{put_part, put_parts};
-ghost use Rattle.mig_guest.specs.PartCodes.{code_number};
-ghost use Rattle.mig_guest.specs.declared.part_key.PartKey.{PartKey};
 ghost use Rattle.mig_records.specs.Layouts.{AreWidths, IsLayout, IsSmallKey, entry_width, front_width, entry_part, fault_of_key, fault_of_entry, fault_of_entries, fault_of_table, entry_count, entry_parts, parts_of_table};
-ghost use Rattle.mig_guest.specs.Formed.{is_policy};
 ghost use Rattle.mig_records.specs.Shapes.{cleared, set_parts};
 
 use crate::layout::Layout;

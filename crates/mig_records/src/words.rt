@@ -1,5 +1,5 @@
 ghost use Rattle.std.specs.Prelude.{◌≡◌, ◌<◌, ◌≤◌, ◌^◌, length, position, count_by};
-ghost use Rattle.mig_pagetypes.specs.FrameWords.{word_type, word_pfn, word_has_data};
+ghost use Rattle.mig_records.specs.Common.{word_type, word_pfn, word_has_data};
 ghost use Rattle.mig_records.specs.Words.{has_reserved_type, names_outside, data_len_of};
 ghost use Rattle.mig_records.specs.Faults.{fault_of_words};
 

@@ -1,10 +1,7 @@
 #![tactic(auto, using(mig_bytes::proofs::Texts::puts_then, mig_bytes::proofs::Texts::puts_part), unfolding(crate::specs::Records::spelled))]
 
 ghost use Rattle.std.specs.Prelude.{◌≡◌, ◌≤◌, ◌++◌, length, replicate};
-ghost use Rattle.byteorder.specs.Endian.{little_bytes};
-ghost use Rattle.mig_bytes.specs.Bytes.{Puts, padding_len};
-ghost use Rattle.mig_bytes.specs.Faults.{FaultHasCause};
-ghost use Rattle.mig_headers.specs.RecordTypes.{most_body};
+ghost use Rattle.mig_records.specs.Common.{little_bytes, Puts, padding_len, FaultHasCause, most_body};
 ghost use Rattle.mig_records.specs.Records.{head_of, spelled};
 
 use crate::RecordHead;

@@ -1,7 +1,6 @@
 -- Batches of entries that were written, each as a PAGE_DATA record, and entries that are held.
 use Rattle.std.specs.Prelude.{◌≡◌, ℕ, ◌+◌, ◌<◌, ◌≤◌, Bool, nat_lt, count_by, List, [], ◌∷◌, ◌++◌, length, map, Option, Result, Ok, Err}
-use Rattle.std.specs.List.{AllByRecursion}
-use Rattle.mig_bytes.specs.declared.failure.WriteFailed.{WriteFailed}
+use Rattle.mig_records_pages.specs.Common.{AllByRecursion, WriteFailed}
 use Rattle.mig_records_pages.specs.PageData.{most_entries}
 use Rattle.mig_records_pages.specs.Told.{FrameTold, telling_record, all_told}
 use Rattle.mig_records_pages.specs.Written.{WroteAll, WroteSome}

@@ -1,3 +1,4 @@
+mod Common
 pub mod Told
 pub mod Written
 pub mod Batches

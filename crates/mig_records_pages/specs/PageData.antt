@@ -3,7 +3,7 @@ use Rattle.std.specs.Prelude.{ℕ, List, [], ◌++◌, length, replicate, unwrap
 use Rattle.byteorder.specs.Endian.{little_bytes}
 use Rattle.std.specs.List.{flat_map}
 use Rattle.mig_pagetypes.specs.FrameWords.{word_of}
-use Rattle.mig_guest.specs.Frames.{FrameOf}
+use Rattle.mig_records_pages.specs.Common.{FrameOf}
 
 -- a frame by its number
 abbrev pub Frame : Type 0

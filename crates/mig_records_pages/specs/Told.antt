@@ -1,12 +1,9 @@
 -- What the entries of PAGE_DATA records tell of frame numbers (libxc migration stream, "PAGE_DATA").
 use Rattle.std.specs.Prelude.{◌<◌, ℕ, List, map, flat_map, Option, Some, None, if◌then◌else◌}
-use Rattle.std.specs.Option.{option_map}
+use Rattle.mig_records_pages.specs.Common.{option_map, pfn_limit, FrameOf, Record}
 use Rattle.mig_pagetypes.specs.declared.page_type.PageType.TheVariants.{Xtab}
-use Rattle.mig_pagetypes.specs.Limits.{pfn_limit}
 use Rattle.mig_pagetypes.specs.PageTypes.{type_has_data}
-use Rattle.mig_guest.specs.Frames.{FrameOf}
 use Rattle.mig_records_pages.specs.PageData.{Frame, body_of}
-use Rattle.mig_records.specs.Records.{Record}
 use Rattle.mig_records_pages.specs.declared.held_frame.HeldFrame.{HeldFrame}
 
 -- what an entry tells of a frame number: the frame there, or that there is none

@@ -1,10 +1,7 @@
 -- What a writer of an image has written since a start: records whole, and perhaps a part of one more. Where the sink
 -- doesn't tell its bytes, these words say nothing of bytes.
 use Rattle.std.specs.Prelude.{◌≢◌, ℕ, ◌<◌, ◌≤◌, ◌^◌, List, [], ◌∷◌, ◌++◌, length, take, Option, Result, Ok, Err}
-use Rattle.std.specs.List.{AllByRecursion}
-use Rattle.std.specs.Io.KnownBytes.{Appends}
-use Rattle.mig_bytes.specs.declared.failure.WriteFailed.{WriteFailed}
-use Rattle.mig_records.specs.Records.{spelled, Record, text_of}
+use Rattle.mig_records_pages.specs.Common.{AllByRecursion, Appends, WriteFailed, spelled, Record, text_of}
 
 -- a record whose type and length have room in a head, and whose body isn't too long for a reader
 pub record IsShortRecord (r : Record) : Type 0 where

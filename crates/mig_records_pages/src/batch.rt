@@ -1,5 +1,5 @@
 ghost use Rattle.std.specs.Prelude.{◌≡◌, ◌<◌, [], length, OnOk, OnErr, IfOk};
-ghost use Rattle.mig_bytes.specs.Faults.{FaultHasCause};
+ghost use Rattle.mig_records_pages.specs.Common.{FaultHasCause};
 ghost use Rattle.mig_records_pages.specs.PageData.{most_entries};
 ghost use Rattle.mig_records_pages.specs.Told.{told_of, HasPfn};
 ghost use Rattle.mig_records_pages.specs.Batches.{SendsOn, Flushes, FallsBehind};

@@ -1,6 +1,6 @@
 ghost use Rattle.std.specs.Prelude.{◌<◌, ◌≤◌, ◌+◌, ◌-◌, ◌*◌, ℕ, List, [], ◌++◌, length};
 ghost use Rattle.std.specs.declared.option.Option.{Option};
-ghost use Rattle.mig_records.specs.Records.{Record};
+ghost use Rattle.mig_records_pages.specs.Common.{Record};
 ghost use Rattle.mig_records_pages.specs.PageData.{most_entries};
 ghost use Rattle.mig_records_pages.specs.Told.{FrameTold, all_told};
 ghost use Rattle.mig_records_pages.specs.Written.{WroteAll, WroteSome};

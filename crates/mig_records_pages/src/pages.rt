@@ -1,8 +1,5 @@
 ghost use Rattle.std.specs.Prelude.{◌≡◌, ◌*◌, ◌+◌, ◌<◌, ◌≤◌, All, IfOk, OnErr, length, take, drop};
-ghost use Rattle.std.specs.Io.KnownBytes.{Appends};
-ghost use Rattle.mig_bytes.specs.Bytes.{AppendsPart, Puts};
-ghost use Rattle.mig_bytes.specs.Faults.{FaultHasCause};
-ghost use Rattle.mig_records.specs.Records.{spelled};
+ghost use Rattle.mig_records_pages.specs.Common.{Appends, AppendsPart, Puts, FaultHasCause, spelled};
 ghost use Rattle.mig_records_pages.specs.PageData.{most_entries, words_of, pages_of, body_of};
 ghost use Rattle.mig_records_pages.specs.Told.{told_held, telling_frames, HasPfn};
 ghost use Rattle.mig_records_pages.specs.Batches.{JoinsBatches};

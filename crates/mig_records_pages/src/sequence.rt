@@ -1,8 +1,6 @@
 ghost use Rattle.std.specs.Prelude.{◌≡◌, ◌<◌, ◌≤◌, ℕ, List, [], ◌∷◌, All, IfNone, IfSome, take, drop};
-ghost use Rattle.std.specs.Option.{option_copied};
+ghost use Rattle.mig_records_pages.specs.Common.{option_copied, pfn_limit, entries_from};
 ghost use Rattle.std.specs.FinMap as maps;
-ghost use Rattle.mig_pagetypes.specs.Limits.{pfn_limit};
-ghost use Rattle.mig_guest.specs.Frames.{entries_from};
 ghost use Rattle.mig_records_pages.specs.PageData.{Frame, pages_of};
 ghost use Rattle.mig_records_pages.specs.Told.{told_of, told_held, telling_frame, telling_frames, HasPfn};
 

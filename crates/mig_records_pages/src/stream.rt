@@ -1,7 +1,5 @@
 ghost use Rattle.std.specs.Prelude.{◌≢◌, ◌≤◌, ◌^◌, [], length, OnErr};
-ghost use Rattle.mig_bytes.specs.Bytes.{Puts};
-ghost use Rattle.mig_bytes.specs.Faults.{FaultHasCause};
-ghost use Rattle.mig_records.specs.Records.{spelled};
+ghost use Rattle.mig_records_pages.specs.Common.{Puts, FaultHasCause, spelled};
 ghost use Rattle.mig_records_pages.specs.Written.{JoinsRecords, LeavesPart};
 
 use mig_bytes::{Sink, WriteFailed};

@@ -1,17 +1,11 @@
 -- Fronts of bytes are spelled as an image spells the frames and parts of a valid host.
-use Rattle.mig_refusals.proofs.Common.{◌≡◌, ℕ, ◌<◌, ◌≤◌, List, [], ◌++◌, length, refl, sym, ap, subst, ◌∙◌, arith, append-nil, append_assoc, append_cancel_right, All-append, All-from_recursion, flat_map, little_bytes, bytes_back, bytes_front, AreBytes, le32, le64, kind_of_number, HostOf, IsValid, most_width, part_cmp, PartMap, PartKey, valid_empty, no_entries, put_all, frame_entries, frames_said, frames_valid, image_back, part_entries, parts_said, parts_valid, with_parts, GuestImageVersion, frame_text, host_head, guest_image, part_text, head_version, opened, said_passes, host_parts_form, host_head_causes, host_head_form, count_form, behind_frames, behind_head, guest_image_form, None, most_frames}
+use Rattle.mig_refusals.proofs.Common.{◌≡◌, ℕ, ◌<◌, ◌≤◌, List, [], ◌++◌, length, refl, sym, ap, subst, ◌∙◌, arith, append-nil, append_assoc, append_cancel_right, All-append, All-from_recursion, flat_map, little_bytes, bytes_back, bytes_front, AreBytes, le32, le64, kind_of_number, HostOf, IsValid, most_width, part_cmp, PartMap, PartKey, valid_empty, no_entries, put_all, frame_entries, frames_said, frames_valid, image_back, part_entries, parts_said, parts_valid, with_parts, GuestImageVersion, frame_text, host_head, guest_image, part_text, head_version, opened, said_passes, host_parts_form, host_head_causes, host_head_form, count_form, behind_frames, behind_head, guest_image_form, None, most_frames, Bytes, begins_paired, begins_then, bytes_spelled, gives_begins, paired_begins, retold_begins, then_begins, whole_begins, none_is, begins_passes, passes_is_spelled, head_fine, all_frames, up_to_count, head_and_frames, count_and_parts}
 use Rattle.std.specs.FinMap as maps
-use Rattle.mig_bytes.proofs.ByteLists.{Bytes}
 use Rattle.mig_bytes_form.specs.Form.{FormOf, BeginsAs, SpelledAs, steps_form}
 use Rattle.mig_bytes_form.specs.Form.{judged_as}
-use Rattle.mig_bytes_form.proofs.Joined.{begins_paired, begins_then, bytes_spelled, gives_begins, paired_begins, retold_begins, then_begins, whole_begins}
 use Rattle.mig_bytes_form.proofs.ByParts.{placed_goes}
-use Rattle.mig_bytes_form.proofs.Tests.{none_is}
-use Rattle.mig_bytes_form.proofs.Verdicts.{begins_passes, passes_is_spelled}
 use Rattle.mig_headers.specs.declared.image_fault.ImageCause.TheVariants.{Truncated}
 use Rattle.mig_headers.specs.declared.image_fault.ImagePlace.TheVariants as places
-use Rattle.mig_image.proofs.ImageBack.{head_fine}
-use Rattle.mig_refusals.specs.ImageFile.{all_frames, up_to_count, head_and_frames, count_and_parts}
 use Rattle.mig_refusals.specs.ImageFileFronts.{EndsInFrames, EndsInParts}
 use Rattle.mig_refusals.proofs.ImageFilePlaces.{head_frames, placed_head, placed_count, told_frames}
 

@@ -1,9 +1,7 @@
 -- The place at which a guest image is refused is that of the part that is refused.
-use Rattle.mig_refusals.proofs.Common.{inl, inr, ℕ, List, subst, le64, ImageCause, ImagePlace, HostOf, head_version, opened, behind_frames, behind_head, count_form, frames_form, host_frame_form, host_head_form, host_part_form, host_parts_form, guest_image_form}
+use Rattle.mig_refusals.proofs.Common.{inl, inr, ℕ, List, subst, le64, ImageCause, ImagePlace, HostOf, head_version, opened, behind_frames, behind_head, count_form, frames_form, host_frame_form, host_head_form, host_part_form, host_parts_form, guest_image_form, begins_paired, begins_then, first_refused, paired_begins, placed_refused, refused_retold, refused_steps, refused_then, steps_refused, then_begins, then_refused, all_frames, up_to_count, RefusedGuestImage, RefusedInPart, PlaceIsOfPart}
 use Rattle.mig_bytes_form.specs.Form.{FormOf, placed_form, BeginsAs, RefusedAs}
-use Rattle.mig_bytes_form.proofs.Joined.{begins_paired, begins_then, first_refused, paired_begins, placed_refused, refused_retold, refused_steps, refused_then, steps_refused, then_begins, then_refused}
 use Rattle.mig_headers.specs.declared.image_fault.ImagePlace.TheVariants as places
-use Rattle.mig_refusals.specs.ImageFile.{all_frames, up_to_count, RefusedGuestImage, RefusedInPart, PlaceIsOfPart}
 use Rattle.mig_refusals.specs.ImageFile.RefusedInPart.{in_head, in_frame, in_count, in_part}
 
 -- one more frame behind those of a host, and one more part

@@ -1,27 +1,13 @@
 -- What the truth values in the conditions of a guest image say.
-use Rattle.mig_refusals.proofs.Common.{Bool, FinMap, HostOf, Hvm, IsAntisymmetric, IsSome, IsTotalOrder, Kind, L4Pinned, L4Tab, Less, List, None, Notab, Option, Ordering, PageType, PartCode, PartKey, PartMap, Pv, Some, [], and_from, and_parts, ap, arith, cases_lt, eq-eqb, eqb-true, false, false≢true, inl, inr, le-leb, leb-true, list_any, nat_cmp-IsAntisymmetric, nat_cmp_total, nat_eq, nat_le, none-some, not, or_cases, part_cmp, part_exact, part_total, refl, subst, sym, true, ℕ, ◌∙◌, ◌∷◌, ◌≡◌, ◌≤◌, ◌⊎◌}
+use Rattle.mig_refusals.proofs.Common.{Bool, FinMap, HostOf, Hvm, IsAntisymmetric, IsSome, IsTotalOrder, Kind, L4Pinned, L4Tab, Less, List, None, Notab, Option, Ordering, PageType, PartCode, PartKey, PartMap, Pv, Some, [], and_from, and_parts, ap, arith, cases_lt, eq-eqb, eqb-true, false, false≢true, inl, inr, le-leb, leb-true, list_any, nat_cmp-IsAntisymmetric, nat_cmp_total, nat_eq, nat_le, none-some, not, or_cases, part_cmp, part_exact, part_total, refl, subst, sym, true, ℕ, ◌∙◌, ◌∷◌, ◌≡◌, ◌≤◌, ◌⊎◌, is_type_of, HostFrame, IsAbove, code_of_number, row_of, all_there, found_passes, some_entry, code_fits, has_frame_from, has_part_from, head_type_number, all_types, number_of, type_of, type_or_none, Broken, L1Pinned, L1Tab, L2Pinned, L2Tab, L3Pinned, L3Tab, Xalloc, Xtab, All-head, All-tail, All, Equal, Greater, number_found, numbered, code_allows, ImageTestsSay, IsCodeOf, IsNoType}
 use Rattle.mig_host.proofs.HostedGuests.{some_value}
 use Rattle.mig_guest.proofs.PartCursor.{less}
-use Rattle.mig_guest.specs.Frames.{is_type_of}
-use Rattle.mig_guest.specs.Hosts.{HostFrame}
-use Rattle.mig_guest.specs.Order.{IsAbove}
-use Rattle.mig_guest.specs.PartCodes.{code_of_number, row_of}
 use Rattle.mig_headers.proofs.PairTexts.{canonical_pairs_are_computed}
-use Rattle.mig_host.proofs.InOrder.{all_there, found_passes, some_entry}
 use Rattle.mig_host.specs.HostView.{has_machine}
 use Rattle.mig_image.proofs.KeyTests.{part_there}
-use Rattle.mig_image.specs.GuestImageParts.{code_fits, has_frame_from, has_part_from, head_type_number}
-use Rattle.mig_pagetypes.specs.PageTypes.{all_types, number_of, type_of, type_or_none}
-use Rattle.mig_pagetypes.specs.declared.page_type.PageType.TheVariants.{Broken, L1Pinned, L1Tab, L2Pinned, L2Tab, L3Pinned, L3Tab, Xalloc, Xtab}
-use Rattle.std.proofs.lemmas.List.Elements.{All-head, All-tail}
-use Rattle.std.specs.List.{All}
 use Rattle.std.specs.Ordering.{is_lt, ordering_reverse}
-use Rattle.std.specs.declared.cmp.Ordering.TheVariants.{Equal, Greater}
 use Rattle.std.specs.FinMap as maps
-use Rattle.mig_guest.proofs.PartRows.{number_found, numbered}
 use Rattle.mig_image.proofs.ImageWords.{each_zero, zero_each}
-use Rattle.mig_image.specs.GuestImageParts.{code_allows}
-use Rattle.mig_refusals.specs.ImageFile.{ImageTestsSay, IsCodeOf, IsNoType}
 
 -- an entry of a map that passes a test
 module _ {K X : Type 0} {R : K → K → Ordering} (total : IsTotalOrder R) (exact : IsAntisymmetric R) (p : K × X → Bool) (m : FinMap R X) where

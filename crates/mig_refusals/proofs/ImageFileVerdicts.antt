@@ -1,9 +1,5 @@
 -- What a guest image is refused for is what judging refuses it for; and what follows.
-use Rattle.mig_refusals.proofs.Common.{◌≡◌, ℕ, ◌≤◌, List, refl, sym, ◌∙◌, AreBytes, Judged, Passes, Faulty, passes_not, ImageCause, ImagePlace, HostOf, most_width, image_back, image_reads, IsGuestImageUpTo, host_at, guest_image_form}
-use Rattle.mig_bytes_form.proofs.Verdicts.{refused_so}
-use Rattle.mig_refusals.specs.ImageFile.{RefusedGuestImage, ImageCausesAscend}
-use Rattle.mig_refusals.specs.Refusals.{AreJudged, HasOneRefusal, IsAcceptedOrRefused, IsNeverBoth}
-use Rattle.mig_refusals.specs.Refusals.IsAcceptedOrRefused.{accepted, refused}
+use Rattle.mig_refusals.proofs.Common.{◌≡◌, ℕ, ◌≤◌, List, refl, sym, ◌∙◌, AreBytes, Judged, Passes, Faulty, passes_not, ImageCause, ImagePlace, HostOf, most_width, image_back, image_reads, IsGuestImageUpTo, host_at, guest_image_form, refused_so, RefusedGuestImage, ImageCausesAscend, AreJudged, HasOneRefusal, IsAcceptedOrRefused, IsNeverBoth, accepted, refused}
 use Rattle.mig_refusals.proofs.Laws.{one_refusal}
 
 pub agree : (widest : ℕ) → AreJudged (RefusedGuestImage widest) (λ input place cause rest. host_at widest input ≡ Faulty (place, cause) rest)

@@ -1,6 +1,5 @@
 -- What follows where the refusals in words are those that judging gives.
-use Rattle.mig_refusals.proofs.Common.{◌≡◌, ◌⊎◌, inl, inr, List, ℕ, sym, ap, ◌∙◌, Judged, Faulty, same_faulty, AreJudged, HasOneRefusal, AreAllAcceptedOrRefused, IsNeverBoth}
-use Rattle.mig_refusals.specs.Refusals.IsAcceptedOrRefused.{accepted, refused}
+use Rattle.mig_refusals.proofs.Common.{◌≡◌, ◌⊎◌, inl, inr, List, ℕ, sym, ap, ◌∙◌, Judged, Faulty, same_faulty, AreJudged, HasOneRefusal, AreAllAcceptedOrRefused, IsNeverBoth, accepted, refused}
 
 module _ {P C X : Type 0} (judge : List ℕ → Judged (P × C) X) (Refused : List ℕ → P → C → List ℕ → Type 0) (are : AreJudged Refused (λ input place cause rest. judge input ≡ Faulty (place, cause) rest)) where
   pub one_refusal : HasOneRefusal Refused

@@ -1,8 +1,7 @@
 -- The cause that is named: of a table the first row whose test holds, and of several tables the first that names one.
-use Rattle.mig_refusals.proofs.Common.{◌≡◌, ◌⊎◌, inl, inr, ℕ, List, Bool, true, false, cond, refl, false≢true, Option, Some, None, sym, ap, subst, arith, option_or, first_fault, Cause, OutOfOrder, IsTriedBefore, IsFirstCause, AnswersFirstCause, number_of_cause, ascends, rows_name}
+use Rattle.mig_refusals.proofs.Common.{◌≡◌, ◌⊎◌, inl, inr, ℕ, List, Bool, true, false, cond, refl, false≢true, Option, Some, None, sym, ap, subst, arith, option_or, first_fault, Cause, OutOfOrder, IsTriedBefore, IsFirstCause, AnswersFirstCause, number_of_cause, ascends, rows_name, Named}
 use Rattle.mig_host_laws.specs.NamedFirst.{NamesFirst}
 use Rattle.mig_headers.proofs.FirstCauses as firsts
-use Rattle.mig_headers.proofs.FirstCauses.{Named}
 
 -- what a computed fault is of the causes that stand
 abbrev pub Least : (ℕ → Cause → Type 0) → Option Cause → Type 0

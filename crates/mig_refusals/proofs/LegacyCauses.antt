@@ -1,13 +1,10 @@
 -- The causes that are computed in a batch, in the data of a toolstack and in a context stand there in words; and tables of causes are in order.
-use Rattle.mig_refusals.proofs.Common.{cond, not, sent, Hvm, common_steps, signature, pairs_of_toolstack, ◌++◌, Names, is_named, ◌≡◌, ◌⊎◌, inl, inr, ℕ, ◌<◌, ◌≤◌, List, [], ◌∷◌, Bool, true, false, Option, Some, None, Result, Ok, Err, refl, sym, ap, subst, arith, and_from, and_parts, both_ways, cases_order, le-leb, leb-true, none-some, same_Some, slice_index, list_any, first_fault, LegacyCause, LegacyChunk, number_of_legacy_cause, option_map, IsEarlier, IsTriedFirst, scan, ContextFault, WordHigh, BadToolstack, legacy_type, first_place, first_word, none_pass, place_is_first, nat_lt, ◌^◌, EmulatorsOf, ChunkKind, BatchTooLarge, negative, negative_causes, place_causes, most_pairs, spelled_with, is_reserved, is_high, fault_of_batch, toolstack_fault, context_fault, store_key, LegacyBadPageType, LegacyBadContext, LegacyTooManyPairs}
+use Rattle.mig_refusals.proofs.Common.{cond, not, sent, Hvm, common_steps, signature, pairs_of_toolstack, ◌++◌, Names, is_named, ◌≡◌, ◌⊎◌, inl, inr, ℕ, ◌<◌, ◌≤◌, List, [], ◌∷◌, Bool, true, false, Option, Some, None, Result, Ok, Err, refl, sym, ap, subst, arith, and_from, and_parts, both_ways, cases_order, le-leb, leb-true, none-some, same_Some, slice_index, list_any, first_fault, LegacyCause, LegacyChunk, number_of_legacy_cause, option_map, IsEarlier, IsTriedFirst, scan, ContextFault, WordHigh, BadToolstack, legacy_type, first_place, first_word, none_pass, place_is_first, nat_lt, ◌^◌, EmulatorsOf, ChunkKind, BatchTooLarge, negative, negative_causes, place_causes, most_pairs, spelled_with, is_reserved, is_high, fault_of_batch, toolstack_fault, context_fault, store_key, LegacyBadPageType, LegacyBadContext, LegacyTooManyPairs, has_value, image_records, WordsHave, LegacyContextHas, ComputedCausesStand, LegacyCausesAscend, LegacyTestsSay, word_place, computed, is_ascending}
 use Rattle.std.proofs.lemmas.Slice.Eq.{bytes_eq-Decides}
 use Rattle.std.specs.FinMap as maps
-use Rattle.mig_legacy.specs.Legacy.{has_value, image_records}
 use Rattle.mig_headers.proofs.FirstCauses as firsts
 use Rattle.mig_refusals.proofs.ContextEntries.{found_has, reached_chain}
 use Rattle.mig_refusals.proofs.LibxcCauses.{scan_finds, scanned}
-use Rattle.mig_refusals.specs.Legacy.{WordsHave, LegacyContextHas, ComputedCausesStand, LegacyCausesAscend, LegacyTestsSay, word_place}
-use Rattle.mig_bytes_form.specs.Tests.{computed, is_ascending}
 use Rattle.mig_bytes_form.specs.Tests.Test.{Less}
 use Rattle.mig_refusals.specs.Legacy.WordsHave.{reserved_type, not_zero}
 use Rattle.mig_refusals.specs.Legacy.LegacyContextHas.{wrong_entry}

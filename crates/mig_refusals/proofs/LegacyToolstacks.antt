@@ -1,6 +1,5 @@
 -- The first wrong field of a toolstack's data stands where judging finds it.
-use Rattle.mig_refusals.proofs.Common.{◌≡◌, ◌⊎◌, inl, inr, ℕ, zero, suc, ◌+◌, ◌<◌, ◌≤◌, List, [], ◌∷◌, ◌++◌, length, take, drop, Bool, true, false, nat_lt, Option, Some, refl, sym, ap, subst, ◌∙◌, arith, common_steps, take-append-drop, length-append, length-take-le, cases_eq, cases_lt, eq-eqb, ne_eqb, le-ltb, lt-ltb, none-some, same_Some, both_ways, le32, not, first_fault, drop-drop, length-drop, take-append_seam, drop-append_seam, le64, entries_fault, entry_fault, entry_len, is_name, name_at, name_in, name_len, toolstack_fault, Physmap, IsName, IsPhysmapHead, name_bytes, faultless_first, faulty_first, nothing_left, in32, first32, name_passes, name_spelled, fault_of, behind_all, len_is, PhysmapsTo, EntryWrong, FieldWrong, fine_entry}
-use Rattle.std.proofs.lemmas.Bool.{cases_Bool, false_from_ne_true}
+use Rattle.mig_refusals.proofs.Common.{◌≡◌, ◌⊎◌, inl, inr, ℕ, zero, suc, ◌+◌, ◌<◌, ◌≤◌, List, [], ◌∷◌, ◌++◌, length, take, drop, Bool, true, false, nat_lt, Option, Some, refl, sym, ap, subst, ◌∙◌, arith, common_steps, take-append-drop, length-append, length-take-le, cases_eq, cases_lt, eq-eqb, ne_eqb, le-ltb, lt-ltb, none-some, same_Some, both_ways, le32, not, first_fault, drop-drop, length-drop, take-append_seam, drop-append_seam, le64, entries_fault, entry_fault, entry_len, is_name, name_at, name_in, name_len, toolstack_fault, Physmap, IsName, IsPhysmapHead, name_bytes, faultless_first, faulty_first, nothing_left, in32, first32, name_passes, name_spelled, fault_of, behind_all, len_is, PhysmapsTo, EntryWrong, FieldWrong, fine_entry, cases_Bool, false_from_ne_true}
 use Rattle.mig_refusals.specs.LegacyToolstack.PhysmapsTo.{at_first, one_more}
 use Rattle.mig_refusals.specs.LegacyToolstack.EntryWrong.{short_phys, short_start, short_size, short_length, short_name, no_name, short_padding}
 use Rattle.mig_refusals.specs.LegacyToolstack.FieldWrong.{short_version, other_version, short_count, in_entry, more_bytes}

@@ -1,12 +1,10 @@
 -- A legacy stream is refused in words exactly where judging refuses it.
-use Rattle.mig_refusals.proofs.Common.{◌≡◌, inl, inr, ℕ, ◌<◌, List, [], ◌∷◌, ◌++◌, length, true, None, refl, ap, subst, ◌∙◌, arith, placed, Passes, Faulty, bind_cases, only_first, passes_not, placed_faulty, placed_passes, then_faulty, then_passes, LegacyCause, LegacyPlace, LegacyChunk, Spells, AreJudged, HasOneRefusal, AreAllAcceptedOrRefused, IsNeverBoth, accepted_spelled, refused_stops, spelled_accepted, spelled_refused, device_at, is_legacy_ended, FollowsLegacy, IsStart, chunks_at, legacy_at, placed_chunk, IsLegacyRefused, behind_chunks, behind_start, behind_tail, stream_of, some_device, start_passes, start_goes, tail_passes, tail_goes, legacy_finds, legacy_goes, legacy_not_ended, AcceptedLegacy}
+use Rattle.mig_refusals.proofs.Common.{◌≡◌, inl, inr, ℕ, ◌<◌, List, [], ◌∷◌, ◌++◌, length, true, None, refl, ap, subst, ◌∙◌, arith, placed, Passes, Faulty, bind_cases, only_first, passes_not, placed_faulty, placed_passes, then_faulty, then_passes, LegacyCause, LegacyPlace, LegacyChunk, Spells, AreJudged, HasOneRefusal, AreAllAcceptedOrRefused, IsNeverBoth, accepted_spelled, refused_stops, spelled_accepted, spelled_refused, device_at, is_legacy_ended, FollowsLegacy, IsStart, chunks_at, legacy_at, placed_chunk, IsLegacyRefused, behind_chunks, behind_start, behind_tail, stream_of, some_device, start_passes, start_goes, tail_passes, tail_goes, legacy_finds, legacy_goes, legacy_not_ended, AcceptedLegacy, start_form, chunk_form, tail_form, device_form, RefusedLegacy}
 use Rattle.mig_bytes_form.proofs.Verdicts.{is_refused as judged_refused, refused_is as refused_judged}
 use Rattle.mig_bytes_form.specs.Form.{FormOf, judged_as, RefusedAs}
 use Rattle.mig_headers.specs.declared.legacy_fault.LegacyPlace.TheVariants as places
 use Rattle.mig_legacy.proofs.Laws.{accepted_or_refused as judged, never_both as never_judged}
 use Rattle.mig_refusals.proofs.Laws.{accepted_or_refused, never_both, one_refusal}
-use Rattle.mig_legacy.specs.LegacyForm.{start_form, chunk_form, tail_form, device_form}
-use Rattle.mig_refusals.specs.Legacy.{RefusedLegacy}
 use Rattle.mig_refusals.specs.Legacy.RefusedLegacyAt.{in_start, in_chunk, in_tail, in_device}
 
 -- ---- what is refused is refused in words

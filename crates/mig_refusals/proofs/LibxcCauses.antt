@@ -1,5 +1,5 @@
 -- The causes that stand in each part of an image.
-use Rattle.mig_refusals.proofs.Common.{VcpuHas, numbers_are_inverse, ◌≡◌, ◌⊎◌, inl, inr, ℕ, zero, suc, drop, ltb-false, ◌+◌, ◌*◌, ◌<◌, ◌≤◌, List, [], ◌∷◌, length, Bool, true, false, nat_lt, nat_eq, not, is_none, Option, Some, None, Result, Ok, Err, slice_index, refl, sym, ap, subst, ◌∙◌, arith, leb-true, ltb-true, eqb-true, eq-eqb, le-leb, lt-ltb, le-ltb, cases_order, both_ways, not-true, and_parts, and_from, common_steps, option_or, le32, here, first_fault, Cause, BadLength, PfnOutside, ParamIndex, Missing, Kind, Pv, Hvm, count_rows, fault_of_count, fault_of_words, fault_of_data, EntriesTo, EntryHas, MarkerHas, HeaderHas, DomainHas, GuestHas, FrontHas, WordsHas, LengthHas, PageHas, ContextHas, ParamsHas, IsTriedBefore, fault_of_page, list_any, drop-drop, none-some, same_Some, little_number, le64, walk_end, walk_end_reached, Scanned, scan, scan_at, fault_at, after_entry, scan_is, marker_rows, image_rows, domain_rows, fault_of_marker, fault_of_image, fault_of_domain, number_of_cause, ContextFault, word_type, word_pfn, most_frames, level_of, GuestOf, context_key, data_len_of, has_reserved_type, names_outside, is_outside, first_place, first_word, place_is_first, none_pass, HvmContext, HvmParam, Layout, layout, fault_of_entries, fault_of_body, fault_of_scan, fault_of_guest, fault_of_page_table, hvm_fault, type_in_word, fault_of_level, type_in_guest, TableHas, PvGuestHas, join, BadPageType, BadContext, TooManyFrames, ◌/◌, false≢true, type_allows, type_number, type_of_number, PartCode, VcpuBasic, VcpuExtended, VcpuXsave, VcpuMsrs, code_number, is_vcpu, vcpu_rows, Shape, Table, Single, Other, entry_width, front_width, fault_of_key, entry_count, shape_of, has_shape, fault_by_shape, length_passes, neither_some, shaped_code, BodyHas, LibxcCausesStand}
+use Rattle.mig_refusals.proofs.Common.{VcpuHas, numbers_are_inverse, ◌≡◌, ◌⊎◌, inl, inr, ℕ, zero, suc, drop, ltb-false, ◌+◌, ◌*◌, ◌<◌, ◌≤◌, List, [], ◌∷◌, length, Bool, true, false, nat_lt, nat_eq, not, is_none, Option, Some, None, Result, Ok, Err, slice_index, refl, sym, ap, subst, ◌∙◌, arith, leb-true, ltb-true, eqb-true, eq-eqb, le-leb, lt-ltb, le-ltb, cases_order, both_ways, not-true, and_parts, and_from, common_steps, option_or, le32, here, first_fault, Cause, BadLength, PfnOutside, ParamIndex, Missing, Kind, Pv, Hvm, count_rows, fault_of_count, fault_of_words, fault_of_data, EntriesTo, EntryHas, MarkerHas, HeaderHas, DomainHas, GuestHas, FrontHas, WordsHas, LengthHas, PageHas, ContextHas, ParamsHas, IsTriedBefore, fault_of_page, list_any, drop-drop, none-some, same_Some, little_number, le64, walk_end, walk_end_reached, Scanned, scan, scan_at, fault_at, after_entry, scan_is, marker_rows, image_rows, domain_rows, fault_of_marker, fault_of_image, fault_of_domain, number_of_cause, ContextFault, word_type, word_pfn, most_frames, level_of, GuestOf, context_key, data_len_of, has_reserved_type, names_outside, is_outside, first_place, first_word, place_is_first, none_pass, HvmContext, HvmParam, Layout, layout, fault_of_entries, fault_of_body, fault_of_scan, fault_of_guest, fault_of_page_table, hvm_fault, type_in_word, fault_of_level, type_in_guest, TableHas, PvGuestHas, join, BadPageType, BadContext, TooManyFrames, ◌/◌, false≢true, type_allows, type_number, type_of_number, PartCode, VcpuBasic, VcpuExtended, VcpuXsave, VcpuMsrs, code_number, is_vcpu, vcpu_rows, Shape, Table, Single, Other, entry_width, front_width, fault_of_key, entry_count, shape_of, has_shape, fault_by_shape, length_passes, neither_some, shaped_code, BodyHas, LibxcCausesStand, number_found, is_missing}
 use Rattle.std.specs.FinMap as maps
 use Rattle.mig_refusals.specs.Libxc.PageHas.{in_table}
 use Rattle.mig_refusals.specs.Libxc.{FrontHas as fronts, LengthHas as lengths, ParamsHas as of_params}
@@ -9,12 +9,10 @@ use Rattle.mig_refusals.specs.Libxc.DomainHas.{bad_page_shift, bad_kind}
 use Rattle.mig_refusals.specs.Libxc.GuestHas.{too_many_frames, missing, of_pv}
 use Rattle.mig_refusals.specs.Libxc.WordsHas.{outside, reserved}
 use Rattle.mig_refusals.specs.Libxc.ContextHas.{bad_context}
-use Rattle.mig_guest.proofs.PartRows.{number_found}
 use Rattle.mig_refusals.proofs.Least.{Least, answers_first, RowHas, Alone, alone_least, turned, both_least, named}
 use Rattle.mig_refusals.proofs.ContextEntries.{chain_reached, reached_chain, found_has, has_found}
 use Rattle.mig_refusals.proofs.LibxcHeads.{head_least}
 use Rattle.mig_refusals.proofs.PvTables.{table_least, info_least, p2m_least, vcpu_least}
-use Rattle.mig_host_laws.proofs.Rows.{is_missing}
 use Rattle.mig_refusals.proofs.Tests.{differs, test_differs}
 use Rattle.mig_refusals.proofs.PvWhole.{pv_guest_least}
 

@@ -1,18 +1,8 @@
 -- The form of each piece of an image is judged as this piece is.
-use Rattle.mig_refusals.proofs.Common.{as_content, behind_list, entries_in_place, front_list, good_list, list_stage, option_or, lists_of, parts_of_body, ◌≡◌, ℕ, ◌*◌, List, [], ◌∷◌, ◌++◌, Bool, true, false, cond, Option, Some, None, refl, sym, ap, ◌∙◌, le32, be32, Judged, ◌>>=◌, part, plain_at, said_at, tried, Passes, Faulty, Cause, Truncated, Kind, Opening, Before, before, StreamRecord, RecordType, PartCode, words, fault_of_marker, fault_of_image, fault_of_domain, fault_of_head, fault_of_count, fault_of_words, fault_of_data, fault_of_page, fault_of_pv_info, fault_of_p2m, fault_of_body, kind_of_number, padding_len, sent, FrameEntry, word_pfn, type_in_word}
+use Rattle.mig_refusals.proofs.Common.{as_content, behind_list, entries_in_place, front_list, good_list, list_stage, option_or, lists_of, parts_of_body, ◌≡◌, ℕ, ◌*◌, List, [], ◌∷◌, ◌++◌, Bool, true, false, cond, Option, Some, None, refl, sym, ap, ◌∙◌, le32, be32, Judged, ◌>>=◌, part, plain_at, said_at, tried, Passes, Faulty, Cause, Truncated, Kind, Opening, Before, before, StreamRecord, RecordType, PartCode, words, fault_of_marker, fault_of_image, fault_of_domain, fault_of_head, fault_of_count, fault_of_words, fault_of_data, fault_of_page, fault_of_pv_info, fault_of_p2m, fault_of_body, kind_of_number, padding_len, sent, FrameEntry, word_pfn, type_in_word, Gives, computed, asked_is, each_is, then_is, computed_is, is_optional, type_of_number, PageData, X86PvInfo, X86PvP2mFrames, word_has_data, Content, is_verified, placed_content, kind_at, marker_at, version_at, marker_form, version_form, kind_form, image_page_form, image_entry_form, pages_form, coded_form, typed_form, image_body_form, image_record_form, next_form}
 use Rattle.mig_bytes_form.specs.Form.{FormOf, ◌>>>◌, asked_form, bytes_form, each_form, said_form, judged_as}
-use Rattle.mig_bytes_form.specs.Form.FormOf.{Gives}
-use Rattle.mig_bytes_form.specs.Tests.{computed}
-use Rattle.mig_bytes_form.proofs.Joined.{asked_is, each_is, then_is}
-use Rattle.mig_bytes_form.proofs.Tests.{computed_is}
-use Rattle.mig_headers.specs.RecordTypes.{is_optional, type_of_number}
-use Rattle.mig_headers.specs.declared.record_type.RecordType.TheVariants.{PageData, X86PvInfo, X86PvP2mFrames}
-use Rattle.mig_pagetypes.specs.FrameWords.{word_has_data}
 use Rattle.mig_restore_form.specs.Judging.{fault_at_end, record_at, next_at, body_at, code_of_type, coded_at, entry_at, head_at, page_at, pages_at, typed_at, with_places, words_at}
-use Rattle.mig_restore_form.specs.Record.{Content, is_verified, placed_content}
 use Rattle.mig_restore_form.specs.Record.Content.{Nothing, Frames, Sets}
-use Rattle.mig_restore_form.specs.Stream.{kind_at, marker_at, version_at}
-use Rattle.mig_refusals.specs.Libxc.{marker_form, version_form, kind_form, image_page_form, image_entry_form, pages_form, coded_form, typed_form, image_body_form, image_record_form, next_form}
 
 -- a part with a computed cause
 said_is : {X : Type 0} (fault : List ℕ → Option Cause) (says : List ℕ → X) (n : ℕ) (i : List ℕ) → judged_as (said_form Truncated n (λ bytes. computed (fault bytes)) says) i ≡ said_at Truncated fault says n i

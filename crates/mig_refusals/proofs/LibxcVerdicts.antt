@@ -1,10 +1,5 @@
 -- An input is refused as an image in the format's words exactly where judging refuses it.
-use Rattle.mig_refusals.proofs.Common.{◌≡◌, inl, inr, ℕ, List, ◌++◌, length, refl, sym, ap, ◌∙◌, append_assoc, be32, ◌>>=◌, placed, Passes, Faulty, then_passes, then_faulty, bind_cases, passes_not, only_first, placed_faulty, Cause, Opening, next_at, image_header_goes, headers_go, AreJudged, HasOneRefusal, AreAllAcceptedOrRefused, IsNeverBoth, refused_stops, spelled_refused, sequence_at, Place, ImageHeader, DomainHeader, Record, StreamRecord, is_ended, Follows, image_of, placed_next, records_at, opening_at, image_at, IsRefused, going, image_header, behind_marker, behind_version, goes, finds, behind_kind, stream_opened, Accepted, placed_passes, Truncated, fault_of_marker, fault_of_image, subst, said_passes}
-use Rattle.mig_bytes.proofs.Said.{bytes_pass}
-use Rattle.mig_bytes_form.proofs.Verdicts.{begins_passes, passes_is_spelled, refused_where}
-use Rattle.mig_restore_form.specs.Judging.{opening_of}
-use Rattle.mig_restore_form.specs.Stream.{kind_at, marker_at, version_at}
-use Rattle.mig_refusals.specs.Libxc.{marker_form, version_form, kind_form, next_form, IsOpen, RefusedLibxc}
+use Rattle.mig_refusals.proofs.Common.{◌≡◌, inl, inr, ℕ, List, ◌++◌, length, refl, sym, ap, ◌∙◌, append_assoc, be32, ◌>>=◌, placed, Passes, Faulty, then_passes, then_faulty, bind_cases, passes_not, only_first, placed_faulty, Cause, Opening, next_at, image_header_goes, headers_go, AreJudged, HasOneRefusal, AreAllAcceptedOrRefused, IsNeverBoth, refused_stops, spelled_refused, sequence_at, Place, ImageHeader, DomainHeader, Record, StreamRecord, is_ended, Follows, image_of, placed_next, records_at, opening_at, image_at, IsRefused, going, image_header, behind_marker, behind_version, goes, finds, behind_kind, stream_opened, Accepted, placed_passes, Truncated, fault_of_marker, fault_of_image, subst, said_passes, bytes_pass, begins_passes, passes_is_spelled, refused_where, opening_of, kind_at, marker_at, version_at, marker_form, version_form, kind_form, next_form, IsOpen, RefusedLibxc}
 use Rattle.mig_refusals.specs.Libxc.RefusedLibxcAt.{in_marker, in_header, in_domain, in_record}
 use Rattle.mig_refusals.proofs.LibxcJudged.{marker_judged, version_judged, kind_judged, next_judged}
 use Rattle.mig_restore_form.proofs.Converse.{accepted_or_refused as judged, never_both as never_judged}

@@ -1,13 +1,11 @@
 -- The causes that stand in a whole PV guest.
-use Rattle.mig_refusals.proofs.Common.{◌≡◌, ◌⊎◌, inl, inr, ℕ, ◌+◌, ◌*◌, ◌<◌, List, length, Bool, true, false, cond, not, nat_lt, is_none, is_some, Option, Some, None, refl, sym, ap, subst, ◌∙◌, arith, ltb-true, lt-ltb, false≢true, eqb-true, eq-eqb, and_parts, and_from, or_cases, or_left, or_right, Cause, ◌==◌, ◌&&◌, ◌||◌, IsSome, find, nat_cmp_total, ranked, nat_cmp-IsAntisymmetric, list_any, range_with_len, option_map, Less, number_of_cause, Missing, P2mFrame, TargetAbsent, VcpuFrame, most_frames, level_of, Notab, FrameOf, FrameMap, GuestOf, p2m_key, PartMap, entry, PartKey, part_exact, part_total, field_numbers, is_notab, is_needed, is_this, is_misplaced, find_p2m, find_slot, find_entry, is_absent, misfits, find_field, count_in, listed, counted, PvGuestHas, rank_of, TooManyFrames, type_at}
+use Rattle.mig_refusals.proofs.Common.{◌≡◌, ◌⊎◌, inl, inr, ℕ, ◌+◌, ◌*◌, ◌<◌, List, length, Bool, true, false, cond, not, nat_lt, is_none, is_some, Option, Some, None, refl, sym, ap, subst, ◌∙◌, arith, ltb-true, lt-ltb, false≢true, eqb-true, eq-eqb, and_parts, and_from, or_cases, or_left, or_right, Cause, ◌==◌, ◌&&◌, ◌||◌, IsSome, find, nat_cmp_total, ranked, nat_cmp-IsAntisymmetric, list_any, range_with_len, option_map, Less, number_of_cause, Missing, P2mFrame, TargetAbsent, VcpuFrame, most_frames, level_of, Notab, FrameOf, FrameMap, GuestOf, p2m_key, PartMap, entry, PartKey, part_exact, part_total, field_numbers, is_notab, is_needed, is_this, is_misplaced, find_p2m, find_slot, find_entry, is_absent, misfits, find_field, count_in, listed, counted, PvGuestHas, rank_of, TooManyFrames, type_at, other_type, listed_twice, has_needed, is_missing, is_other, needed, notab_is, passes_some, same_pfn, some_passes}
 use Rattle.mig_guest.proofs.KeyedMaps.{is_some-mapped}
 use Rattle.mig_host_laws.specs.Standing.{in_stream}
 use Rattle.std.specs.FinMap as maps
-use Rattle.mig_refusals.specs.LibxcPv.PvGuestHas.{other_type, listed_twice}
 use Rattle.mig_refusals.proofs.Least.{Least, Alone, alone_least, turned}
 use Rattle.mig_host_laws.proofs.KeyRanks.{rank_lt}
 use Rattle.mig_host_laws.proofs.NamedFirst.{told_first, told_twice}
-use Rattle.mig_host_laws.proofs.Rows.{has_needed, is_missing, is_other, needed, notab_is, passes_some, same_pfn, some_passes}
 use Rattle.mig_refusals.proofs.Firsts.{Sought, sought_least, slot_least, field_least, InEntries, Rises, entries_least}
 
 -- ---- causes that stand at one place

@@ -1,10 +1,8 @@
 -- The judging of a whole PV guest names the least of the causes that stand in it.
-use Rattle.mig_refusals.proofs.Common.{◌≡◌, ◌⊎◌, inl, inr, ℕ, ◌+◌, ◌*◌, ◌<◌, length, true, not, Option, Some, None, refl, sym, ap, subst, ◌∙◌, arith, not-true, and_parts, and_from, option_or, Cause, IsTriedBefore, is_none, nat_cmp_total, nat_cmp-IsAntisymmetric, number_of_cause, Missing, Pv, most_frames, gdt_ents, FrameMap, GuestOf, p2m_key, vcpu_key, shared_key, entry, Entry, Frame, part_exact, part_total, first_cause, is_absent, faults_for, fault_of_guest, field_value, frame_of_field, is_used, fits_field, type_at, PvGuestHas, rank_of, TooManyFrames}
+use Rattle.mig_refusals.proofs.Common.{◌≡◌, ◌⊎◌, inl, inr, ℕ, ◌+◌, ◌*◌, ◌<◌, length, true, not, Option, Some, None, refl, sym, ap, subst, ◌∙◌, arith, not-true, and_parts, and_from, option_or, Cause, IsTriedBefore, is_none, nat_cmp_total, nat_cmp-IsAntisymmetric, number_of_cause, Missing, Pv, most_frames, gdt_ents, FrameMap, GuestOf, p2m_key, vcpu_key, shared_key, entry, Entry, Frame, part_exact, part_total, first_cause, is_absent, faults_for, fault_of_guest, field_value, frame_of_field, is_used, fits_field, type_at, PvGuestHas, rank_of, TooManyFrames, no_p2m, no_shared, no_vcpu, other_type, listed_twice, absent, field_misfits, many_frames, is_missing}
 use Rattle.std.specs.FinMap as maps
-use Rattle.mig_refusals.specs.LibxcPv.PvGuestHas.{no_p2m, no_shared, no_vcpu, other_type, listed_twice, absent, field_misfits, many_frames}
 use Rattle.mig_refusals.proofs.Least.{Least, Alone, both_least, turned}
 use Rattle.mig_refusals.proofs.Firsts.{InEntries}
-use Rattle.mig_host_laws.proofs.Rows.{is_missing}
 use Rattle.mig_refusals.proofs.UsedFields.{used_is, used_at, misfit_is, is_misfit}
 use Rattle.mig_refusals.proofs.PvGuests.{missing_least, many_least, AbsentAt, entries_are, MisfitAt, fields_are, P2mAt, p2m_are, misplaced_has, type_placed, twice_placed}
 

@@ -1,20 +1,10 @@
 -- The tables of causes of a libxl stream around its image: they are what is judged, and in order; and how long a store becomes.
-use Rattle.mig_refusals.proofs.Common.{◌<◌, ◌⊎◌, inl, inr, Bool, false, cond, nat_eq, nat_le, ◌||◌, eqb-false, leb-false, lt-leb, ne_eqb, false≢true, Kind, Pv, Hvm, ◌≡◌, ℕ, List, [], ◌∷◌, ◌++◌, drop, true, Option, Some, None, refl, sym, ap, ◌∙◌, Cause, LibxlRecord, join, fault_of_libxl_head, fault_of_libxl_fields, fault_of_order, fault_of_pairs, fault_of_context, emulators_of, spelled_with, emulator_key, pairs_in, pairs_fault, le32, most_pairs, BadEmulator, TooManyPairs, EmulatorIndex, BadPairs, BadKey, IsFirstFault, first_fault_is_computed, option_or, number_of_cause}
-use Rattle.mig_libxl_form.specs.Judging.{allows_length, is_pv, is_pv_kind}
-use Rattle.mig_restore_form.specs.Stream.{ImageOf}
+use Rattle.mig_refusals.proofs.Common.{◌<◌, ◌⊎◌, inl, inr, Bool, false, cond, nat_eq, nat_le, ◌||◌, eqb-false, leb-false, lt-leb, ne_eqb, false≢true, Kind, Pv, Hvm, ◌≡◌, ℕ, List, [], ◌∷◌, ◌++◌, drop, true, Option, Some, None, refl, sym, ap, ◌∙◌, Cause, LibxlRecord, join, fault_of_libxl_head, fault_of_libxl_fields, fault_of_order, fault_of_pairs, fault_of_context, emulators_of, spelled_with, emulator_key, pairs_in, pairs_fault, le32, most_pairs, BadEmulator, TooManyPairs, EmulatorIndex, BadPairs, BadKey, IsFirstFault, first_fault_is_computed, option_or, number_of_cause, allows_length, is_pv, is_pv_kind, ImageOf, length, flat_map, Test, computed, first_named, is_ascending, append_named, computed_is, field_rows, order_rows, PairMap, put_pairs, text_of_map, store_at, head_causes, pairs_causes, context_causes, AreMerged, pairs_with, StoresAreMerged, WrapperCausesAscend, WrapperTestsSay}
 use Rattle.mig_refusals.proofs.Tests.{is_one, one_of}
-use Rattle.std.proofs.Common.{length}
-use Rattle.std.specs.List.{flat_map}
-use Rattle.mig_bytes_form.specs.Tests.{Test, computed, first_named, is_ascending}
 use Rattle.mig_bytes_form.specs.Tests.Test.{Less, AtMost}
-use Rattle.mig_bytes_form.proofs.Tests.{append_named, computed_is}
 use Rattle.mig_headers.specs.Pairs.{Pair, text_of_pair}
-use Rattle.mig_libxl_form.specs.Judging.{field_rows, order_rows}
-use Rattle.mig_policy.specs.PairMaps.{PairMap, put_pairs, text_of_map}
 use Rattle.mig_policy.proofs.LastValues.{map_pairs, map_pairs_rise, map_pairs_values, one_text}
-use Rattle.mig_libxl_form.specs.Emulators.{store_at}
 use Rattle.mig_libxl_form.proofs.EmulatorMeaning.{last_value_with}
-use Rattle.mig_refusals.specs.Stream.{head_causes, pairs_causes, context_causes, AreMerged, pairs_with, StoresAreMerged, WrapperCausesAscend, WrapperTestsSay}
 
 -- ---- what is judged
 

@@ -1,15 +1,7 @@
 -- A record of a libxl stream is refused where its form is, or where the image behind its head is.
-use Rattle.mig_refusals.proofs.Common.{pairs_in, then_faulty, bind_cases, passes_not, only_first, placed_faulty, ◌≡◌, ◌⊎◌, inl, inr, ℕ, List, [], ◌++◌, Bool, true, false, cond, nat_eq, length, refl, sym, ap, subst, ◌∙◌, eqb-true, eq-eqb, false≢true, le32, drop, part, placed, tried, Judged, ◌>>=◌, Passes, Faulty, then_passes, placed_passes, Cause, padding_len, Place, image_at, LibxlRecord, LibxlContent, libxl_record_at, libxl_head_at, libxl_content_at, inner_at, body_of_type, emulators_of, libxl_behind_head, behind_content, allows_length, AtRecord, Image, LibxlNothing, Truncated, skipped_at}
-use Rattle.std.proofs.lemmas.Bool.{cases_Bool}
+use Rattle.mig_refusals.proofs.Common.{pairs_in, then_faulty, bind_cases, passes_not, only_first, placed_faulty, ◌≡◌, ◌⊎◌, inl, inr, ℕ, List, [], ◌++◌, Bool, true, false, cond, nat_eq, length, refl, sym, ap, subst, ◌∙◌, eqb-true, eq-eqb, false≢true, le32, drop, part, placed, tried, Judged, ◌>>=◌, Passes, Faulty, then_passes, placed_passes, Cause, padding_len, Place, image_at, LibxlRecord, LibxlContent, libxl_record_at, libxl_head_at, libxl_content_at, inner_at, body_of_type, emulators_of, libxl_behind_head, behind_content, allows_length, AtRecord, Image, LibxlNothing, Truncated, skipped_at, cases_Bool, Gives, bytes_spelled, first_refused, gives_begins, refused_then, then_is, then_refused, NoneHolds, no_bytes, Pairs, Context, emulator_key, pairs_at, context_at, head_causes, record_head_form, record_body_form, behind_record_head, record_form}
 use Rattle.mig_bytes_form.specs.Form.{FormOf, ◌>>>◌, bytes_form, judged_as, BeginsAs, SpelledAs, RefusedAs}
-use Rattle.mig_bytes_form.specs.Form.FormOf.{Gives}
-use Rattle.mig_bytes_form.proofs.Joined.{bytes_spelled, first_refused, gives_begins, refused_then, then_is, then_refused}
-use Rattle.mig_bytes_form.specs.Tests.{NoneHolds}
-use Rattle.mig_bytes.proofs.Joins.{no_bytes}
-use Rattle.mig_libxl_form.specs.Content.LibxlContent.{Pairs, Context}
-use Rattle.mig_libxl_form.specs.Judging.{emulator_key, pairs_at, context_at}
 use Rattle.mig_bytes_form.proofs.Verdicts.{begins_passes, is_refused, never_both, passes_is_spelled, refused_is, spelled_passes}
-use Rattle.mig_refusals.specs.Stream.{head_causes, record_head_form, record_body_form, behind_record_head, record_form}
 use Rattle.mig_refusals.proofs.StreamCauses.{context_named, head_named, pairs_named}
 
 module _ (records : List LibxlRecord) where

@@ -1,12 +1,10 @@
 -- An input of either form is refused as the format's words say exactly where judging refuses it.
-use Rattle.mig_refusals.proofs.Common.{then_faulty, only_first, ◌≡◌, inl, inr, ℕ, List, ◌++◌, length, drop, Bool, true, false, cond, nat_eq, nat_le, None, refl, sym, ap, ◌∙◌, append_assoc, be32, false≢true, placed, Passes, Faulty, Cause, ◌&&◌, be64, fault_of_libxl, is_from_legacy, libxl_ident, Place, LibxlHeader, refused_stops, AreJudged, HasOneRefusal, AreAllAcceptedOrRefused, IsNeverBoth, image_at, LibxlRecord, is_libxl_ended, FollowsLibxl, found, libxl_record_at, header_at, libxl_records_at, wrapped_at, bare_at, stream_at, IsStreamRefused, Bare, Wrapped, behind_header, Ident, ident_of, libxl_goes, is_header, AtRecord, AcceptedStream, le-leb, leb-true, eq-eqb, eqb-true, and_parts, spelled_refused, header_goes, record_goes, libxl_not_ended, placed_passes, placed_faulty, bind_cases, Truncated, subst}
+use Rattle.mig_refusals.proofs.Common.{then_faulty, only_first, ◌≡◌, inl, inr, ℕ, List, ◌++◌, length, drop, Bool, true, false, cond, nat_eq, nat_le, None, refl, sym, ap, ◌∙◌, append_assoc, be32, false≢true, placed, Passes, Faulty, Cause, ◌&&◌, be64, fault_of_libxl, is_from_legacy, libxl_ident, Place, LibxlHeader, refused_stops, AreJudged, HasOneRefusal, AreAllAcceptedOrRefused, IsNeverBoth, image_at, LibxlRecord, is_libxl_ended, FollowsLibxl, found, libxl_record_at, header_at, libxl_records_at, wrapped_at, bare_at, stream_at, IsStreamRefused, Bare, Wrapped, behind_header, Ident, ident_of, libxl_goes, is_header, AtRecord, AcceptedStream, le-leb, leb-true, eq-eqb, eqb-true, and_parts, spelled_refused, header_goes, record_goes, libxl_not_ended, placed_passes, placed_faulty, bind_cases, Truncated, subst, bytes_pass, header_form, BeginsAsLibxl, IsOpenWrapper, RefusedStream}
 use Rattle.mig_libxl_form.proofs.Laws.{accepted_or_refused as judged, never_both as never_judged}
 use Rattle.mig_refusals.proofs.Laws.{accepted_or_refused, never_both, one_refusal}
 use Rattle.mig_refusals.proofs.LibxcVerdicts.{refused_is as image_refused_is, is_refused as image_is_refused}
-use Rattle.mig_bytes.proofs.Said.{bytes_pass}
 use Rattle.mig_bytes_form.specs.Form.{judged_as, RefusedAs}
 use Rattle.mig_bytes_form.proofs.Verdicts.{is_refused as form_is_refused, refused_is as form_refused_is}
-use Rattle.mig_refusals.specs.Stream.{header_form, BeginsAsLibxl, IsOpenWrapper, RefusedStream}
 use Rattle.mig_refusals.specs.Stream.RefusedStreamAt.{bare, in_header, in_record, in_image}
 use Rattle.mig_refusals.proofs.StreamRecords.{down, image_down, up}
 

@@ -1,7 +1,5 @@
 -- The fields of vCPU contexts that are used, the frames that they say and the types that they take are those that judging takes.
-use Rattle.mig_refusals.proofs.Common.{◌≡◌, ℕ, ◌+◌, ◌-◌, ◌*◌, ◌/◌, ◌<◌, ◌≤◌, List, Bool, true, false, cond, nat_le, nat_lt, refl, sym, ap, subst, arith, eqb-true, eqb-false, eq-eqb, ne_eqb, leb-true, leb-false, le-leb, ltb-true, lt-ltb, ◌==◌, Option, Some, both_ways, le64, PageType, Notab, L4Tab, L4Pinned, lt-leb, is_notab, is_root, fits_field, TakesType, gdt_ents, field_value, frame_of_field, is_marked, is_used, IsUsedField}
-use Rattle.std.proofs.Common.{inl, inr, ◌∙◌}
-use Rattle.std.proofs.lemmas.Bool.{cases_Bool, false_from_ne_true}
+use Rattle.mig_refusals.proofs.Common.{◌≡◌, ℕ, ◌+◌, ◌-◌, ◌*◌, ◌/◌, ◌<◌, ◌≤◌, List, Bool, true, false, cond, nat_le, nat_lt, refl, sym, ap, subst, arith, eqb-true, eqb-false, eq-eqb, ne_eqb, leb-true, leb-false, le-leb, ltb-true, lt-ltb, ◌==◌, Option, Some, both_ways, le64, PageType, Notab, L4Tab, L4Pinned, lt-leb, is_notab, is_root, fits_field, TakesType, gdt_ents, field_value, frame_of_field, is_marked, is_used, IsUsedField, inl, inr, ◌∙◌, cases_Bool, false_from_ne_true}
 use Rattle.mig_refusals.specs.LibxcPv.IsUsedField.{start_info, descriptors, tables, user_tables}
 use Rattle.mig_refusals.specs.LibxcPv.TakesType.{plain, root, pinned_root}
 

@@ -2,28 +2,13 @@
 -- the faultless front before it.
 use Rattle.std.specs.Prelude.{ℕ, ◌<◌, true, List, ◌≡◌, ◌↔◌, Some, length, ◌⊎◌, ◌≤◌, false, IsSome, slice_index}
 use Rattle.std.specs.FinMap as maps
-use Rattle.mig_bytes.specs.Fields.{le64}
+use Rattle.mig_refusals.specs.Common.{le64, is_ascending, number_of_image_cause, AreCanonicalPairs, are_canonical_pairs, Kind, Hvm, is_type_of, HostOf, HostFrame, IsAbove, PartCode, PartKey, PartMap, GuestImageVersion, is_all_zero, head_version, head_type_number, head_type, opened, has_frame_from, has_part_from, code_fits, code_allows, host_head_causes, frame_causes, page_causes, part_causes, content_causes, padding_causes, host_head_form, host_frame_form, count_form, host_part_form, frames_form, host_parts_form, guest_image_form}
 use Rattle.mig_bytes_form.specs.Form.{FormOf, ◌>>>◌, placed_form, paired, BeginsAs, RefusedAs}
-use Rattle.mig_bytes_form.specs.Tests.{is_ascending}
-use Rattle.mig_headers.specs.CauseNumbers.{number_of_image_cause}
-use Rattle.mig_headers.specs.Pairs.{AreCanonicalPairs, are_canonical_pairs}
-use Rattle.mig_headers.specs.declared.kind.Kind.{Kind}
-use Rattle.mig_headers.specs.declared.kind.Kind.TheVariants.{Hvm}
 use Rattle.mig_headers.specs.declared.image_fault.ImageCause.{ImageCause}
 use Rattle.mig_headers.specs.declared.image_fault.ImagePlace.{ImagePlace}
 use Rattle.mig_headers.specs.declared.image_fault.ImagePlace.TheVariants as places
-use Rattle.mig_guest.specs.Frames.{is_type_of}
-use Rattle.mig_guest.specs.Hosts.{HostOf, HostFrame}
-use Rattle.mig_guest.specs.Order.{IsAbove}
 use Rattle.mig_guest.specs.PartCodes.{code_number, code_of_number, row_of}
-use Rattle.mig_guest.specs.declared.part_code.PartCode.{PartCode}
-use Rattle.mig_guest.specs.declared.part_key.PartKey.{PartKey}
-use Rattle.mig_guest.specs.Parts.{PartMap}
 use Rattle.mig_host.specs.HostView.{has_machine}
-use Rattle.mig_image.specs.declared.version.GuestImageVersion.{GuestImageVersion}
-use Rattle.mig_image.specs.GuestImage.{is_all_zero}
-use Rattle.mig_image.specs.GuestImageParts.{head_version, head_type_number, head_type, opened, has_frame_from, has_part_from, code_fits, code_allows}
-use Rattle.mig_image.specs.GuestImageForm.{host_head_causes, frame_causes, page_causes, part_causes, content_causes, padding_causes, host_head_form, host_frame_form, count_form, host_part_form, frames_form, host_parts_form, guest_image_form}
 
 -- ---- what truth values in conditions say
 

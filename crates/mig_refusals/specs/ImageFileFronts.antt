@@ -1,14 +1,7 @@
 -- Fronts as a guest image spells them.
 use Rattle.std.specs.Prelude.{◌≡◌, ℕ, List, ◌++◌, length}
 use Rattle.std.specs.FinMap as maps
-use Rattle.std.specs.List.{flat_map}
-use Rattle.mig_bytes.specs.Fields.{le64}
-use Rattle.mig_bytes_form.specs.Form.{SpelledAs}
-use Rattle.mig_guest.specs.Hosts.{HostOf, IsValid}
-use Rattle.mig_image.specs.declared.version.GuestImageVersion.{GuestImageVersion}
-use Rattle.mig_image.specs.GuestImage.{frame_text, host_head, part_text}
-use Rattle.mig_image.specs.GuestImageParts.{head_version}
-use Rattle.mig_image.specs.GuestImageForm.{host_head_form}
+use Rattle.mig_refusals.specs.Common.{flat_map, le64, SpelledAs, HostOf, IsValid, GuestImageVersion, frame_text, host_head, part_text, head_version, host_head_form}
 
 -- a faultless head, which may tell more frames, and all n frames of a valid host without parts, in its version
 pub record EndsInFrames (widest : ℕ) (front head : List ℕ) (n : ℕ) (h : HostOf) : Type 0 where

@@ -1,6 +1,6 @@
 -- Where the first field stands that is wrong in the data of a toolstack (Xen's libxl, up to Xen 4.5).
 use Rattle.std.specs.Prelude.{◌≡◌, ◌<◌, ◌≤◌, ℕ, ◌+◌, List, ◌++◌, length, Option}
-use Rattle.mig_bytes.specs.Fields.{le32}
+use Rattle.mig_refusals.specs.Common.{le32}
 use Rattle.mig_legacy.specs.Toolstack.{Physmap, IsName, IsPhysmapHead, name_bytes}
 
 -- the field at this offset of an entry is the first that is wrong: it isn't whole, or it is no name with a zero behind it

@@ -2,42 +2,21 @@
 -- which causes stand in each of its parts; and its refusals, behind a faultless front.
 use Rattle.std.specs.Prelude.{◌≡◌, ◌↔◌, ◌⊎◌, ℕ, ◌+◌, ◌*◌, ◌^◌, ◌%◌, ◌<◌, ◌≤◌, List, [], ◌∷◌, ◌++◌, length, Option, Some, None, IsTrue, IsFalse, false, count_by, slice_index, if◌then◌else◌}
 use Rattle.std.specs.FinMap as maps
-use Rattle.mig_bytes.specs.Bytes.{padding_len}
-use Rattle.mig_bytes.specs.Sequences.{Spells}
+use Rattle.mig_refusals.specs.Common.{padding_len, Spells, Gives, computed, le16, le32, le64, be16, be32, be64, is_optional, record_row_of, type_number, type_of_number, most_body, number_of_cause, Cause, ContextFault, Place, Kind, Pv, Hvm, most_frames, level_of, GuestOf, context_key, PartCode, VcpuBasic, VcpuExtended, VcpuXsave, HvmContext, HvmParam, VcpuMsrs, fault_of_pv_info, fault_of_p2m, Opening, Before, before, code_of_type, fault_at_end, fault_of_data, fault_of_head, fault_of_page, lists_of, most_records, type_in_word, with_places, sent, type_in_guest, Follows}
 use Rattle.mig_bytes_form.specs.Form.{FormOf, ◌>>>◌, asked_form, bytes_form, each_form, said_form, BeginsAs, RefusedAs}
-use Rattle.mig_bytes_form.specs.Form.FormOf.{Gives}
-use Rattle.mig_bytes_form.specs.Tests.{computed}
-use Rattle.mig_bytes.specs.Fields.{le16, le32, le64, be16, be32, be64}
 use Rattle.mig_headers.specs.Headers.{marker as all_ones, image_id, page_shift, fault_of_domain, fault_of_image, fault_of_marker, kind_of_number, IsImageHeader, IsDomainHeader}
-use Rattle.mig_headers.specs.RecordTypes.{is_optional, record_row_of, type_number, type_of_number, most_body}
-use Rattle.mig_headers.specs.CauseNumbers.{number_of_cause}
-use Rattle.mig_headers.specs.declared.fault.Cause.{Cause}
 use Rattle.mig_headers.specs.declared.fault.Cause.TheVariants.{Truncated, NotStream, BadId, BadVersion, BigEndian, BadKind, BadPageShift, BodyTooLong, Unsupported, UnknownMandatory, WrongKind, OutOfOrder, BadLength, NoPages, BadPageType, PfnOutside, BadContext, ParamIndex, Missing, TooManyRecords, TooManyFrames}
-use Rattle.mig_headers.specs.declared.fault.ContextFault.{ContextFault}
 use Rattle.mig_headers.specs.declared.fault.ContextFault.TheVariants.{NoHeader, HeaderSize, ShortEntry, NoEnd}
-use Rattle.mig_headers.specs.declared.fault.Place.{Place}
 use Rattle.mig_headers.specs.declared.fault.Place.TheVariants as places
-use Rattle.mig_headers.specs.declared.kind.Kind.{Kind}
-use Rattle.mig_headers.specs.declared.kind.Kind.TheVariants.{Pv, Hvm}
 use Rattle.mig_headers.specs.declared.record_type.RecordType.{RecordType}
 use Rattle.mig_headers.specs.declared.record_type.RecordType.TheVariants.{PageData, Verify, X86PvInfo, X86PvP2mFrames, StaticDataEnd}
 use Rattle.mig_pagetypes.specs.FrameWords.{word_type, word_pfn, word_has_data}
-use Rattle.mig_pagetypes.specs.Limits.{most_frames}
-use Rattle.mig_pagetypes.specs.PageTypes.{level_of}
-use Rattle.mig_guest.specs.Guests.{GuestOf}
-use Rattle.mig_guest.specs.PartKeys.{context_key}
-use Rattle.mig_guest.specs.declared.part_code.PartCode.{PartCode}
-use Rattle.mig_guest.specs.declared.part_code.PartCode.TheVariants.{VcpuBasic, VcpuExtended, VcpuXsave, HvmContext, HvmParam, VcpuMsrs}
-use Rattle.mig_records.specs.PvBodies.{fault_of_pv_info, fault_of_p2m}
 use Rattle.mig_records.specs.Shapes.{fault_of_body, parts_of_body}
 use Rattle.mig_records.specs.Faults.{fault_of_count, fault_of_words}
 use Rattle.mig_records.specs.Words.{words}
 use Rattle.mig_order.specs.Order.{some_earlier, is_of, static_records, content_records, vcpu_records}
-use Rattle.mig_restore_form.specs.Judging.{Opening, Before, before, code_of_type, fault_at_end, fault_of_data, fault_of_head, fault_of_page, lists_of, most_records, type_in_word, with_places}
-use Rattle.mig_restore_form.specs.Mean.{sent, type_in_guest}
 use Rattle.mig_restore_form.specs.Record.{FrameEntry, StreamRecord, Content, is_ended, is_verified, placed_content}
 use Rattle.mig_restore_form.specs.Record.Content.{Nothing, Frames, Sets}
-use Rattle.mig_restore_form.specs.Spelled.{Follows}
 use Rattle.mig_refusals.specs.LibxcPv.{TableHas, InfoHas, P2mHas, VcpuHas, PvGuestHas}
 
 -- ---- where each cause stands, a line for each; causes that have places stand at several, all others at place 0

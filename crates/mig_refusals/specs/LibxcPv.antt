@@ -3,28 +3,13 @@
 use Rattle.std.specs.Prelude.{◌≡◌, ◌⊎◌, ℕ, ◌+◌, ◌*◌, ◌/◌, ◌%◌, ◌<◌, ◌≤◌, List, length, drop, filter, Option, Some, None, IsSome, slice_index}
 use Rattle.std.specs.FinMap as maps
 use Rattle.std.specs.Ordering.{is_lt}
-use Rattle.mig_bytes.specs.Fields.{le32, le64}
-use Rattle.mig_headers.specs.declared.fault.Cause.{Cause}
+use Rattle.mig_refusals.specs.Common.{le32, le64, Cause, vcpu_limit, most_frames, level_of, FrameOf, GuestOf, part_cmp, PartMap, p2m_key, vcpu_key, shared_key, PartCode, VcpuBasic, PartKey, most_gdt_entries, p2m_count, type_at}
 use Rattle.mig_headers.specs.declared.fault.Cause.TheVariants as causes
-use Rattle.mig_headers.specs.RecordTypes.{vcpu_limit}
-use Rattle.mig_pagetypes.specs.Limits.{most_frames}
-use Rattle.mig_pagetypes.specs.PageTypes.{level_of}
 use Rattle.mig_pagetypes.specs.declared.page_type.PageType.{PageType}
 use Rattle.mig_pagetypes.specs.declared.page_type.PageType.TheVariants.{Notab, L4Tab, L4Pinned}
 use Rattle.mig_guest.specs.Formed.{gdt_ents}
-use Rattle.mig_guest.specs.Frames.{FrameOf}
-use Rattle.mig_guest.specs.Guests.{GuestOf}
-use Rattle.mig_guest.specs.Order.{part_cmp}
-use Rattle.mig_guest.specs.Parts.{PartMap}
-use Rattle.mig_guest.specs.PartKeys.{p2m_key, vcpu_key, shared_key}
 use Rattle.mig_guest.specs.Tables.{entry}
-use Rattle.mig_guest.specs.declared.part_code.PartCode.{PartCode}
-use Rattle.mig_guest.specs.declared.part_code.PartCode.TheVariants.{VcpuBasic}
-use Rattle.mig_guest.specs.declared.part_key.PartKey.{PartKey}
 use Rattle.mig_guest.specs.declared.table.Entry.TheVariants.{Superpage, Frame}
-use Rattle.mig_guest.specs.Limits.{most_gdt_entries}
-use Rattle.mig_records.specs.PvBodies.{p2m_count}
-use Rattle.mig_pvtables.specs.Faults.{type_at}
 use Rattle.mig_pvtables.specs.P2mFrames.{listed}
 
 -- the page of a table of this level, which stands at this place of its record: at each slot ("PAGE_DATA")

@@ -1,35 +1,19 @@
 -- The form of a libxl stream around its image (libxl migration stream), and in each part the causes that may stand in it, in the
 -- order of their numbers; and the refusals of streams of either form, behind a faultless front.
 use Rattle.std.specs.Prelude.{◌<◌, ◌≡◌, ◌≤◌, ◌%◌, ◌^◌, ℕ, true, false, Bool, List, [], ◌∷◌, ◌++◌, length, drop, is_some, is_none, ◌==◌, if◌then◌else◌, ◌⊎◌, ◌↔◌, Option, Some}
-use Rattle.std.specs.List.{flat_map}
-use Rattle.mig_bytes.specs.Bytes.{padding_len}
-use Rattle.mig_bytes.specs.Fields.{le32, be32, be64}
-use Rattle.mig_bytes.specs.Sequences.{Spells}
+use Rattle.mig_refusals.specs.Common.{flat_map, padding_len, le32, be32, be64, Spells, Gives, Test, computed, is_ascending, most_body, number_of_cause, Pair, AreRising, text_of_pair, Cause, Place, most_records, ImageOf, Pv, emulators_of, pairs_said, spelled_with, FollowsLibxl, most_pairs}
 use Rattle.mig_bytes_form.specs.Form.{FormOf, ◌>>>◌, bytes_form, said_form, SpelledAs, RefusedAs}
-use Rattle.mig_bytes_form.specs.Form.FormOf.{Gives}
-use Rattle.mig_bytes_form.specs.Tests.{Test, computed, is_ascending}
 use Rattle.mig_bytes_form.specs.Tests.Test.{Less, AtMost, Equal, Is, Not, Both, Either}
-use Rattle.mig_headers.specs.RecordTypes.{most_body}
-use Rattle.mig_headers.specs.CauseNumbers.{number_of_cause}
 use Rattle.mig_headers.specs.Headers.{libxl_ident, IsLibxlHeader}
-use Rattle.mig_headers.specs.Pairs.{Pair, AreRising, text_of_pair}
-use Rattle.mig_headers.specs.declared.fault.Cause.{Cause}
 use Rattle.mig_headers.specs.declared.fault.Cause.TheVariants.{Truncated, BadVersion, BigEndian, BodyTooLong, Unsupported, UnknownMandatory, BadLength, TooManyRecords, BadEmulator, EmulatorForPv, ContextCount, TooManyPairs, EmulatorIndex}
-use Rattle.mig_headers.specs.declared.fault.Place.{Place}
 use Rattle.mig_headers.specs.declared.fault.Place.TheVariants as places
 use Rattle.mig_policy.specs.PairFaults.{pairs_fault}
 use Rattle.mig_policy.specs.PairMaps.{last_pair_value, pairs_in}
-use Rattle.mig_restore_form.specs.Judging.{most_records}
-use Rattle.mig_restore_form.specs.Stream.{ImageOf}
-use Rattle.mig_headers.specs.declared.kind.Kind.TheVariants.{Pv}
 use Rattle.mig_refusals.specs.Libxc.{RefusedLibxc}
 use Rattle.mig_libxl_form.specs.Content.{LibxlRecord, LibxlContent}
 use Rattle.mig_libxl_form.specs.Content.LibxlContent.{Nothing, Pairs, Context}
-use Rattle.mig_libxl_form.specs.Emulators.{emulators_of, pairs_said, spelled_with}
 use Rattle.mig_libxl_form.specs.Among.{is_libxl_ended, has_emulator, image_among}
 use Rattle.mig_libxl_form.specs.Judging.{allows_length, emulator_key, is_pv}
-use Rattle.mig_libxl_form.specs.Spelled.{FollowsLibxl}
-use Rattle.mig_guest.specs.Limits.{most_pairs}
 
 -- ---- conditions and their causes
 

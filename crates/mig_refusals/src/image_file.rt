@@ -1,11 +1,6 @@
 ghost use Rattle.std.specs.Prelude.{◌≡◌, ◌≤◌, ℕ, List};
-ghost use Rattle.mig_bytes.specs.Bytes.{AreBytes};
-ghost use Rattle.mig_bytes.specs.Fields.{le64};
+ghost use Rattle.mig_refusals.specs.Common.{AreBytes, le64, SpelledAs, HostOf, most_width, IsGuestImageUpTo, host_at};
 ghost use Rattle.mig_bytes.specs.Judged.Judged.{Faulty};
-ghost use Rattle.mig_bytes_form.specs.Form.{SpelledAs};
-ghost use Rattle.mig_guest.specs.Hosts.{HostOf, most_width};
-ghost use Rattle.mig_image.specs.GuestImage.{IsGuestImageUpTo};
-ghost use Rattle.mig_image.specs.GuestImageForm.{host_at};
 ghost use Rattle.mig_refusals.specs.Refusals.{AreJudged, HasOneRefusal, IsAcceptedOrRefused, IsNeverBoth};
 ghost use Rattle.mig_refusals.specs.ImageFileFronts.{EndsInFrames, EndsInParts};
 ghost use Rattle.mig_refusals.specs.ImageFile.{ImageCausesAscend, ImageTestsSay, PlaceIsOfPart, RefusedGuestImage, count_and_parts, head_and_frames};

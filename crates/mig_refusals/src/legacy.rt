@@ -1,4 +1,4 @@
-ghost use Rattle.mig_legacy.specs.Spelled.{AcceptedLegacy};
+ghost use Rattle.mig_refusals.specs.Common.{AcceptedLegacy};
 ghost use Rattle.mig_legacy.specs.Stream.{IsLegacyRefused};
 ghost use Rattle.mig_refusals.specs.Refusals.{AreAllAcceptedOrRefused, AreJudged, HasOneRefusal, IsNeverBoth};
 ghost use Rattle.mig_refusals.specs.Legacy.{ComputedCausesStand, LegacyCausesAscend, LegacyTestsSay, RefusedLegacy};

@@ -1,11 +1,6 @@
 ghost use Rattle.std.specs.Prelude.{ℕ, List};
-ghost use Rattle.mig_headers.specs.declared.kind.Kind.{Kind};
-ghost use Rattle.mig_guest.specs.Guests.{GuestOf};
-ghost use Rattle.mig_pvtables.specs.Faults.{fault_of_guest};
+ghost use Rattle.mig_refusals.specs.Common.{Kind, GuestOf, fault_of_guest, fault_of_page, Accepted, IsRefused};
 ghost use Rattle.mig_pvtables.specs.Tables.{fault_of_page_table};
-ghost use Rattle.mig_restore_form.specs.Judging.{fault_of_page};
-ghost use Rattle.mig_restore_form.specs.Spelled.{Accepted};
-ghost use Rattle.mig_restore_form.specs.Stream.{IsRefused};
 ghost use Rattle.mig_refusals.specs.Refusals.{AreAllAcceptedOrRefused, AreJudged, HasOneRefusal, IsNeverBoth};
 ghost use Rattle.mig_refusals.specs.Libxc.{AnswersFirstCause, GuestHas, LibxcCausesStand, PageHas, RefusedLibxc};
 ghost use Rattle.mig_refusals.specs.LibxcPv.{TableHas};

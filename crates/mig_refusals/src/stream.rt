@@ -1,4 +1,4 @@
-ghost use Rattle.mig_libxl_form.specs.Spelled.{AcceptedStream};
+ghost use Rattle.mig_refusals.specs.Common.{AcceptedStream};
 ghost use Rattle.mig_libxl_form.specs.Stream.{IsStreamRefused};
 ghost use Rattle.mig_refusals.specs.Refusals.{AreAllAcceptedOrRefused, AreJudged, HasOneRefusal, IsNeverBoth};
 ghost use Rattle.mig_refusals.specs.Stream.{RefusedStream, StoresAreMerged, WrapperCausesAscend, WrapperTestsSay};

@@ -1,8 +1,6 @@
 -- An image is judged as one of which the whole guest isn't asked, and then the guest is asked, at its last record: for causes
 -- that are left out.
-use Rattle.mig_relay.proofs.Common.{◌≡◌, ℕ, zero, suc, ◌-◌, ◌≤◌, Bool, true, false, nat_eq, nat_lt, List, [], ◌∷◌, ◌++◌, length, Option, Some, None, refl, sym, ap, ◌∙◌, arith, le_refl, length-append, AllByRecursion, Judged, ◌>>=◌, tried, placed, Passes, Faulty, onward, starts, over, goes_on, Cause, Place, Record, Kind, GuestOf, StreamRecord, is_ended, Opening, before, record_at, sent, ImageOf, image_of, placed_next, ended_more, asks, is_unasked, open_next}
-use Rattle.std.proofs.Common.{is_none}
-use Rattle.mig_headers.specs.declared.fault.Cause.TheVariants.{Missing, P2mFrame, TargetAbsent, VcpuFrame, TooManyFrames}
+use Rattle.mig_relay.proofs.Common.{◌≡◌, ℕ, zero, suc, ◌-◌, ◌≤◌, Bool, true, false, nat_eq, nat_lt, List, [], ◌∷◌, ◌++◌, length, Option, Some, None, refl, sym, ap, ◌∙◌, arith, le_refl, length-append, AllByRecursion, Judged, ◌>>=◌, tried, placed, Passes, Faulty, onward, starts, over, goes_on, Cause, Place, Record, Kind, GuestOf, StreamRecord, is_ended, Opening, before, record_at, sent, ImageOf, image_of, placed_next, ended_more, asks, is_unasked, open_next, is_none, Missing, P2mFrame, TargetAbsent, VcpuFrame, TooManyFrames}
 use Rattle.mig_headers.specs.declared.kind.Kind.TheVariants.{Pv, Hvm}
 use Rattle.mig_pagetypes.specs.Limits.{most_frames}
 use Rattle.mig_guest.specs.Frames.{FrameMap}

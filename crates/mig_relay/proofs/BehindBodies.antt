@@ -1,8 +1,7 @@
 -- Bodies that are passed on in pieces: what a relay keeps behind a piece, and behind the last one.
-use Rattle.mig_relay.proofs.Common.{◌≡◌, ◌≢◌, ℕ, ◌+◌, ◌<◌, ◌≤◌, Bool, true, false, nat_eq, ◌==◌, cond, List, [], ◌∷◌, ◌++◌, length, drop, Option, Some, None, refl, sym, ap, ◌∙◌, arith, length-append, eqb-true, eqb-false, common_steps, greater, padding_len, le32, Judged, ◌>>=◌, LibxlRecord, LibxlContent, Pairs, Context, PartCode, numbers_are_inverse, is_optional, type_of_number, Cause, Place, Record, RecordType, X86PvInfo, X86PvP2mFrames, image_in, emulator_key, RecordsBehind, bodies_are_parts, piece_len, fault_of_record_body, coded_content, typed_content, record_content, pairs_in, RecordHead, Opening, before, lists_of, code_of_type, StreamRecord, Content, Nothing, Lists, ImageOf, ComesNext, more, whole, image_next, libxl_next, Keeps, KeepsFirst, KeepsHead, KeepsOpen, KeepsOuter, IsBodied, IsOther, top_with, with_one, AtHead, AtBody, AtPadding, BeginsWithPart, record_with, Outer, Spot, AtLibxlHead, AtLibxlBody, AtLibxlPadding, InImage, spot, carry, Relay}
+use Rattle.mig_relay.proofs.Common.{◌≡◌, ◌≢◌, ℕ, ◌+◌, ◌<◌, ◌≤◌, Bool, true, false, nat_eq, ◌==◌, cond, List, [], ◌∷◌, ◌++◌, length, drop, Option, Some, None, refl, sym, ap, ◌∙◌, arith, length-append, eqb-true, eqb-false, common_steps, greater, padding_len, le32, Judged, ◌>>=◌, LibxlRecord, LibxlContent, Pairs, Context, PartCode, numbers_are_inverse, is_optional, type_of_number, Cause, Place, Record, RecordType, X86PvInfo, X86PvP2mFrames, image_in, emulator_key, RecordsBehind, bodies_are_parts, piece_len, fault_of_record_body, coded_content, typed_content, record_content, pairs_in, RecordHead, Opening, before, lists_of, code_of_type, StreamRecord, Content, Nothing, Lists, ImageOf, ComesNext, more, whole, image_next, libxl_next, Keeps, KeepsFirst, KeepsHead, KeepsOpen, KeepsOuter, IsBodied, IsOther, top_with, with_one, AtHead, AtBody, AtPadding, BeginsWithPart, record_with, Outer, Spot, AtLibxlHead, AtLibxlBody, AtLibxlPadding, InImage, spot, carry, Relay, type_allows}
 use Rattle.mig_libxl_form.specs.Content.LibxlContent.{Nothing as NothingWrapped}
 use Rattle.mig_headers.proofs.ContextTexts.{in32}
-use Rattle.mig_records.specs.Faults.{type_allows}
 use Rattle.mig_restore_form.proofs.Laws.{fields_fine}
 use Rattle.mig_relay.proofs.Kept.{ListsNone, going_same, wrapped_more, records_more, top_same, top_listed}
 use Rattle.mig_relay.proofs.SpotParts.{lifted, libxl_content, libxl_no_padding, with_libxl}

@@ -1,7 +1,6 @@
 -- Parts whose judging takes a front: with a cause tried before them, without causes, and one after another up to one that ends
 -- them.
-use Rattle.mig_relay.proofs.Common.{◌≡◌, ℕ, zero, suc, ◌≤◌, ◌<◌, Bool, true, false, List, [], ◌∷◌, ◌++◌, length, Option, Some, None, refl, sym, ap, ◌∙◌, arith, le_refl, append_assoc, Judged, ◌>>=◌, part, tried, plain_at, Passes, onward, Front, TakesFronts, front_pass, front_part, front_then, both_pass, passes_not, same_passes, over, goes_on}
-use Rattle.mig_bytes.proofs.Joins.{then_passes}
+use Rattle.mig_relay.proofs.Common.{◌≡◌, ℕ, zero, suc, ◌≤◌, ◌<◌, Bool, true, false, List, [], ◌∷◌, ◌++◌, length, Option, Some, None, refl, sym, ap, ◌∙◌, arith, le_refl, append_assoc, Judged, ◌>>=◌, part, tried, plain_at, Passes, onward, Front, TakesFronts, front_pass, front_part, front_then, both_pass, passes_not, same_passes, over, goes_on, then_passes}
 
 -- a cause is tried in no bytes, and then judged on
 pub front_checked : {C X : Type 0} (f : Option C) (g : List ℕ → Judged C X) → TakesFronts g → TakesFronts (λ i. tried f i >>= λ _. g i)

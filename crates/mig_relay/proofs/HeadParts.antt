@@ -1,11 +1,7 @@
 -- What comes next behind a record's head.
-use Rattle.mig_relay.proofs.Common.{◌≡◌, ◌≢◌, ℕ, ◌+◌, ◌<◌, ◌≤◌, not, nat_eq, nat_le, min, Bool, true, false, cond, List, [], ◌∷◌, ◌++◌, length, Option, Some, None, refl, sym, ap, subst, ◌∙◌, arith, length-append, leb-true, eqb-true, eqb-false, eq-eqb, ne_eqb, common_steps, option_or, padding_len, Judged, ◌>>=◌, part, tried, placed, Passes, Faulty, LibxlRecord, parts_of_body, PartCode, numbers_are_inverse, type_of_number, is_optional, first_fault, RecordType, X86PvInfo, X86PvP2mFrames, Cause, Truncated, BadLength, Place, Record, is_libxl_ended, image_among, AreBehind, kind_of_image, Bare, RecordsBehind, emulator_more, among_first, IsBegunBody, piece_len, fault_of_record_body, record_content, typed_content, coded_content, bodies_are_parts, fault_of_length, head_in, RecordHead, Opening, before, body_at, code_of_type, fault_of_head, fault_of_fields, Nothing, Sets, Lists, StreamRecord, Content, types_of, is_ended, IsSeen, RecordsSeen, Kind, ImageOf, image_of, ComesBehind, ComesNext, image_next, Keeps, KeepsGoing, KeepsHead, KeepsRecords, KeepsOuter, HasNumber, fault_of_empty, AtHead, AtBody, AtFront, judged_next, record_with, with_body, BeginsWithPart, Outer, Alone, Behind, Spot, AtLibxlHead, InImage, AtEnd, spot, carry, image_record, Relay}
+use Rattle.mig_relay.proofs.Common.{◌≡◌, ◌≢◌, ℕ, ◌+◌, ◌<◌, ◌≤◌, not, nat_eq, nat_le, min, Bool, true, false, cond, List, [], ◌∷◌, ◌++◌, length, Option, Some, None, refl, sym, ap, subst, ◌∙◌, arith, length-append, leb-true, eqb-true, eqb-false, eq-eqb, ne_eqb, common_steps, option_or, padding_len, Judged, ◌>>=◌, part, tried, placed, Passes, Faulty, LibxlRecord, parts_of_body, PartCode, numbers_are_inverse, type_of_number, is_optional, first_fault, RecordType, X86PvInfo, X86PvP2mFrames, Cause, Truncated, BadLength, Place, Record, is_libxl_ended, image_among, AreBehind, kind_of_image, Bare, RecordsBehind, emulator_more, among_first, IsBegunBody, piece_len, fault_of_record_body, record_content, typed_content, coded_content, bodies_are_parts, fault_of_length, head_in, RecordHead, Opening, before, body_at, code_of_type, fault_of_head, fault_of_fields, Nothing, Sets, Lists, StreamRecord, Content, types_of, is_ended, IsSeen, RecordsSeen, Kind, ImageOf, image_of, ComesBehind, ComesNext, image_next, Keeps, KeepsGoing, KeepsHead, KeepsRecords, KeepsOuter, HasNumber, fault_of_empty, AtHead, AtBody, AtFront, judged_next, record_with, with_body, BeginsWithPart, Outer, Alone, Behind, Spot, AtLibxlHead, InImage, AtEnd, spot, carry, image_record, Relay, most_body, has_emulator, IfSome, image_begins, pages_begin, image_whole, image_end, inner_end}
 use Rattle.std.proofs.Common.{◌&&◌}
 use Rattle.std.proofs.Math.Bool.{or-false}
-use Rattle.mig_headers.specs.RecordTypes.{most_body}
-use Rattle.mig_libxl_form.specs.Among.{has_emulator}
-use Rattle.std.specs.Prelude.{IfSome}
-use Rattle.mig_relay.specs.Following.{image_begins, pages_begin, image_whole, image_end, inner_end}
 use Rattle.mig_relay.proofs.Kept.{ListsNone, number_is, seen_more, ending, top_same, outer_same, records_more, libxl_going_on}
 use Rattle.mig_relay.proofs.Unrolls.{head_is, empty_is, no_padding}
 use Rattle.mig_relay.proofs.SpotParts.{alone_ended, wrapped_ended}

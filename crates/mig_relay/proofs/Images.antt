@@ -1,6 +1,5 @@
 -- A record takes at least its head, and judging an image takes a front.
-use Rattle.mig_relay.proofs.Common.{◌≡◌, ℕ, ◌<◌, List, ◌∷◌, [], ◌++◌, length, sym, ap, ◌∙◌, arith, length-append, le32, be32, ◌>>=◌, tried, placed, Passes, onward, both_pass, placed_passes, same_passes, said_passes, TakesFronts, front_pass, front_said, front_then, front_placed, fault_of_marker, fault_of_image, fault_of_domain, kind_of_number, Truncated, ImageHeader, DomainHeader, Record, StreamRecord, is_ended, Opening, Before, opening_of, before, fault_of_head, head_at, record_at, sent, image_of, opening_behind, marker_at, version_at, kind_at, placed_next, begins, asks, open_next}
-use Rattle.mig_restore_form.specs.Judging.{next_at, fault_at_end}
+use Rattle.mig_relay.proofs.Common.{◌≡◌, ℕ, ◌<◌, List, ◌∷◌, [], ◌++◌, length, sym, ap, ◌∙◌, arith, length-append, le32, be32, ◌>>=◌, tried, placed, Passes, onward, both_pass, placed_passes, same_passes, said_passes, TakesFronts, front_pass, front_said, front_then, front_placed, fault_of_marker, fault_of_image, fault_of_domain, kind_of_number, Truncated, ImageHeader, DomainHeader, Record, StreamRecord, is_ended, Opening, Before, opening_of, before, fault_of_head, head_at, record_at, sent, image_of, opening_behind, marker_at, version_at, kind_at, placed_next, begins, asks, open_next, next_at, fault_at_end}
 use Rattle.mig_restore_form.specs.Stream.{opening_at}
 use Rattle.mig_restore_form.proofs.Parts.{behind_head, behind_record}
 use Rattle.mig_relay.specs.Images.{open_records, open_image_at}

@@ -1,9 +1,5 @@
 -- What a relay keeps once one more record stands behind it.
-use Rattle.mig_relay.proofs.Common.{◌≡◌, ◌≢◌, ℕ, ◌-◌, Bool, true, false, List, [], ◌∷◌, ◌++◌, length, nat_eq, Option, Some, None, refl, sym, ap, subst, ◌∙◌, arith, length-append, ne_eqb, eq-eqb, map-append, greater, LibxlRecord, GuestOf, is_libxl_ended, image_in, image_among, AreBehind, kind_of_image, RecordsBehind, emulator_more, among_first, RecordHead, Opening, before, sent, put_content, StreamRecord, Content, types_of, is_ended, is_verified, placed_content, Nothing, Frames, Sets, Lists, IsSeen, ImageOf, RecordsSeen, ended_more, one_more_record, HasNumber, KeepsGoing, KeepsOuter, KeepsRecords, with_one, record_with, Outer, Alone, Behind, Relay}
-use Rattle.std.proofs.Common.{◌||◌}
-use Rattle.std.proofs.lemmas.List.{length-map}
-use Rattle.mig_libxl_form.proofs.Among.{among_more}
-use Rattle.mig_restore_form.specs.Record.Content.{Checks}
+use Rattle.mig_relay.proofs.Common.{◌≡◌, ◌≢◌, ℕ, ◌-◌, Bool, true, false, List, [], ◌∷◌, ◌++◌, length, nat_eq, Option, Some, None, refl, sym, ap, subst, ◌∙◌, arith, length-append, ne_eqb, eq-eqb, map-append, greater, LibxlRecord, GuestOf, is_libxl_ended, image_in, image_among, AreBehind, kind_of_image, RecordsBehind, emulator_more, among_first, RecordHead, Opening, before, sent, put_content, StreamRecord, Content, types_of, is_ended, is_verified, placed_content, Nothing, Frames, Sets, Lists, IsSeen, ImageOf, RecordsSeen, ended_more, one_more_record, HasNumber, KeepsGoing, KeepsOuter, KeepsRecords, with_one, record_with, Outer, Alone, Behind, Relay, ◌||◌, length-map, among_more, Checks}
 use Rattle.mig_libxl_form.proofs.Among as libxl
 
 -- ---- the records of an image

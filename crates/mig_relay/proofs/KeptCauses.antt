@@ -1,17 +1,13 @@
 -- No judging of a part tells a cause that is left out.
-use Rattle.mig_relay.proofs.Common.{◌≡◌, ℕ, zero, suc, ◌+◌, ◌*◌, Bool, true, false, cond, List, [], length, drop, Option, Some, None, Result, Ok, Err, refl, option_or, padding_len, le32, be32, ◌>>=◌, part, tried, plain_at, placed, Passes, onward, marker_rows, fault_of_marker, fault_of_image, fault_of_domain, kind_of_number, is_optional, type_of_number, Cause, Truncated, BadLength, Place, ImageHeader, DomainHeader, Record, Kind, RecordType, PageData, X86PvInfo, X86PvP2mFrames, word_pfn, word_has_data, PartCode, count_rows, fault_of_length, fault_of_count, words, fault_of_pv_info, fault_of_p2m, fault_of_body, parts_of_body, Before, opening_of, before, fault_of_head, head_at, fault_of_level, fault_of_page, fault_of_data, page_at, entry_at, entries_at, words_at, with_places, lists_of, type_in_word, code_of_type, coded_at, typed_at, body_at, is_ended, is_verified, placed_content, Nothing, Frames, Sets, image_of, marker_at, version_at, kind_at, opening_behind, is_unasked, open_next, fault_of_list, list_at}
+use Rattle.mig_relay.proofs.Common.{◌≡◌, ℕ, zero, suc, ◌+◌, ◌*◌, Bool, true, false, cond, List, [], length, drop, Option, Some, None, Result, Ok, Err, refl, option_or, padding_len, le32, be32, ◌>>=◌, part, tried, plain_at, placed, Passes, onward, marker_rows, fault_of_marker, fault_of_image, fault_of_domain, kind_of_number, is_optional, type_of_number, Cause, Truncated, BadLength, Place, ImageHeader, DomainHeader, Record, Kind, RecordType, PageData, X86PvInfo, X86PvP2mFrames, word_pfn, word_has_data, PartCode, count_rows, fault_of_length, fault_of_count, words, fault_of_pv_info, fault_of_p2m, fault_of_body, parts_of_body, Before, opening_of, before, fault_of_head, head_at, fault_of_level, fault_of_page, fault_of_data, page_at, entry_at, entries_at, words_at, with_places, lists_of, type_in_word, code_of_type, coded_at, typed_at, body_at, is_ended, is_verified, placed_content, Nothing, Frames, Sets, image_of, marker_at, version_at, kind_at, opening_behind, is_unasked, open_next, fault_of_list, list_at, image_rows, domain_rows, Pv32, BadPvInfo, P2mStart, VcpuId, GdtEnts, ParamIndex, TooManyRecords, long_rows, length_rows, word_rows, fault_of_long, shape_of, fault_of_content, fault_of_scan, fault_by_shape}
 use Rattle.mig_headers.specs.Contexts.{scan}
-use Rattle.mig_headers.specs.Headers.{image_rows, domain_rows}
-use Rattle.mig_headers.specs.declared.fault.Cause.TheVariants.{Pv32, BadPvInfo, P2mStart, VcpuId, GdtEnts, ParamIndex, TooManyRecords}
 use Rattle.mig_headers.specs.declared.fault.ContextFault.{ContextFault}
 use Rattle.mig_guest.specs.Formed.{gdt_ents}
 use Rattle.mig_guest.specs.Longs.{long_at}
 use Rattle.mig_guest.specs.Tables.{named_frame}
 use Rattle.mig_guest.specs.declared.part_code.PartCode.TheVariants.{VcpuBasic, VcpuExtended, VcpuXsave, HvmParam, VcpuMsrs}
-use Rattle.mig_records.specs.Faults.{long_rows, length_rows, word_rows, fault_of_long}
 use Rattle.mig_order.specs.Order.{Earlier, earlier_in, causes, fault_of_mandatory, fault_of_type}
 use Rattle.mig_records.specs.Layouts.{fault_of_key, fault_of_entry, fault_of_entries, entry_width, entry_count, front_width}
-use Rattle.mig_records.specs.Shapes.{shape_of, fault_of_content, fault_of_scan, fault_by_shape}
 use Rattle.mig_records.specs.declared.shape.Shape.{Shape}
 use Rattle.mig_records.specs.declared.shape.Shape.TheVariants.{Table, Single, Named, Chain, Other}
 use Rattle.mig_pvtables.specs.Tables.{first_superpage, first_outside}

@@ -1,9 +1,6 @@
 -- The front, the words and the pages of a PAGE_DATA are parts, one after another.
-use Rattle.mig_relay.proofs.Common.{◌≡◌, ℕ, ◌*◌, List, [], ◌∷◌, ◌++◌, true, false, Option, Some, None, refl, sym, ap, ◌∙◌, append_assoc, append-nil, length, le32, Judged, ◌>>=◌, part, tried, placed, said_at, Passes, Faulty, Cause, Truncated, Record, word_has_data, fault_of_count, words, RecordHead, StreamRecord, FrameEntry, Content, Frames, Opening, before, fault_of_page, with_places, entry_at, AtPadding, judged_next, with_body, entry_of_word, fault_of_list, words_at}
+use Rattle.mig_relay.proofs.Common.{◌≡◌, ℕ, ◌*◌, List, [], ◌∷◌, ◌++◌, true, false, Option, Some, None, refl, sym, ap, ◌∙◌, append_assoc, append-nil, length, le32, Judged, ◌>>=◌, part, tried, placed, said_at, Passes, Faulty, Cause, Truncated, Record, word_has_data, fault_of_count, words, RecordHead, StreamRecord, FrameEntry, Content, Frames, Opening, before, fault_of_page, with_places, entry_at, AtPadding, judged_next, with_body, entry_of_word, fault_of_list, words_at, pages_at, behind_list, front_list, good_list, list_stage, pages_behind, words_behind}
 use Rattle.mig_bytes.specs.Judged.{each}
-use Rattle.mig_restore_form.specs.Judging.{pages_at}
-use Rattle.mig_restore_form.proofs.Batches.{behind_list, front_list, good_list, list_stage}
-use Rattle.mig_relay.specs.Parts.{pages_behind, words_behind}
 
 module _ (o : Opening) (records : List StreamRecord) (head : RecordHead) where
   abbrev kind_top : List (ℕ × ℕ) → List ℕ → Judged Cause (List FrameEntry)

@@ -1,6 +1,5 @@
 -- Which place a relay keeps, by what comes next.
-use Rattle.mig_relay.proofs.Common.{◌≡◌, ◌≢◌, ℕ, List, [], ◌∷◌, ◌++◌, None, sym, subst, ◌∙◌, ⊤, padding_len, LibxlRecord, LibxlContent, image_in, StreamOf, fault_of_record_body, fault_of_libxl_body, Opening, before, StreamRecord, FrameEntry, Content, types_of, Keeps, KeepsNext, KeepsOuter, KeepsGoing, KeepsOpen, KeepsRecords, KeepsHead, KeepsFirst, KeepsWords, IsBodied, IsOther, IsPages, HasRecords, top_with, Next, AtMarker, AtVersion, AtKind, AtHead, AtBody, AtFront, AtWords, AtPages, AtPadding, record_with, Outer, Spot, AtStart, AtLibxlHeader, AtLibxlHead, AtLibxlBody, AtLibxlPadding, InImage, AtEnd, Coming, Relay}
-use Rattle.mig_relay.specs.Keeping.{KeepsBody}
+use Rattle.mig_relay.proofs.Common.{◌≡◌, ◌≢◌, ℕ, List, [], ◌∷◌, ◌++◌, None, sym, subst, ◌∙◌, ⊤, padding_len, LibxlRecord, LibxlContent, image_in, StreamOf, fault_of_record_body, fault_of_libxl_body, Opening, before, StreamRecord, FrameEntry, Content, types_of, Keeps, KeepsNext, KeepsOuter, KeepsGoing, KeepsOpen, KeepsRecords, KeepsHead, KeepsFirst, KeepsWords, IsBodied, IsOther, IsPages, HasRecords, top_with, Next, AtMarker, AtVersion, AtKind, AtHead, AtBody, AtFront, AtWords, AtPages, AtPadding, record_with, Outer, Spot, AtStart, AtLibxlHeader, AtLibxlHead, AtLibxlBody, AtLibxlPadding, InImage, AtEnd, Coming, Relay, KeepsBody}
 use Rattle.mig_relay.specs.declared.state.Coming.TheVariants as comes
 
 -- ---- what comes next at a place

@@ -1,6 +1,5 @@
 -- Judging a record of an image takes a front, and looks at nothing behind it.
-use Rattle.mig_relay.proofs.Common.{ℕ, ◌*◌, List, Bool, true, false, cond, Option, Some, None, padding_len, le32, ◌>>=◌, part, tried, plain_at, Passes, TakesFronts, front_pass, front_part, front_said, front_then, is_optional, type_of_number, Kind, RecordType, PageData, X86PvInfo, X86PvP2mFrames, Truncated, PartCode, word_pfn, word_has_data, fault_of_pv_info, fault_of_p2m, fault_of_body, parts_of_body, fault_of_count, words, is_verified, placed_content, Nothing, Frames, Sets, Before, fault_of_head, head_at, fault_of_page, page_at, entry_at, entries_at, words_at, with_places, lists_of, code_of_type, coded_at, typed_at, body_at, type_in_word, fault_of_list, list_at}
-use Rattle.mig_bytes.proofs.Fronts.{front_each}
+use Rattle.mig_relay.proofs.Common.{ℕ, ◌*◌, List, Bool, true, false, cond, Option, Some, None, padding_len, le32, ◌>>=◌, part, tried, plain_at, Passes, TakesFronts, front_pass, front_part, front_said, front_then, is_optional, type_of_number, Kind, RecordType, PageData, X86PvInfo, X86PvP2mFrames, Truncated, PartCode, word_pfn, word_has_data, fault_of_pv_info, fault_of_p2m, fault_of_body, parts_of_body, fault_of_count, words, is_verified, placed_content, Nothing, Frames, Sets, Before, fault_of_head, head_at, fault_of_page, page_at, entry_at, entries_at, words_at, with_places, lists_of, code_of_type, coded_at, typed_at, body_at, type_in_word, fault_of_list, list_at, front_each}
 use Rattle.mig_restore_form.specs.Judging.{record_at}
 use Rattle.mig_restore_form.proofs.Parts.{behind_body, behind_head}
 use Rattle.mig_relay.proofs.Fronts.{front_checked, front_plain}

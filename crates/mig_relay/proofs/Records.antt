@@ -1,8 +1,7 @@
 -- A record of a libxl stream takes at least its head, and a front; and it is judged so with the causes left out.
-use Rattle.mig_relay.proofs.Common.{ℕ, Bool, true, false, cond, nat_eq, nat_le, nat_lt, List, [], ◌∷◌, length, drop, Option, Some, None, refl, ap, arith, length-append, option_or, padding_len, le32, Judged, ◌>>=◌, part, tried, placed, Passes, TakesFronts, front_pass, front_part, front_said, front_then, front_placed, both_pass, placed_passes, said_passes, LibxlRecord, LibxlContent, Image, Pairs, Context, first_fault, Cause, Truncated, BadEmulator, EmulatorIndex, Place, is_libxl_ended, emulator_key, fault_of_libxl_head, libxl_head_at, context_at, skipped_at, pairs_in, image_at, open_image_at, fault_of_pair_body, open_pairs_at, open_body, open_inner, open_content}
+use Rattle.mig_relay.proofs.Common.{ℕ, Bool, true, false, cond, nat_eq, nat_le, nat_lt, List, [], ◌∷◌, length, drop, Option, Some, None, refl, ap, arith, length-append, option_or, padding_len, le32, Judged, ◌>>=◌, part, tried, placed, Passes, TakesFronts, front_pass, front_part, front_said, front_then, front_placed, both_pass, placed_passes, said_passes, LibxlRecord, LibxlContent, Image, Pairs, Context, first_fault, Cause, Truncated, BadEmulator, EmulatorIndex, Place, is_libxl_ended, emulator_key, fault_of_libxl_head, libxl_head_at, context_at, skipped_at, pairs_in, image_at, open_image_at, fault_of_pair_body, open_pairs_at, open_body, open_inner, open_content, TooManyPairs}
 use Rattle.mig_libxl_form.specs.Content.LibxlContent.{Nothing}
 use Rattle.mig_libxl_form.specs.Emulators.{EmulatorsOf, emulators_of, spelled_with}
-use Rattle.mig_headers.specs.declared.fault.Cause.TheVariants.{TooManyPairs}
 use Rattle.mig_headers.specs.declared.fault.Place.TheVariants.{LibxlRecord as AtRecord}
 use Rattle.mig_libxl_form.specs.Judging.{fault_of_context, fault_of_pairs, pairs_at, inner_at, body_of_type, libxl_content_at, libxl_record_at}
 use Rattle.mig_policy.specs.PairFaults.{pairs_fault}

@@ -1,19 +1,12 @@
 -- From what a relay keeps to the bytes that it stands for.
-use Rattle.mig_relay.proofs.Common.{◌≡◌, ◌≢◌, ℕ, ◌≤◌, Bool, true, false, List, [], ◌∷◌, ◌++◌, length, take, drop, min, ◌+◌, ◌-◌, ◌^◌, ◌<◌, Option, Some, None, Result, Ok, Err, refl, sym, ap, subst, ◌∙◌, arith, append_assoc, append-nil, length-append, length-drop, take-append-drop, Consumes, Appends, AppendsPart, Judged, Passes, passes_not, Cause, Truncated, Place, StreamOf, IsPassable, fault_of_record_body, record_content, bodies_are_parts, before, with_places, ImageOf, in_hand, place_of_spot, Keeps, KeepsNext, HasRecords, Next, AtMarker, AtVersion, AtKind, AtHead, AtBody, AtFront, AtWords, AtPages, AtPadding, judged_next, BeginsWithPart, HasPassed, IsRelayed, Turned, RisesOnAnswer, WritesOnReadFault, Outer, Spot, AtStart, AtLibxlHeader, AtLibxlHead, AtLibxlBody, AtLibxlPadding, InImage, AtEnd, spot, held, carry, FrontsAreCut, PassedPiece, IsUnfinished, is_judged_first, Refuses, Stops, StepMoved, MovedBy, counted, Fits, RelayAnswer, Refused, WriteFault, Memory, Relayed, Step, Coming, Relay}
+use Rattle.mig_relay.proofs.Common.{◌≡◌, ◌≢◌, ℕ, ◌≤◌, Bool, true, false, List, [], ◌∷◌, ◌++◌, length, take, drop, min, ◌+◌, ◌-◌, ◌^◌, ◌<◌, Option, Some, None, Result, Ok, Err, refl, sym, ap, subst, ◌∙◌, arith, append_assoc, append-nil, length-append, length-drop, take-append-drop, Consumes, Appends, AppendsPart, Judged, Passes, passes_not, Cause, Truncated, Place, StreamOf, IsPassable, fault_of_record_body, record_content, bodies_are_parts, before, with_places, ImageOf, in_hand, place_of_spot, Keeps, KeepsNext, HasRecords, Next, AtMarker, AtVersion, AtKind, AtHead, AtBody, AtFront, AtWords, AtPages, AtPadding, judged_next, BeginsWithPart, HasPassed, IsRelayed, Turned, RisesOnAnswer, WritesOnReadFault, Outer, Spot, AtStart, AtLibxlHeader, AtLibxlHead, AtLibxlBody, AtLibxlPadding, InImage, AtEnd, spot, held, carry, FrontsAreCut, PassedPiece, IsUnfinished, is_judged_first, Refuses, Stops, StepMoved, MovedBy, counted, Fits, RelayAnswer, Refused, WriteFault, Memory, Relayed, Step, Coming, Relay, is_some, places_len, head_of_next, Stands, RisesOnFault, EndsInside, WritesSome, may_wait, most_waiting, ReadFault}
 use mathlib.Core.Logic.{inl, inr}
-use Rattle.std.specs.Prelude.{is_some}
 use Rattle.std.specs.Io.KnownBytes.{Keeps as Stays}
 use Rattle.mig_bytes.specs.Faults.{Rose}
 use Rattle.mig_relay.specs.Streams.{open_stream_at}
 use Rattle.mig_relay.proofs.Streams.{unfinished_is_not_accepted}
-use Rattle.mig_restore_form.proofs.Batches.{places_len}
-use Rattle.mig_relay.specs.Following.{head_of_next}
-use Rattle.mig_relay.specs.Keeping.{Stands}
 use Rattle.mig_relay.specs.Relaying.{RelayedBy, PassedPart as IsWritten, RefusedPart, NoneIsAccepted, NoneWaits, IsCutPart, IsWrittenPart, TurnedBy, held_answer, unwritten}
 use Rattle.mig_relay.specs.Standing.{StandsForBytes, StepSays, PassesOn, IsRefusedBehind, WritesSomeBehind, StopsInside, is_at_end, is_within, goes_on}
-use Rattle.mig_relay.specs.Steps.{RisesOnFault, EndsInside, WritesSome}
-use Rattle.mig_relay.specs.Waiting.{may_wait, most_waiting}
-use Rattle.mig_relay.specs.declared.answer.RelayAnswer.TheVariants.{ReadFault}
 use Rattle.mig_relay.proofs.Moves.{cut, nothing}
 use Rattle.mig_relay.proofs.Paging.{front_is, words_is, page_is}
 use Rattle.mig_relay.proofs.Places.{Told, told}

@@ -1,7 +1,6 @@
 -- Judging a stream of either form takes a front, and no front of bytes that are refused is accepted.
-use Rattle.mig_relay.proofs.Common.{◌≡◌, ℕ, Bool, true, false, cond, nat_eq, nat_le, List, [], ◌++◌, length, take, drop, None, refl, sym, ap, ◌∙◌, arith, append_assoc, append-nil, length-append, length-take-le, take-append-drop, eqb-true, le-leb, leb-true, not-false, ◌&&◌, be64, ◌>>=◌, placed, Passes, onward, Front, TakesFronts, front_pass, front_said, front_then, front_placed, both_pass, passes_not, placed_passes, same_passes, said_passes, starts, LibxlRecord, rows_fine, marker_of, libxl_ident, marker_rows, fault_of_marker, fault_of_libxl, Cause, Truncated, Place, ImageHeader, LibxlHeader, is_libxl_ended, StreamOf, header_at, Bare, Wrapped, ImageOf, image_at, marker_at, opening_behind, is_unasked, open_bare, IsPassable, IsOpenRefused}
+use Rattle.mig_relay.proofs.Common.{◌≡◌, ℕ, Bool, true, false, cond, nat_eq, nat_le, List, [], ◌++◌, length, take, drop, None, refl, sym, ap, ◌∙◌, arith, append_assoc, append-nil, length-append, length-take-le, take-append-drop, eqb-true, le-leb, leb-true, not-false, ◌&&◌, be64, ◌>>=◌, placed, Passes, onward, Front, TakesFronts, front_pass, front_said, front_then, front_placed, both_pass, passes_not, placed_passes, same_passes, said_passes, starts, LibxlRecord, rows_fine, marker_of, libxl_ident, marker_rows, fault_of_marker, fault_of_libxl, Cause, Truncated, Place, ImageHeader, LibxlHeader, is_libxl_ended, StreamOf, header_at, Bare, Wrapped, ImageOf, image_at, marker_at, opening_behind, is_unasked, open_bare, IsPassable, IsOpenRefused, sequence_at}
 use Rattle.std.proofs.lemmas.List.{drop_at}
-use Rattle.mig_bytes.specs.Sequences.{sequence_at}
 use Rattle.mig_headers.specs.Headers.{marker}
 use Rattle.mig_libxl_form.specs.Judging.{libxl_record_at}
 use Rattle.mig_libxl_form.specs.Stream.{bare_at, wrapped_at, stream_at, IsStreamRefused}

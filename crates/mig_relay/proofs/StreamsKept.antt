@@ -1,7 +1,6 @@
 -- A refusal of a stream never tells a cause that is left out.
-use Rattle.mig_relay.proofs.Common.{◌≡◌, ℕ, Bool, true, false, cond, nat_eq, nat_le, List, [], length, drop, Option, Some, None, refl, subst, ◌&&◌, padding_len, le32, be64, part, placed, Passes, onward, LibxlRecord, Image, Pairs, Context, libxl_ident, fault_of_libxl, Cause, Truncated, BadEmulator, EmulatorIndex, Place, LibxlHeader, is_libxl_ended, emulator_key, fault_of_libxl_head, libxl_head_at, context_at, skipped_at, header_at, Bare, Wrapped, pairs_in, is_unasked, open_image_at, fault_of_pair_body, open_pairs_at, open_body, open_inner, open_content, open_bare, IsOpenRefused}
+use Rattle.mig_relay.proofs.Common.{◌≡◌, ℕ, Bool, true, false, cond, nat_eq, nat_le, List, [], length, drop, Option, Some, None, refl, subst, ◌&&◌, padding_len, le32, be64, part, placed, Passes, onward, LibxlRecord, Image, Pairs, Context, libxl_ident, fault_of_libxl, Cause, Truncated, BadEmulator, EmulatorIndex, Place, LibxlHeader, is_libxl_ended, emulator_key, fault_of_libxl_head, libxl_head_at, context_at, skipped_at, header_at, Bare, Wrapped, pairs_in, is_unasked, open_image_at, fault_of_pair_body, open_pairs_at, open_body, open_inner, open_content, open_bare, IsOpenRefused, libxl_rows}
 use Rattle.mig_libxl_form.specs.Content.LibxlContent.{Nothing}
-use Rattle.mig_headers.specs.Headers.{libxl_rows}
 use Rattle.mig_headers.specs.Pairs.{texts_in}
 use Rattle.mig_headers.specs.declared.fault.Place.TheVariants.{LibxlRecord as AtRecord}
 use Rattle.mig_libxl_form.specs.Judging.{field_rows, order_rows, fault_of_libxl_fields, fault_of_order, fault_of_context}

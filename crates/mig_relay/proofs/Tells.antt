@@ -1,6 +1,5 @@
 -- Judgings that tell no causes but some.
-use Rattle.mig_relay.proofs.Common.{ℕ, Bool, true, false, cond, List, [], ◌∷◌, length, take, drop, nat_lt, Option, Some, None, ⊤, AllByRecursion, option_or, Judged, ◌>>=◌, part, tried, said_at, plain_at, placed, Passes, Faulty, first_fault}
-use Rattle.std.specs.Option.{option_map}
+use Rattle.mig_relay.proofs.Common.{ℕ, Bool, true, false, cond, List, [], ◌∷◌, length, take, drop, nat_lt, Option, Some, None, ⊤, AllByRecursion, option_or, Judged, ◌>>=◌, part, tried, said_at, plain_at, placed, Passes, Faulty, first_fault, option_map}
 use Rattle.mig_bytes.specs.Judged.{each}
 use Rattle.mig_bytes.specs.Sequences.{Front, grown, ended_at, onward}
 use Rattle.mig_bytes.specs.Walk.{walk_end}

@@ -1,12 +1,10 @@
 -- What comes next in an image is a part of so many bytes, and what is judged behind it.
-use Rattle.mig_relay.proofs.Common.{◌≡◌, ℕ, ◌<◌, List, [], ◌∷◌, ◌++◌, length, true, false, Option, None, refl, ap, ◌∙◌, arith, padding_len, le32, be32, Judged, ◌>>=◌, part, tried, placed, said_at, Passes, Faulty, onward, said_part, no_bytes, over, goes_on, fault_of_marker, fault_of_image, fault_of_domain, kind_of_number, Cause, Truncated, Place, ImageHeader, DomainHeader, Record, open_next, head_in, RecordHead, Opening, opening_of, before, fault_of_head, head_at, record_at, body_at, StreamRecord, Content, is_ended, image_of, opening_behind, marker_at, version_at, kind_at, begins, AtMarker, AtVersion, AtKind, AtHead, AtBody, AtPadding, judged_next, record_with, with_body, BeginsWithPart}
-use Rattle.mig_bytes.proofs.Joins.{plain_part}
+use Rattle.mig_relay.proofs.Common.{◌≡◌, ℕ, ◌<◌, List, [], ◌∷◌, ◌++◌, length, true, false, Option, None, refl, ap, ◌∙◌, arith, padding_len, le32, be32, Judged, ◌>>=◌, part, tried, placed, said_at, Passes, Faulty, onward, said_part, no_bytes, over, goes_on, fault_of_marker, fault_of_image, fault_of_domain, kind_of_number, Cause, Truncated, Place, ImageHeader, DomainHeader, Record, open_next, head_in, RecordHead, Opening, opening_of, before, fault_of_head, head_at, record_at, body_at, StreamRecord, Content, is_ended, image_of, opening_behind, marker_at, version_at, kind_at, begins, AtMarker, AtVersion, AtKind, AtHead, AtBody, AtPadding, judged_next, record_with, with_body, BeginsWithPart, plain_part, with_record, padded}
 use Rattle.mig_relay.proofs.Binds.{bind_assoc, placed_bind}
 use Rattle.mig_relay.specs.Images.{open_records, open_image_at}
 use Rattle.mig_relay.proofs.Images.{open_shrinks}
 use Rattle.mig_restore_form.specs.Stream.{opening_at}
 use Rattle.mig_restore_form.proofs.Parts.{behind_head, behind_body}
-use Rattle.mig_relay.specs.Parts.{with_record, padded}
 
 -- ---- headers
 

@@ -1,7 +1,6 @@
 -- The causes that ask for more than the parts up to the faulty one.
 use Rattle.std.specs.Prelude.{Bool, true, false}
-use Rattle.mig_headers.specs.declared.fault.Cause.{Cause}
-use Rattle.mig_headers.specs.declared.fault.Cause.TheVariants.{Missing, P2mFrame, TargetAbsent, VcpuFrame, TooManyFrames, TooManyPairs}
+use Rattle.mig_relay.specs.Common.{Cause, Missing, P2mFrame, TargetAbsent, VcpuFrame, TooManyFrames, TooManyPairs}
 
 -- what END asks of the whole guest, and how many bytes all pairs of an emulator spell
 abbrev pub is_unasked : Cause → Bool

@@ -1,22 +1,9 @@
 -- Which part comes next behind one that was passed on (libxc migration stream, "Headers" and "Records"; libxl migration
 -- stream, "Header" and "Records"), and how many bytes of the record in hand are still to come.
 use Rattle.std.specs.Prelude.{◌≡◌, ◌≢◌, ◌≤◌, ◌+◌, ◌-◌, ◌*◌, ⊤, ℕ, true, false, List, [], ◌∷◌, ◌++◌, length, count_by, Option, Some, None}
-use Rattle.mig_bytes.specs.Bytes.{padding_len}
-use Rattle.mig_bytes.specs.Fields.{le32}
-use Rattle.mig_libxl_form.specs.Content.{LibxlRecord}
-use Rattle.mig_headers.specs.RecordTypes.{type_number}
-use Rattle.mig_headers.specs.declared.fault.Place.{Place}
+use Rattle.mig_relay.specs.Common.{padding_len, le32, LibxlRecord, type_number, Place, End, PageData, image_among, image_in, StreamOf, word_has_data, head_in, RecordHead, Opening, StreamRecord, ImageOf}
 use Rattle.mig_headers.specs.declared.fault.Place.TheVariants.{ImageHeader, DomainHeader, Record, LibxlHeader, LibxlRecord as AtRecord}
-use Rattle.mig_headers.specs.declared.record_type.RecordType.TheVariants.{End, PageData}
-use Rattle.mig_libxl_form.specs.Among.{image_among, image_in}
-use Rattle.mig_libxl_form.specs.Stream.{StreamOf}
-use Rattle.mig_pagetypes.specs.FrameWords.{word_has_data}
-use Rattle.mig_records.specs.Heads.{head_in}
 use Rattle.mig_records.specs.Words.{words}
-use Rattle.mig_records.specs.declared.head.RecordHead.{RecordHead}
-use Rattle.mig_restore_form.specs.Judging.{Opening}
-use Rattle.mig_restore_form.specs.Record.{StreamRecord}
-use Rattle.mig_restore_form.specs.Stream.{ImageOf}
 use Rattle.mig_relay.specs.Parts.{Next, AtMarker, AtVersion, AtKind, AtHead, AtBody, AtFront, AtWords, AtPages, AtPadding}
 use Rattle.mig_relay.specs.Spots.{Outer, Alone, Behind, Spot, AtStart, AtLibxlHeader, AtLibxlHead, AtLibxlBody, AtLibxlPadding, InImage, AtEnd, image_record, is_ident}
 

@@ -1,16 +1,9 @@
 -- Judging an image but for what END asks of the whole guest.
 use Rattle.std.specs.Prelude.{◌-◌, ℕ, List, [], length}
 use Rattle.mig_bytes.specs.Judged.{Judged, ◌>>=◌, placed, tried}
-use Rattle.mig_bytes.specs.Judged.Judged.{Passes}
-use Rattle.mig_bytes.specs.Sequences.{onward}
-use Rattle.mig_headers.specs.declared.fault.Cause.{Cause}
-use Rattle.mig_headers.specs.declared.fault.Place.{Place}
-use Rattle.mig_headers.specs.declared.fault.Place.TheVariants.{Record}
+use Rattle.mig_relay.specs.Common.{Passes, onward, Cause, Place, Record, Opening, before, record_at, StreamRecord, is_ended, ImageOf, image_of, opening_at}
 use Rattle.mig_pvtables.specs.Faults.{fault_of_guest}
-use Rattle.mig_restore_form.specs.Judging.{Opening, before, record_at}
 use Rattle.mig_restore_form.specs.Mean.{sent}
-use Rattle.mig_restore_form.specs.Record.{StreamRecord, is_ended}
-use Rattle.mig_restore_form.specs.Stream.{ImageOf, image_of, opening_at}
 
 -- a record behind these records, at its place; nothing is asked of the whole guest
 abbrev pub open_next : Opening → List StreamRecord → List ℕ → Judged (Place × Cause) StreamRecord

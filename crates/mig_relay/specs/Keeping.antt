@@ -1,24 +1,10 @@
 -- What a relay keeps of the front that it has behind it. It keeps no pages and no bodies.
 use Rattle.std.specs.Prelude.{◌≡◌, ◌≢◌, ◌<◌, ◌≤◌, ◌+◌, ◌*◌, ◌^◌, ◌==◌, ◌||◌, ◌&&◌, not, ℕ, true, false, List, [], ◌∷◌, ◌++◌, length, drop, slice_index, Option, Some, None, ⊤, if◌then◌else◌}
 use Rattle.mig_records.specs.PvBodies.{greater}
-use Rattle.mig_bytes.specs.Bytes.{padding_len}
-use Rattle.mig_bytes.specs.Fields.{le32}
-use Rattle.mig_libxl_form.specs.Content.{LibxlRecord}
-use Rattle.mig_headers.specs.RecordTypes.{most_body, type_number}
-use Rattle.mig_headers.specs.declared.record_type.RecordType.TheVariants.{End, PageData}
-use Rattle.mig_headers.specs.declared.fault.Cause.{Cause}
-use Rattle.mig_libxl_form.specs.Among.{is_libxl_ended, image_in, image_among}
+use Rattle.mig_relay.specs.Common.{padding_len, le32, LibxlRecord, most_body, type_number, End, PageData, Cause, is_libxl_ended, image_in, image_among, StreamOf, image_of_stream, word_has_data, IsBegunBody, piece_len, fault_of_record_body, fault_of_libxl_body, RecordHead, Opening, before, fault_of_fields, most_records, with_places, StreamRecord, FrameEntry, types_of, is_ended, ImageOf}
 use Rattle.mig_libxl_form.specs.Behind.{AreBehind}
-use Rattle.mig_libxl_form.specs.Stream.{StreamOf, image_of_stream}
 use Rattle.mig_libxl_form.specs.declared.head.RecordsBehind.{RecordsBehind}
-use Rattle.mig_pagetypes.specs.FrameWords.{word_has_data}
-use Rattle.mig_relay_bodies.specs.Begun.{IsBegunBody, piece_len}
-use Rattle.mig_relay_bodies.specs.Bodies.{fault_of_record_body, fault_of_libxl_body}
-use Rattle.mig_records.specs.declared.head.RecordHead.{RecordHead}
-use Rattle.mig_restore_form.specs.Judging.{Opening, before, fault_of_fields, most_records, with_places}
-use Rattle.mig_restore_form.specs.Record.{StreamRecord, FrameEntry, types_of, is_ended}
 use Rattle.mig_restore_form.specs.Seen.{IsSeen}
-use Rattle.mig_restore_form.specs.Stream.{ImageOf}
 use Rattle.mig_relay.specs.Parts.{Next, AtMarker, AtVersion, AtKind, AtHead, AtBody, AtFront, AtWords, AtPages, AtPadding, record_with}
 use Rattle.mig_relay.specs.Spots.{Outer, Alone, Behind, Spot, AtStart, AtLibxlHeader, AtLibxlHead, AtLibxlBody, AtLibxlPadding, InImage, AtEnd}
 use Rattle.mig_relay.specs.declared.state.Relay.{Relay}

@@ -1,20 +1,10 @@
 -- The parts of an image (libxc migration stream, "Headers" and "Records"): which comes next behind a faultless front, and
 -- what is judged from there.
 use Rattle.std.specs.Prelude.{◌≡◌, ◌<◌, ℕ, List, [], ◌∷◌, ◌++◌, length, Option}
-use Rattle.mig_bytes.specs.Bytes.{padding_len}
+use Rattle.mig_relay.specs.Common.{padding_len, Passes, Cause, Truncated, Place, DomainHeader, Record, word_pfn, RecordHead, Opening, opening_of, before, body_at, type_in_word, fault_of_list, words_at, with_places, entry_at, pages_at, StreamRecord, FrameEntry, Content, types_of, is_verified, placed_content, ImageOf, opening_behind, kind_at}
 use Rattle.mig_bytes.specs.Judged.{Judged, ◌>>=◌, part, tried, each, placed, said_at}
-use Rattle.mig_bytes.specs.Judged.Judged.{Passes}
-use Rattle.mig_headers.specs.declared.fault.Cause.{Cause}
-use Rattle.mig_headers.specs.declared.fault.Cause.TheVariants.{Truncated}
-use Rattle.mig_headers.specs.declared.fault.Place.{Place}
-use Rattle.mig_headers.specs.declared.fault.Place.TheVariants.{DomainHeader, Record}
-use Rattle.mig_pagetypes.specs.FrameWords.{word_pfn}
 use Rattle.mig_relay.specs.Images.{open_image_at, open_records}
-use Rattle.mig_records.specs.declared.head.RecordHead.{RecordHead}
-use Rattle.mig_restore_form.specs.Judging.{Opening, opening_of, before, body_at, type_in_word, fault_of_list, words_at, with_places, entry_at, pages_at}
-use Rattle.mig_restore_form.specs.Record.{StreamRecord, FrameEntry, Content, types_of, is_verified, placed_content}
 use Rattle.mig_restore_form.specs.Record.Content.{Frames}
-use Rattle.mig_restore_form.specs.Stream.{ImageOf, opening_behind, kind_at}
 
 -- What comes next behind a faultless front of an image, and what of the front decides how it is judged: the marker; the
 -- rest of the image header; the domain header; the head of a record; its body; the words of a PAGE_DATA, which has so many;

@@ -1,11 +1,6 @@
 -- What a relay of a whole stream does.
 use Rattle.std.specs.Prelude.{◌≡◌, true, ◌≤◌, ◌-◌, ◌^◌, ℕ, List, [], ◌++◌, length, min, Option, Some, Result, Ok, Err, ⊤, ◌⊎◌}
-use Rattle.std.specs.Io.KnownBytes.{Consumes, Appends}
-use Rattle.mig_bytes.specs.Faults.{Rose}
-use Rattle.mig_bytes.specs.Judged.Judged.{Passes}
-use Rattle.mig_headers.specs.declared.fault.Cause.{Cause}
-use Rattle.mig_headers.specs.declared.fault.Place.{Place}
-use Rattle.mig_libxl_form.specs.Stream.{StreamOf, stream_at}
+use Rattle.mig_relay.specs.Common.{Consumes, Appends, Rose, Passes, Cause, Place, StreamOf, stream_at}
 use Rattle.mig_relay.specs.Streams.{open_stream_at}
 use Rattle.mig_relay.specs.Following.{place_of_spot}
 use Rattle.mig_relay.specs.Keeping.{HasRecords}

@@ -1,21 +1,9 @@
 -- Where a stream of either form goes on behind a faultless front (libxl migration stream, "Header" and "Records").
 use Rattle.std.specs.Prelude.{ℕ, ◌*◌, ◌==◌, ◌&&◌, nat_le, Bool, List, [], ◌∷◌, ◌++◌, length, take, Option, None, if◌then◌else◌}
-use Rattle.mig_bytes.specs.Bytes.{padding_len}
-use Rattle.mig_bytes.specs.Fields.{be64}
+use Rattle.mig_relay.specs.Common.{padding_len, be64, Passes, LibxlRecord, LibxlContent, Image, libxl_ident, fault_of_marker, Cause, Truncated, Place, StreamOf, Bare, RecordHead, ImageOf}
 use Rattle.mig_bytes.specs.Judged.{Judged, ◌>>=◌, part, placed}
-use Rattle.mig_bytes.specs.Judged.Judged.{Passes}
-use Rattle.mig_libxl_form.specs.Content.{LibxlRecord, LibxlContent}
-use Rattle.mig_libxl_form.specs.Content.LibxlContent.{Image}
-use Rattle.mig_headers.specs.Headers.{libxl_ident, fault_of_marker}
-use Rattle.mig_headers.specs.declared.fault.Cause.{Cause}
-use Rattle.mig_headers.specs.declared.fault.Cause.TheVariants.{Truncated}
-use Rattle.mig_headers.specs.declared.fault.Place.{Place}
 use Rattle.mig_headers.specs.declared.fault.Place.TheVariants.{LibxlRecord as AtRecord}
-use Rattle.mig_libxl_form.specs.Stream.{StreamOf}
-use Rattle.mig_libxl_form.specs.Stream.StreamOf.{Bare}
 use Rattle.mig_relay.specs.Streams.{open_stream_at, open_wrapped, open_libxl_records, open_body}
-use Rattle.mig_records.specs.declared.head.RecordHead.{RecordHead}
-use Rattle.mig_restore_form.specs.Stream.{ImageOf}
 use Rattle.mig_relay.specs.Parts.{Next, AtVersion, AtKind, AtBody, AtWords, AtPages, judged_next}
 
 -- an image that stands alone, or behind these records of a libxl stream and a head of LIBXC_CONTEXT

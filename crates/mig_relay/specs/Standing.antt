@@ -1,10 +1,7 @@
 -- The bytes that a relay stands for, and what a step does for each list of them.
 use Rattle.std.specs.Prelude.{◌≡◌, ◌<◌, ◌-◌, ◌^◌, ℕ, Bool, true, false, List, [], ◌++◌, length, min, Option, Some, None, Result, Ok, Err, ⊤}
 use Rattle.std.specs.Io.KnownBytes.{Consumes, Appends, Keeps as Stays}
-use Rattle.mig_bytes.specs.Judged.Judged.{Faulty}
-use Rattle.mig_headers.specs.declared.fault.Cause.{Cause}
-use Rattle.mig_headers.specs.declared.fault.Place.{Place}
-use Rattle.mig_libxl_form.specs.Stream.{StreamOf}
+use Rattle.mig_relay.specs.Common.{Faulty, Cause, Place, StreamOf}
 use Rattle.mig_relay.specs.Streams.{open_stream_at, IsPassable}
 use Rattle.mig_relay.specs.Following.{ComesNext, place_of_spot}
 use Rattle.mig_relay.specs.Keeping.{Keeps, HasRecords}

@@ -1,24 +1,11 @@
 -- Judging a stream of either form but for what END asks of the whole guest, and for how many bytes an emulator's pairs spell.
 use Rattle.std.specs.Prelude.{◌≡◌, ℕ, ◌&&◌, ◌==◌, List, [], length, drop, nat_le, if◌then◌else◌}
-use Rattle.mig_bytes.specs.Bytes.{padding_len}
-use Rattle.mig_bytes.specs.Fields.{le32, be64}
+use Rattle.mig_relay.specs.Common.{padding_len, le32, be64, Passes, Faulty, onward, LibxlRecord, LibxlContent, Image, Pairs, libxl_ident, Cause, Truncated, Place, is_libxl_ended, StreamOf, header_at, Bare, Wrapped, fault_of_pair_body}
 use Rattle.mig_bytes.specs.Judged.{Judged, ◌>>=◌, part, placed, said_at}
-use Rattle.mig_bytes.specs.Judged.Judged.{Passes, Faulty}
-use Rattle.mig_bytes.specs.Sequences.{onward}
-use Rattle.mig_libxl_form.specs.Content.{LibxlRecord, LibxlContent}
-use Rattle.mig_libxl_form.specs.Content.LibxlContent.{Image, Pairs}
-use Rattle.mig_headers.specs.Headers.{libxl_ident}
-use Rattle.mig_headers.specs.declared.fault.Cause.{Cause}
-use Rattle.mig_headers.specs.declared.fault.Cause.TheVariants.{Truncated}
-use Rattle.mig_headers.specs.declared.fault.Place.{Place}
 use Rattle.mig_headers.specs.declared.fault.Place.TheVariants.{LibxlHeader, LibxlRecord as AtRecord}
-use Rattle.mig_libxl_form.specs.Among.{is_libxl_ended}
 use Rattle.mig_libxl_form.specs.Judging.{emulator_key, context_at, skipped_at, libxl_head_at}
-use Rattle.mig_libxl_form.specs.Stream.{StreamOf, header_at}
-use Rattle.mig_libxl_form.specs.Stream.StreamOf.{Bare, Wrapped}
 use Rattle.mig_policy.specs.PairMaps.{pairs_in}
 use Rattle.mig_relay.specs.Images.{open_image_at}
-use Rattle.mig_relay_bodies.specs.Bodies.{fault_of_pair_body}
 
 abbrev pub open_pairs_at : ℕ → List ℕ → Judged Cause LibxlContent
 open_pairs_at len input = said_at Truncated fault_of_pair_body (λ body. Pairs (emulator_key 258 body) (pairs_in (drop 8 body))) len input

@@ -1,16 +1,10 @@
 ghost use Rattle.std.specs.Prelude.{◌≡◌, ◌≢◌, ◌<◌, ◌≤◌, ◌+◌, [], ◌∷◌, ◌++◌, List, ℕ, None, Some, length, IfSome, IsSome};
-ghost use Rattle.mig_bytes.specs.Bytes.{padding_len};
-ghost use Rattle.mig_libxl_form.specs.Content.{LibxlRecord, LibxlContent};
-ghost use Rattle.mig_libxl_form.specs.Among.{image_in};
-ghost use Rattle.mig_relay_bodies.specs.Begun.{piece_len};
-ghost use Rattle.mig_relay_bodies.specs.Bodies.{fault_of_record_body, fault_of_libxl_body};
+ghost use Rattle.mig_relay.specs.Common.{padding_len, LibxlRecord, LibxlContent, image_in, piece_len, fault_of_record_body, fault_of_libxl_body, Opening, before, most_records, StreamRecord, Content};
 ghost use Rattle.mig_relay.specs.Keeping.{KeepsBody, KeepsHead, KeepsOpen, KeepsOuter, KeepsFirst, IsBodied, IsOther, top_with, with_one};
 ghost use Rattle.mig_relay.specs.Parts.{AtBody, AtPadding, record_with};
 ghost use Rattle.mig_relay.specs.Spots.{Outer, AtLibxlBody, AtLibxlPadding, InImage};
 ghost use Rattle.mig_relay.specs.Steps.{StepMoved, RisesOnFault};
 ghost use Rattle.mig_relay.specs.declared.state.Coming.TheVariants as comes;
-ghost use Rattle.mig_restore_form.specs.Judging.{Opening, before, most_records};
-ghost use Rattle.mig_restore_form.specs.Record.{StreamRecord, Content};
 
 use crate::answer::{RelayAnswer, Step};
 use crate::state::{Coming, Relay, answer};

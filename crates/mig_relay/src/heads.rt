@@ -1,17 +1,12 @@
 ghost use Rattle.std.specs.Prelude.{min, ◌≡◌, ◌≢◌, ◌<◌, ◌≤◌, ◌+◌, [], List, false, true, None, Some, IfSome, IsSome};
-ghost use Rattle.mig_libxl_form.specs.Content.{LibxlRecord};
-ghost use Rattle.mig_headers.specs.RecordTypes.{most_body};
+ghost use Rattle.mig_relay.specs.Common.{LibxlRecord, most_body, IsBegunBody, piece_len, fault_of_record_body, fault_of_libxl_body, Opening, before, most_records, StreamRecord, types_of};
 ghost use Rattle.mig_libxl_form.specs.Judging.{allows_length as length_allowed};
-ghost use Rattle.mig_relay_bodies.specs.Begun.{IsBegunBody, piece_len};
-ghost use Rattle.mig_relay_bodies.specs.Bodies.{fault_of_record_body, fault_of_libxl_body};
 ghost use Rattle.mig_records.specs.Faults.{fault_of_length};
 ghost use Rattle.mig_relay.specs.Keeping.{KeepsOuter, KeepsGoing, KeepsRecords, fault_of_empty, with_one};
 ghost use Rattle.mig_relay.specs.Parts.{AtHead};
 ghost use Rattle.mig_relay.specs.Spots.{Outer, AtLibxlHead, InImage};
 ghost use Rattle.mig_relay.specs.Steps.{StepMoved, RisesOnFault};
 ghost use Rattle.mig_relay.specs.declared.state.Coming.TheVariants as comes;
-ghost use Rattle.mig_restore_form.specs.Judging.{Opening, before, most_records};
-ghost use Rattle.mig_restore_form.specs.Record.{StreamRecord, types_of};
 
 use crate::answer::{RelayAnswer, Step};
 use crate::state::{Coming, Relay, answer};

@@ -1,14 +1,10 @@
 ghost use Rattle.std.specs.Prelude.{◌≡◌, ◌<◌, ◌≤◌, ◌+◌, ◌*◌, ◌^◌, [], List, ℕ, true, false, length, slice_index};
-ghost use Rattle.mig_bytes.specs.Bytes.{padding_len};
-ghost use Rattle.mig_headers.specs.RecordTypes.{most_body};
-ghost use Rattle.mig_pagetypes.specs.FrameWords.{word_has_data};
+ghost use Rattle.mig_relay.specs.Common.{padding_len, most_body, word_has_data, Opening, before, StreamRecord, FrameEntry};
 ghost use Rattle.mig_relay.specs.Keeping.{KeepsHead, KeepsOuter, KeepsWords, IsPages};
 ghost use Rattle.mig_relay.specs.Parts.{AtFront, AtWords, AtPages};
 ghost use Rattle.mig_relay.specs.Spots.{Outer, InImage};
 ghost use Rattle.mig_relay.specs.Steps.{StepMoved, RisesOnFault};
 ghost use Rattle.mig_relay.specs.declared.state.Coming.TheVariants as comes;
-ghost use Rattle.mig_restore_form.specs.Judging.{Opening, before};
-ghost use Rattle.mig_restore_form.specs.Record.{StreamRecord, FrameEntry};
 
 use crate::answer::{RelayAnswer, Step};
 use crate::state::{Coming, Relay, answer};

@@ -1,7 +1,5 @@
 ghost use Rattle.std.specs.Prelude.{true, false, ◌≡◌, ◌*◌, ◌+◌, ◌-◌, ◌^◌, min, [], List, ℕ, length, is_ok, is_some, Some, if◌then◌else◌, Ok};
-ghost use Rattle.mig_bytes.specs.Bytes.{Puts};
-ghost use Rattle.mig_bytes.specs.Faults.{FaultHasCause};
-ghost use Rattle.mig_libxl_form.specs.Stream.{StreamOf};
+ghost use Rattle.mig_relay.specs.Common.{Puts, FaultHasCause, StreamOf};
 ghost use Rattle.mig_relay.specs.Streams.{IsPassable};
 ghost use Rattle.mig_relay.specs.Following.{in_hand};
 ghost use Rattle.mig_relay.specs.Keeping.{Keeps, Stands, words_in_hand};

@@ -1,13 +1,7 @@
 -- What is known of a context behind a head, and behind a piece.
-use Rattle.mig_relay_bodies.proofs.Common.{◌≡◌, ◌≢◌, ℕ, ◌+◌, ◌<◌, ◌≤◌, List, [], ◌++◌, length, true, Some, None, sym, ap, subst, ◌∙◌, arith, append_assoc, append-nil, length-append, common_steps, le32, scan, HeaderSize, in32, Chain, Entry, IsHeaderFault, IsBegunContext, not_header, not_sized}
-use Rattle.std.proofs.Common.{Ok, Err}
-use Rattle.mig_bytes.specs.Fields.{le16}
+use Rattle.mig_relay_bodies.proofs.Common.{◌≡◌, ◌≢◌, ℕ, ◌+◌, ◌<◌, ◌≤◌, List, [], ◌++◌, length, true, Some, None, sym, ap, subst, ◌∙◌, arith, append_assoc, append-nil, length-append, common_steps, le32, scan, HeaderSize, in32, Chain, Entry, IsHeaderFault, IsBegunContext, not_header, not_sized, Ok, Err, le16, NoHeader, ShortEntry, NoEnd, scan_is, in16, past16, past32, fault_of_scanned, ChainSays, IsAhead, chain_piece}
 use Rattle.mig_headers.specs.Contexts.{ChainTo, fault_at, is_last}
 use Rattle.mig_headers.specs.declared.fault.ContextFault.{ContextFault}
-use Rattle.mig_headers.specs.declared.fault.ContextFault.TheVariants.{NoHeader, ShortEntry, NoEnd}
-use Rattle.mig_headers.proofs.Chains.{scan_is}
-use Rattle.mig_headers.proofs.ContextTexts.{in16, past16, past32}
-use Rattle.mig_relay_bodies.specs.ContextChain.{fault_of_scanned, ChainSays, IsAhead, chain_piece}
 
 -- ---- a chain that was followed up to here
 

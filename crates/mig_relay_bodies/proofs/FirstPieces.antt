@@ -1,8 +1,6 @@
 -- What is known behind the first piece of a body.
-use Rattle.mig_relay_bodies.proofs.Common.{◌≡◌, ◌≢◌, ℕ, ◌+◌, ◌-◌, ◌*◌, ◌≤◌, min, List, ◌++◌, length, take, drop, fold, Option, Some, sym, ap, subst, ◌∙◌, arith, length-drop, option_or, ◌/◌, le32, fault_of_entries, fault_of_pv_info, fault_of_body, fault_of_content, VcpuBasic, VcpuExtended, HvmParam, in32, Cause, BadLength, pairs_fault, piece_of, params, IsKnown, no_bytes, then_byte, BodyForm, PvInfo, P2mFrames, BasicVcpu, OtherVcpu, HvmParams, EmulatorPairs, EmulatorContext, Knows, Nothing, Texts, Params, Basic, Verdict, Pairs}
-use Rattle.mig_records.specs.PvBodies.{fault_of_p2m}
+use Rattle.mig_relay_bodies.proofs.Common.{◌≡◌, ◌≢◌, ℕ, ◌+◌, ◌-◌, ◌*◌, ◌≤◌, min, List, ◌++◌, length, take, drop, fold, Option, Some, sym, ap, subst, ◌∙◌, arith, length-drop, option_or, ◌/◌, le32, fault_of_entries, fault_of_pv_info, fault_of_body, fault_of_content, VcpuBasic, VcpuExtended, HvmParam, in32, Cause, BadLength, pairs_fault, piece_of, params, IsKnown, no_bytes, then_byte, BodyForm, PvInfo, P2mFrames, BasicVcpu, OtherVcpu, HvmParams, EmulatorPairs, EmulatorContext, Knows, Nothing, Texts, Params, Basic, Verdict, Pairs, fault_of_p2m, FitsForm, fault_of_form}
 use Rattle.mig_libxl_form.specs.Judging.{fault_of_context}
-use Rattle.mig_relay_bodies.specs.Begun.{FitsForm, fault_of_form}
 use Rattle.mig_relay_bodies.proofs.Fronts.{none_left, info_told, other_told, basic_told, params_misfit, params_told}
 
 -- ---- behind a first piece

@@ -1,13 +1,9 @@
 -- What the first bytes of a body tell of its fault.
-use Rattle.mig_relay_bodies.proofs.Common.{◌≡◌, ◌≢◌, ℕ, zero, suc, ◌+◌, ◌*◌, ◌<◌, ◌≤◌, true, false, not, nat_eq, nat_lt, List, [], ◌∷◌, ◌++◌, length, take, drop, Option, Some, None, refl, sym, ap, ◌∙◌, arith, length-append, length-drop, eq-eqb, ne_eqb, option_or, common_steps, drop-append-le, ◌/◌, little_number, le32, fault_of_key, fault_of_entry, fault_of_entries, fault_of_table, fault_of_pv_info, fault_of_body, fault_of_content, PartCode, VcpuBasic, VcpuExtended, HvmParam, first_fault, Cause, BadLength, in32, params, most_gdt_entries}
-use Rattle.std.proofs.Common.{get_or, length-take-le, zero-add}
+use Rattle.mig_relay_bodies.proofs.Common.{◌≡◌, ◌≢◌, ℕ, zero, suc, ◌+◌, ◌*◌, ◌<◌, ◌≤◌, true, false, not, nat_eq, nat_lt, List, [], ◌∷◌, ◌++◌, length, take, drop, Option, Some, None, refl, sym, ap, ◌∙◌, arith, length-append, length-drop, eq-eqb, ne_eqb, option_or, common_steps, drop-append-le, ◌/◌, little_number, le32, fault_of_key, fault_of_entry, fault_of_entries, fault_of_table, fault_of_pv_info, fault_of_body, fault_of_content, PartCode, VcpuBasic, VcpuExtended, HvmParam, first_fault, Cause, BadLength, in32, params, most_gdt_entries, get_or, length-take-le, zero-add, get_or_append_left, get_or-take, drop-drop, fault_by_shape, GdtEnts}
 use Rattle.std.proofs.Math.Seq.{drop-append-add}
-use Rattle.std.proofs.lemmas.List.{get_or_append_left, get_or-take, drop-drop}
 use Rattle.byteorder.specs.Numbers.{little_from-append, little_from-take}
 use Rattle.mig_bytes.specs.Fields.{le64}
-use Rattle.mig_records.specs.Shapes.{fault_by_shape}
 use Rattle.mig_records.specs.declared.shape.Shape.TheVariants.{Named}
-use Rattle.mig_headers.specs.declared.fault.Cause.TheVariants.{GdtEnts}
 
 -- ---- numbers in the first bytes
 

@@ -1,8 +1,6 @@
 -- What is known behind a piece more, and of the whole body.
-use Rattle.mig_relay_bodies.proofs.Common.{◌≡◌, ℕ, ◌+◌, ◌-◌, ◌*◌, ◌<◌, ◌^◌, min, List, [], ◌∷◌, ◌++◌, length, drop, fold, Option, sym, ap, subst, ◌∙◌, arith, append_assoc, append-nil, length-append, length-drop, option_or, ◌/◌, drop-append-le, fault_of_entries, fault_of_content, VcpuBasic, HvmParam, scan, Cause, pairs_fault, piece_of, params, IsKnown, IsBegunContext, no_bytes, then_byte, Chain, BodyForm, Knows, Nothing, Entries, Texts, Params, Basic, Verdict, Pairs}
+use Rattle.mig_relay_bodies.proofs.Common.{◌≡◌, ℕ, ◌+◌, ◌-◌, ◌*◌, ◌<◌, ◌^◌, min, List, [], ◌∷◌, ◌++◌, length, drop, fold, Option, sym, ap, subst, ◌∙◌, arith, append_assoc, append-nil, length-append, length-drop, option_or, ◌/◌, drop-append-le, fault_of_entries, fault_of_content, VcpuBasic, HvmParam, scan, Cause, pairs_fault, piece_of, params, IsKnown, IsBegunContext, no_bytes, then_byte, Chain, BodyForm, Knows, Nothing, Entries, Texts, Params, Basic, Verdict, Pairs, fault_of_scan, piece_len, fault_behind, IsBegunBody}
 use Rattle.std.proofs.lemmas.List.Sums.{fold-append}
-use Rattle.mig_records.specs.Shapes.{fault_of_scan}
-use Rattle.mig_relay_bodies.specs.Begun.{piece_len, fault_behind, IsBegunBody}
 use Rattle.mig_relay_bodies.specs.declared.body.BodySeen.{BodySeen}
 use Rattle.mig_relay_bodies.proofs.Fronts.{none_left, or_none, params_further}
 use Rattle.mig_relay_bodies.proofs.FirstPieces.{KnownFirst, FirstOf}

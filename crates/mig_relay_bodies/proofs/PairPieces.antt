@@ -1,5 +1,5 @@
 -- Pairs that are judged byte by byte have the fault of the whole bytes.
-use Rattle.mig_relay_bodies.proofs.Common.{◌≡◌, inl, ℕ, suc, ◌+◌, ◌<◌, true, false, not, List, [], ◌∷◌, ◌++◌, length, nat_eq, nat_lt, Option, Some, None, refl, sym, ap, ◌∙◌, arith, append_assoc, append-nil, length-append, common_steps, Pairs, no_bytes, then_byte, fault_in_pairs}
+use Rattle.mig_relay_bodies.proofs.Common.{◌≡◌, inl, ℕ, suc, ◌+◌, ◌<◌, true, false, not, List, [], ◌∷◌, ◌++◌, length, nat_eq, nat_lt, Option, Some, None, refl, sym, ap, ◌∙◌, arith, append_assoc, append-nil, length-append, common_steps, Pairs, no_bytes, then_byte, fault_in_pairs, torn_in}
 use Rattle.std.proofs.Common.{◌⊎◌, inr, Bool, cond, eqb-true}
 use Rattle.std.specs.Prelude.{◌||◌, fold}
 use Rattle.std.specs.List.{AllByRecursion, onto_first}
@@ -7,7 +7,6 @@ use Rattle.std.proofs.lemmas.Option.{none-some}
 use Rattle.mig_headers.specs.Pairs.{is_key_byte, texts_in}
 use Rattle.mig_policy.specs.PairFaults.{torn_at, bad_key_at, fine_len, first_of, pairs_fault}
 use Rattle.mig_policy.proofs.TextSteps.{some_texts, torn_cons}
-use Rattle.mig_relay_bodies.specs.PairPieces.{torn_in}
 
 -- an text text, and the texts whose first goes on with it
 abbrev pub onto : List ℕ → List (List ℕ) → List (List ℕ)

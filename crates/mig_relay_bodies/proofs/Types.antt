@@ -1,17 +1,13 @@
 -- Bodies of which only the length is asked, and what each type of record is judged by.
-use Rattle.mig_relay_bodies.proofs.Common.{◌≡◌, ◌≢◌, ℕ, zero, suc, ◌+◌, ◌*◌, true, false, not, nat_eq, List, [], ◌∷◌, length, drop, Option, Some, None, refl, sym, ap, subst, ◌∙◌, arith, inl, ◌/◌, option_or, eq-eqb, fault_of_key, fault_of_entries, fault_of_table, PartCode, first_fault, Cause, BadLength, IsKnown, Entry, Entries, Verdict}
-use Rattle.std.specs.Prelude.{◌%◌}
+use Rattle.mig_relay_bodies.proofs.Common.{◌≡◌, ◌≢◌, ℕ, zero, suc, ◌+◌, ◌*◌, true, false, not, nat_eq, List, [], ◌∷◌, length, drop, Option, Some, None, refl, sym, ap, subst, ◌∙◌, arith, inl, ◌/◌, option_or, eq-eqb, fault_of_key, fault_of_entries, fault_of_table, PartCode, first_fault, Cause, BadLength, IsKnown, Entry, Entries, Verdict, ◌%◌, layout, CpuidLeaf, Msr, Truncated}
 use Rattle.std.proofs.lemmas.Bool.{and_parts, eqb-true}
 use Rattle.mig_bytes.proofs.Joins.{part_whole}
 use Rattle.mig_bytes.specs.Judged.{Judged, ◌>>=◌, part, tried, said_at}
 use Rattle.mig_bytes.specs.Judged.Judged.{Passes, Faulty}
 use Rattle.mig_bytes.specs.Walk.Reaches.{here}
-use Rattle.mig_records.specs.Layouts.{layout}
 use Rattle.mig_records.specs.declared.layout.Layout.{Layout}
-use Rattle.mig_guest.specs.declared.part_code.PartCode.TheVariants.{CpuidLeaf, Msr}
 use Rattle.mig_headers.proofs.RecordNumbers.{numbers_are_inverse}
 use Rattle.mig_headers.specs.RecordTypes.{record_row_of, type_number, type_of_number, is_optional}
-use Rattle.mig_headers.specs.declared.fault.Cause.TheVariants.{Truncated}
 use Rattle.mig_headers.specs.declared.kind.Kind.{Kind}
 use Rattle.mig_headers.specs.declared.record_type.RecordType.{RecordType}
 use Rattle.mig_headers.specs.declared.record_type.RecordType.TheVariants.{End, PageData, X86PvInfo, X86PvP2mFrames, X86PvVcpuBasic, X86PvVcpuExtended, X86PvVcpuXsave, SharedInfo, X86TscInfo, HvmContext, HvmParams, Toolstack, X86PvVcpuMsrs, Verify, Checkpoint, CheckpointDirtyPfnList, StaticDataEnd, X86CpuidPolicy, X86MsrPolicy}

@@ -1,15 +1,8 @@
 -- A body of which some first bytes were taken: what is known of it, and how it is cut into pieces.
 use Rattle.std.specs.Prelude.{◌≡◌, ◌≤◌, ℕ, ◌+◌, ◌-◌, ◌*◌, ◌/◌, min, true, List, [], ◌++◌, length, drop, fold, Option, ⊤}
-use Rattle.std.specs.Option.{option_or}
-use Rattle.mig_records.specs.Layouts.{layout, fault_of_entries}
-use Rattle.mig_records.specs.PvBodies.{fault_of_pv_info, fault_of_p2m}
-use Rattle.mig_records.specs.Shapes.{fault_of_body, fault_of_content, fault_of_scan}
+use Rattle.mig_relay_bodies.specs.Common.{option_or, layout, fault_of_entries, fault_of_pv_info, fault_of_p2m, fault_of_body, fault_of_content, fault_of_scan, VcpuBasic, VcpuExtended, HvmParam, scan, Cause, pairs_fault}
 use Rattle.mig_records.specs.declared.layout.Layout.{Layout}
-use Rattle.mig_guest.specs.declared.part_code.PartCode.TheVariants.{VcpuBasic, VcpuExtended, HvmParam}
-use Rattle.mig_headers.specs.Contexts.{scan}
-use Rattle.mig_headers.specs.declared.fault.Cause.{Cause}
 use Rattle.mig_libxl_form.specs.Judging.{fault_of_context}
-use Rattle.mig_policy.specs.PairFaults.{pairs_fault}
 use Rattle.mig_relay_bodies.specs.Bodies.{fault_of_pair_body}
 use Rattle.mig_relay_bodies.specs.ContextChain.{IsBegunContext, chain_piece}
 use Rattle.mig_relay_bodies.specs.PairPieces.{no_bytes, then_byte}

@@ -1,7 +1,6 @@
 -- An HVM context that comes in pieces: what is known of it behind its first bytes.
 use Rattle.std.specs.Prelude.{◌≡◌, ◌≢◌, ◌≤◌, ◌<◌, ◌⊎◌, ℕ, ◌+◌, ◌-◌, min, List, ◌++◌, length, Option, Some, None, Result, Ok, Err, nat_lt, if◌then◌else◌}
-use Rattle.mig_headers.specs.Contexts.{ChainTo, scan}
-use Rattle.mig_headers.specs.declared.fault.ContextFault.{ContextFault}
+use Rattle.mig_relay_bodies.specs.Common.{ChainTo, scan, ContextFault}
 use Rattle.mig_headers.specs.declared.fault.ContextFault.TheVariants.{NoHeader, HeaderSize}
 use Rattle.mig_relay_bodies.specs.declared.chain.Chain.{Chain}
 use Rattle.mig_relay_bodies.specs.declared.chain.Chain.TheVariants.{Entry, Judged}

@@ -2,7 +2,7 @@
 use Rattle.std.specs.Prelude.{◌≡◌, ◌≢◌, ℕ, List, None}
 use Rattle.mig_bytes.specs.Judged.{said_at}
 use Rattle.mig_headers.specs.declared.fault.Cause.TheVariants.{Truncated}
-use Rattle.mig_restore_form.specs.Judging.{Before, fault_of_fields, body_at}
+use Rattle.mig_relay_bodies.specs.Common.{Before, fault_of_fields, body_at}
 use Rattle.mig_relay_bodies.specs.Bodies.{fault_of_record_body, record_content}
 
 -- behind a head without fault the body of any record but a PAGE_DATA is a part with the causes of the whole body

@@ -1,3 +1,4 @@
+mod Common
 pub mod Bodies
 pub mod ContextChain
 pub mod PairPieces

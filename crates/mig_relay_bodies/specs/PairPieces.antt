@@ -1,9 +1,7 @@
 -- Pairs of texts that come in pieces: what is known of them behind their first bytes.
 use Rattle.std.specs.Prelude.{ℕ, ◌+◌, false, not, Option, Some, None, ◌==◌, ◌||◌, nat_lt, if◌then◌else◌}
-use Rattle.std.specs.Option.{option_or}
+use Rattle.mig_relay_bodies.specs.Common.{option_or, Cause, first_of}
 use Rattle.mig_headers.specs.Pairs.{is_key_byte}
-use Rattle.mig_headers.specs.declared.fault.Cause.{Cause}
-use Rattle.mig_policy.specs.PairFaults.{first_of}
 use Rattle.mig_relay_bodies.specs.declared.pairs.Pairs.{Pairs}
 
 -- before the first byte

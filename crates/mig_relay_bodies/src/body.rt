@@ -1,9 +1,6 @@
 ghost use Rattle.std.specs.Prelude.{min, ◌≡◌, ◌≢◌, ◌≤◌, ◌<◌, ◌+◌, ◌++◌, List, ℕ, length, true, None, [], Some};
 ghost use Rattle.std.specs.declared.option.Option.{Option};
-ghost use Rattle.mig_headers.specs.declared.fault.Cause.{Cause};
-ghost use Rattle.mig_headers.specs.RecordTypes.{most_body, record_row_of};
-ghost use Rattle.mig_headers.specs.Contexts.{scan};
-ghost use Rattle.mig_records.specs.Shapes.{fault_of_scan};
+ghost use Rattle.mig_relay_bodies.specs.Common.{Cause, most_body, record_row_of, scan, fault_of_scan, X86PvP2mFrames};
 ghost use Rattle.mig_libxl_form.specs.Judging.{allows_length};
 ghost use Rattle.mig_records.specs.Faults.{fault_of_length};
 ghost use Rattle.mig_relay_bodies.specs.Bodies.{fault_of_record_body, fault_of_typed, fault_of_libxl_body};
@@ -11,7 +8,6 @@ ghost use Rattle.mig_relay_bodies.specs.Begun.{IsBegunBody, IsKnown, piece_len};
 ghost use Rattle.mig_relay_bodies.specs.ContextChain.{IsBegunContext};
 ghost use Rattle.mig_relay_bodies.specs.declared.known.BodyForm.TheVariants.{P2mFrames};
 ghost use Rattle.mig_relay_bodies.specs.declared.known.Knows.TheVariants.{Nothing};
-ghost use Rattle.mig_headers.specs.declared.record_type.RecordType.TheVariants.{X86PvP2mFrames};
 
 use crate::chain::{Chain, behind_piece, context_fault, next_piece};
 use crate::front::{behind_first, gdt_fault, params_fault};

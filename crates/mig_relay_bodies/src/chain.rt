@@ -1,8 +1,6 @@
 ghost use Rattle.std.specs.Prelude.{◌≡◌, ◌≤◌, ◌<◌, ◌+◌, ◌-◌, ◌++◌, List, ℕ, length, IfSome, IfNone as OnNone};
-ghost use Rattle.mig_bytes.specs.Fields.{le16, le32};
+ghost use Rattle.mig_relay_bodies.specs.Common.{le16, le32, ContextFault, ChainTo, scan};
 ghost use Rattle.std.specs.declared.option.Option.{Option};
-ghost use Rattle.mig_headers.specs.declared.fault.ContextFault.{ContextFault};
-ghost use Rattle.mig_headers.specs.Contexts.{ChainTo, scan};
 ghost use Rattle.mig_relay_bodies.specs.declared.chain.Chain.TheVariants.{Judged};
 ghost use Rattle.mig_relay_bodies.specs.ContextChain.{ChainSays, IsAhead, IsHeaderFault, IsBegunContext, fault_of_scanned, chain_piece};
 

@@ -1,18 +1,10 @@
 -- The front of a stream that the reader has behind it.
-use Rattle.mig_restore.proofs.Common.{◌≡◌, ℕ, List, [], ◌∷◌, ◌++◌, length, Bool, true, false, nat_eq, Option, None, is_some, Result, Ok, Err, refl, sym, ap, ◌∙◌, length-map, Stop, stop_at, AgreesWithJudging, Passes, Cause, Record, GuestOf, RecordsSeen, put_record, empty_guest, StreamRecord, types_of, is_ended, is_verified, Opening, differs_behind, IsSeen, image_of, records_at, IsReading, Follows}
+use Rattle.mig_restore.proofs.Common.{◌≡◌, ℕ, List, [], ◌∷◌, ◌++◌, length, Bool, true, false, nat_eq, Option, None, is_some, Result, Ok, Err, refl, sym, ap, ◌∙◌, length-map, Stop, stop_at, AgreesWithJudging, Passes, Cause, Record, GuestOf, RecordsSeen, put_record, empty_guest, StreamRecord, types_of, is_ended, is_verified, Opening, differs_behind, IsSeen, image_of, records_at, IsReading, Follows, any_stop, mapped, stop, placed_fine, placed_stops, Reading, next_at, placed_next, IsUnchecked, next_placed, some_differs, unchecked_more, finds, ended_more, one_more_record, meant_as_sent}
 use Rattle.mig_bytes.proofs.Arrivals as fronts
-use Rattle.mig_bytes.proofs.Joins.{any_stop, mapped, stop}
-use Rattle.mig_bytes.proofs.Placed.{placed_fine, placed_stops}
 use Rattle.mig_bytes.specs.Sequences.{sequence_at}
 use Rattle.mig_pvtables.specs.Blank.{blank}
-use Rattle.mig_restore.specs.declared.read.Reading.{Reading}
 use Rattle.mig_restore_form.specs.Mean.{sent, differs_of}
-use Rattle.mig_restore_form.specs.Judging.{next_at}
-use Rattle.mig_restore_form.specs.Stream.{placed_next}
-use Rattle.mig_restore_form.proofs.Compared.{IsUnchecked, next_placed, some_differs, unchecked_more}
 use Rattle.mig_restore.proofs.Compared.{judged_too, differs_more}
-use Rattle.mig_restore_form.proofs.Laws.{finds}
-use Rattle.mig_restore_form.proofs.Meaning.{ended_more, one_more_record, meant_as_sent}
 
 abbrev is_last : StreamRecord → Bool
 is_last r = nat_eq r.type 0

@@ -1,11 +1,7 @@
 -- The entries of the first words are set, one after another.
-use Rattle.mig_restore.proofs.Common.{◌≡◌, ◌+◌, ◌<◌, ℕ, List, [], ◌∷◌, ◌++◌, Option, Result, Ok, Err, refl, sym, ap, subst, ◌∙◌, length, take, get_or, GuestOf, word_pfn, type_in_word, put_entry, put_entries}
-use Rattle.std.proofs.lemmas.List.{map-append, take_more}
+use Rattle.mig_restore.proofs.Common.{◌≡◌, ◌+◌, ◌<◌, ℕ, List, [], ◌∷◌, ◌++◌, Option, Result, Ok, Err, refl, sym, ap, subst, ◌∙◌, length, take, get_or, GuestOf, word_pfn, type_in_word, put_entry, put_entries, map-append, take_more, take-append-drop, FrameMap, AreEntriesSet, AreEntriesBegun, entry_name, word_name}
 use Rattle.std.proofs.lemmas.List.Sums.{fold-append}
-use Rattle.std.proofs.lemmas.List.{take-append-drop}
 use Rattle.std.specs.Prelude.{drop, OnErr}
-use Rattle.mig_guest.specs.Frames.{FrameMap}
-use Rattle.mig_restore.specs.Begun.{AreEntriesSet, AreEntriesBegun, entry_name, word_name}
 
 pub none_set : (g : GuestOf) → AreEntriesSet g g []
 none_set g = record { entries = []; named = refl; set = refl }

@@ -1,8 +1,7 @@
 -- What stands behind a right marker.
-use Rattle.mig_restore.proofs.Common.{◌≡◌, ℕ, List, ◌++◌, refl, Judged, ◌>>=◌, Passes, Truncated, Cause, Place, Opening, ImageOf, records_at, marker_at}
+use Rattle.mig_restore.proofs.Common.{◌≡◌, ℕ, List, ◌++◌, refl, Judged, ◌>>=◌, Passes, Truncated, Cause, Place, Opening, ImageOf, records_at, marker_at, part_whole}
 use Rattle.byteorder.specs.Endian.{big_bytes}
 use Rattle.mig_bytes.specs.Fields.{be64}
-use Rattle.mig_bytes.proofs.Joins.{part_whole}
 use Rattle.mig_headers.specs.Headers.{marker, behind_marker}
 use Rattle.mig_restore_form.specs.Stream.{image_at, image_behind, opening_at, opening_behind}
 

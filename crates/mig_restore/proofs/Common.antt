@@ -2,11 +2,11 @@
 pub use Rattle.mig_records.proofs.PvLaws.{p2m_is_spelled}
 pub use Rattle.mig_records.specs.PvBodies.{fault_of_p2m}
 pub use Rattle.mig_records.specs.Shapes.{HasBodyLength, fault_of_body, parts_of_body}
-pub use Rattle.mig_bytes.proofs.Joins.{done, each_ends, each_step, mapped, refused, stopped, then_reads}
+pub use Rattle.mig_bytes.proofs.Joins.{any_stop, done, each_ends, each_step, judged_so, mapped, part_whole, refused, stop, stopped, then_reads}
 pub use Rattle.mig_bytes.specs.Bytes.{AreBytes, padding_len}
 pub use Rattle.mig_bytes.specs.Fields.{le32}
-pub use Rattle.mig_bytes.specs.Judged.{AgreesWithJudging, Judged, part, placed, stop_at, ◌>>=◌}
-pub use Rattle.mig_bytes.specs.Judged.Judged.{Passes}
+pub use Rattle.mig_bytes.specs.Judged.{AgreesWithJudging, Judged, part, placed, said_at, stop_at, tried, ◌>>=◌}
+pub use Rattle.mig_bytes.specs.Judged.Judged.{Faulty, Passes}
 pub use Rattle.mig_bytes.specs.declared.stop.Stop.{Stop}
 pub use Rattle.mig_headers.specs.declared.fault.Cause.{Cause}
 pub use Rattle.mig_headers.specs.declared.fault.Cause.TheVariants.{Truncated}
@@ -19,24 +19,36 @@ pub use Rattle.mig_guest.specs.Tables.{IsWithin, entry}
 pub use Rattle.mig_guest.specs.declared.part_code.PartCode.{PartCode}
 pub use Rattle.mig_headers.specs.declared.kind.Kind.{Kind}
 pub use Rattle.mig_headers.specs.declared.record_type.RecordType.{RecordType}
-pub use Rattle.mig_restore_form.specs.Judging.{Opening, before, body_at, code_of_type, entry_at, fault_of_level, fault_of_page, head_at, lists_of, opening_of, type_in_word, with_places}
-pub use Rattle.mig_restore_form.specs.Mean.{GrewByRecord, IsBegun, agrees, checked_in, checked_of, differing, empty_guest, entries_in, type_in_guest, put_content, put_entries, put_entry, put_record}
+pub use Rattle.mig_restore_form.specs.Judging.{Opening, before, body_at, code_of_type, entry_at, fault_of_level, fault_of_list, fault_of_page, head_at, lists_of, next_at, opening_of, record_at, type_in_word, with_places}
+pub use Rattle.mig_restore_form.specs.Mean.{GrewByRecord, IsBegun, agrees, checked_in, checked_of, differing, empty_guest, entries_in, is_same_frame, put_content, put_entries, put_entry, put_record, some_frame, type_in_guest}
 pub use Rattle.mig_restore_form.specs.Record.{Content, FrameEntry, StreamRecord, is_ended, is_verified, placed_content, types_of}
 pub use Rattle.mig_restore_form.specs.Record.Content.{Checks, Frames, Lists, Nothing, Sets}
 pub use Rattle.mig_restore_form.specs.Seen.{IsSeen}
 pub use Rattle.mig_restore_form.specs.Spelled.{Follows, IsGoodWord}
-pub use Rattle.mig_restore_form.specs.Stream.{ImageOf, image_of, kind_at, marker_at, records_at, version_at}
+pub use Rattle.mig_restore_form.specs.Stream.{ImageOf, image_of, kind_at, marker_at, placed_next, records_at, version_at}
 pub use Rattle.mig_restore_form.specs.declared.head.RecordsSeen.{RecordsSeen}
 pub use Rattle.mig_pagetypes.specs.FrameWords.{word_has_data, word_pfn}
 pub use Rattle.mig_pagetypes.specs.Limits.{pfn_limit}
-pub use Rattle.mig_pagetypes.specs.PageTypes.{level_of}
+pub use Rattle.mig_pagetypes.specs.PageTypes.{level_of, type_has_data}
 pub use Rattle.mig_pagetypes.specs.declared.page_type.PageType.{PageType}
 pub use Rattle.mig_pvtables.specs.Faults.{fault_of_guest}
 pub use Rattle.mig_records.specs.Faults.{fault_of_count}
 pub use Rattle.mig_restore.specs.Compared.{IsPut, IsWithinRecords, differs_behind, differs_with}
 pub use Rattle.mig_restore.specs.Reads.{IsReading}
-pub use Rattle.std.proofs.Common.{Bool, Err, List, None, Ok, Option, Result, Some, [], ap, arith, cond, drop, false, get_or, is_some, length, nat_eq, not, refl, rules, subst, sym, take, true, ℕ, ◌++◌, ◌+◌, ◌-◌, ◌<◌, ◌^◌, ◌∙◌, ◌∷◌, ◌≡◌, ◌≢◌, ◌≤◌}
+pub use Rattle.std.proofs.Common.{Bool, Err, List, None, Ok, Option, Result, Some, [], ap, arith, cond, drop, false, get_or, inl, inr, is_some, length, nat_eq, not, refl, rules, subst, sym, take, true, ℕ, ◌++◌, ◌+◌, ◌-◌, ◌<◌, ◌^◌, ◌∙◌, ◌∷◌, ◌≡◌, ◌≢◌, ◌≤◌, ◌⊎◌}
 pub use Rattle.std.proofs.lemmas.Bool.{eq-eqb, ne_eqb}
-pub use Rattle.std.proofs.lemmas.List.{length-map, map-append}
+pub use Rattle.std.proofs.lemmas.List.{length-map, map-append, take-append-drop, take_all, take_more}
 pub use Rattle.std.proofs.lemmas.Option.{none-some, same_Some}
-pub use Rattle.std.specs.Prelude.{◌||◌}
+pub use Rattle.std.specs.Prelude.{OnErr, OnOk, ◌||◌}
+pub use Rattle.mig_bytes.proofs.Placed.{placed_ends, placed_fine, placed_stops, placed_then}
+pub use Rattle.mig_bytes.proofs.Said.{said_read}
+pub use Rattle.mig_bytes.specs.declared.stop.Stop.TheVariants.{Memory, Refused}
+pub use Rattle.mig_guest.specs.Frames.{FrameMap, framed}
+pub use Rattle.mig_restore.specs.Begun.{AreEntriesBegun, AreEntriesSet, entry_name, word_name}
+pub use Rattle.mig_restore.specs.declared.read.Reading.{Reading}
+pub use Rattle.mig_restore_form.proofs.Batches.{carries, entry_here, level_within, list_refused, pages_read, pages_stopped, place_within, places_len}
+pub use Rattle.mig_restore_form.proofs.Compared.{IsPlaced, IsSaid, IsUnchecked, body_said, checked_more, differing_join, next_placed, some_differs, unchecked_more, verified_more}
+pub use Rattle.mig_restore_form.proofs.Growth.{empty_begun, grows_frame, grows_list, grows_not, grows_on, grows_sets, has_length, same_kinds, sets_no_emulator, word_inside}
+pub use Rattle.mig_restore_form.proofs.Laws.{behind_kind, behind_version, finds}
+pub use Rattle.mig_restore_form.proofs.Meaning.{ended_more, entry_set, meant_as_sent, one_more_entry, one_more_record, sent_kind}
+pub use Rattle.mig_restore_form.proofs.Parts.{asks, begins, behind_body, behind_head, behind_record, goes_on, last_faulty, last_fine, not_last, padded}

@@ -1,9 +1,6 @@
 -- What the reader makes of a record where frames are compared.
-use Rattle.mig_restore.proofs.Common.{◌≡◌, ◌≢◌, ℕ, ◌+◌, List, [], ◌∷◌, ◌++◌, Bool, true, false, cond, not, nat_eq, ◌||◌, Option, Some, None, refl, sym, ap, ◌∙◌, Judged, AgreesWithJudging, Passes, Ok, Kind, GuestOf, FrameEntry, StreamRecord, Content, Nothing, Frames, Sets, Lists, Checks, types_of, is_verified, placed_content, before, put_entries, put_content, put_record, entries_in, checked_in, checked_of, differing, agrees, differs_behind, differs_with, IsPut}
-use Rattle.mig_guest.specs.Frames.{FrameMap}
+use Rattle.mig_restore.proofs.Common.{◌≡◌, ◌≢◌, ℕ, ◌+◌, List, [], ◌∷◌, ◌++◌, Bool, true, false, cond, not, nat_eq, ◌||◌, Option, Some, None, refl, sym, ap, ◌∙◌, Judged, AgreesWithJudging, Passes, Ok, Kind, GuestOf, FrameEntry, StreamRecord, Content, Nothing, Frames, Sets, Lists, Checks, types_of, is_verified, placed_content, before, put_entries, put_content, put_record, entries_in, checked_in, checked_of, differing, agrees, differs_behind, differs_with, IsPut, FrameMap, one_more_record, sent_kind, IsSaid, IsPlaced, IsUnchecked, verified_more, checked_more, differing_join}
 use Rattle.mig_restore_form.specs.Mean.{sent, differs_of}
-use Rattle.mig_restore_form.proofs.Meaning.{one_more_record, sent_kind}
-use Rattle.mig_restore_form.proofs.Compared.{IsSaid, IsPlaced, IsUnchecked, verified_more, checked_more, differing_join}
 
 -- ---- the body that the reader takes
 

@@ -1,14 +1,5 @@
 -- A frame of a guest whose page is taken into its place: what it says of the entry, whatever the answer is.
-use Rattle.mig_restore.proofs.Common.{◌≡◌, ◌<◌, ℕ, List, [], ◌∷◌, Option, Some, None, Result, Ok, Err, true, length, sym, ap, subst, ◌∙◌, AgreesWithJudging, Judged, AreBytes, GuestOf, Stop, Cause, PageType, word_pfn, word_has_data, type_in_word, level_of, type_in_guest, entry_at, entry, pfn_limit, put_entry, GrewByRecord, IsInside, IsWithin, IsGoodWord, same_Some}
-use Rattle.std.proofs.Common.{◌⊎◌, inl, inr}
-use Rattle.std.specs.Prelude.{OnOk, OnErr}
-use Rattle.mig_bytes.specs.declared.stop.Stop.TheVariants.{Memory}
-use Rattle.mig_guest.specs.Frames.{framed}
-use Rattle.mig_pagetypes.specs.PageTypes.{type_has_data}
-use Rattle.mig_restore_form.proofs.Growth.{word_inside, grows_frame}
-use Rattle.mig_restore_form.proofs.Meaning.{entry_set}
-use Rattle.mig_restore_form.proofs.Batches.{level_within}
-use Rattle.mig_restore.specs.Begun.{AreEntriesSet}
+use Rattle.mig_restore.proofs.Common.{◌≡◌, ◌<◌, ℕ, List, [], ◌∷◌, Option, Some, None, Result, Ok, Err, true, length, sym, ap, subst, ◌∙◌, AgreesWithJudging, Judged, AreBytes, GuestOf, Stop, Cause, PageType, word_pfn, word_has_data, type_in_word, level_of, type_in_guest, entry_at, entry, pfn_limit, put_entry, GrewByRecord, IsInside, IsWithin, IsGoodWord, same_Some, ◌⊎◌, inl, inr, OnOk, OnErr, Memory, framed, type_has_data, word_inside, grows_frame, entry_set, level_within, AreEntriesSet}
 use Rattle.mig_restore.specs.PageReads.{ReadsPage}
 use Rattle.mig_restore.proofs.Begun.{one_set}
 use Rattle.mig_restore.proofs.Entries.{with_page, bad_page}

@@ -1,11 +1,7 @@
 -- What stays of a guest where the pages of a PAGE_DATA end with an error.
 use Rattle.std.specs.Prelude.{◌≡◌, ℕ, List, ◌++◌, map}
-use Rattle.mig_guest.specs.Guests.{GuestOf}
+use Rattle.mig_restore.specs.Common.{GuestOf, PageType, type_in_word, put_entries, FrameEntry}
 use Rattle.mig_pagetypes.specs.FrameWords.{word_pfn}
-use Rattle.mig_pagetypes.specs.declared.page_type.PageType.{PageType}
-use Rattle.mig_restore_form.specs.Judging.{type_in_word}
-use Rattle.mig_restore_form.specs.Mean.{put_entries}
-use Rattle.mig_restore_form.specs.Record.{FrameEntry}
 
 -- the frame number and the type of an entry, and of a word
 abbrev pub entry_name : FrameEntry → ℕ × PageType

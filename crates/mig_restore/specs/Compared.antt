@@ -1,8 +1,6 @@
 -- What the reader makes of a record where frames are compared: of the guest, and of the number of entries that differ.
 use Rattle.std.specs.Prelude.{◌≡◌, ◌≤◌, ℕ, ◌+◌, ◌*◌, ◌^◌, ⊤, Bool, Option, Some, None, ◌==◌, if◌then◌else◌}
-use Rattle.mig_guest.specs.Guests.{GuestOf}
-use Rattle.mig_restore_form.specs.Mean.{put_content, differing, checked_in}
-use Rattle.mig_restore_form.specs.Record.{StreamRecord, Content, placed_content}
+use Rattle.mig_restore.specs.Common.{GuestOf, put_content, differing, checked_in, StreamRecord, Content, placed_content}
 
 -- what a body says was kept, behind a VERIFY or before it, and so many of its entries differ
 pub record IsPut (verified : Bool) (before after : GuestOf) (n : ℕ) (said : Content) : Type 0 where

@@ -1,3 +1,4 @@
+mod Common
 pub mod Begun
 pub mod Compared
 pub mod PageReads

@@ -1,14 +1,8 @@
 -- What taking the page of an entry does.
 use Rattle.std.specs.Prelude.{◌≡◌, ℕ, List, length, Option, None, Result, OnOk}
-use Rattle.mig_bytes.specs.Bytes.{AreBytes}
-use Rattle.mig_bytes.specs.Faults.{RisesOnReadFault}
-use Rattle.mig_bytes.specs.Judged.{AgreesWithJudging, said_at}
+use Rattle.mig_restore.specs.Common.{AreBytes, RisesOnReadFault, AgreesWithJudging, said_at, Cause, Truncated, PageType, fault_of_level}
 use Rattle.mig_bytes.specs.declared.stop.Stop.{Stop}
-use Rattle.mig_headers.specs.declared.fault.Cause.{Cause}
-use Rattle.mig_headers.specs.declared.fault.Cause.TheVariants.{Truncated}
 use Rattle.mig_pagetypes.specs.PageTypes.{level_of}
-use Rattle.mig_pagetypes.specs.declared.page_type.PageType.{PageType}
-use Rattle.mig_restore_form.specs.Judging.{fault_of_level}
 
 -- a page is taken, whole and without fault, or it is told why not
 pub record ReadsPage (type : PageType) (place top : ℕ) (left left' : Option (List ℕ)) (count count' : ℕ) (page : List ℕ) (result : Result (Unit {0}) (Stop Cause)) : Type 0 where

@@ -1,12 +1,8 @@
 -- What a reader of images answers.
 use Rattle.std.specs.Prelude.{◌≡◌, ℕ, List, length, Option, Result}
-use Rattle.mig_bytes.specs.Answers.{or_stop}
-use Rattle.mig_bytes.specs.Judged.{AgreesWithJudging}
+use Rattle.mig_restore.specs.Common.{or_stop, AgreesWithJudging, Cause, mean, differs_of, ImageOf, image_at, image_behind}
 use Rattle.mig_bytes.specs.declared.answer.Answer.{Answer}
-use Rattle.mig_headers.specs.declared.fault.Cause.{Cause}
 use Rattle.mig_headers.specs.declared.fault.Place.{Place}
-use Rattle.mig_restore_form.specs.Mean.{mean, differs_of}
-use Rattle.mig_restore_form.specs.Stream.{ImageOf, image_at, image_behind}
 use Rattle.mig_restore.specs.declared.read.Reading.{Reading}
 
 -- a reading of an image: the guest that its records mean, its version, the number of its records, and how many entries

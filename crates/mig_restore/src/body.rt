@@ -1,20 +1,12 @@
 ghost use Rattle.std.specs.Prelude.{◌≡◌, ◌≤◌, ◌^◌, ◌*◌, IfOk, OnOk, OnErr, [], ◌∷◌, IsErrOf, length, vec_len, true, false, None, Some};
 ghost use Rattle.std.specs.List.{All, AllByRecursion};
-ghost use Rattle.mig_bytes.specs.Faults.{RisesOnReadFault};
-ghost use Rattle.mig_bytes.specs.Judged.{AgreesWithJudging, each, plain_at};
-ghost use Rattle.mig_headers.specs.declared.fault.Cause.TheVariants.{Truncated};
-ghost use Rattle.mig_bytes.specs.declared.stop.Stop.TheVariants.{Memory};
-ghost use Rattle.mig_headers.specs.RecordTypes.{record_row_of, type_of_number, most_body};
-ghost use Rattle.mig_headers.specs.declared.record_type.RecordType.{RecordType};
+ghost use Rattle.mig_restore.specs.Common.{RisesOnReadFault, AgreesWithJudging, each, plain_at, Truncated, Memory, record_row_of, type_of_number, most_body, RecordType, fault_of_length, put_entry, put_entries, put_content, GrewByRecord, sets_at, info_at, p2m_at, words_at, with_places, entry_at, list_at, pages_at, typed_at, body_at};
 ghost use Rattle.mig_guest.specs.PartCodes.{row_of, code_number};
 ghost use Rattle.mig_guest.specs.Formed.{is_emulator_code};
 ghost use Rattle.mig_records.specs.Layouts.{IsSmallKey};
 ghost use Rattle.mig_records.specs.Shapes.{fault_of_body, parts_of_body, set_parts, HasBodyLength};
-ghost use Rattle.mig_records.specs.Faults.{fault_of_length};
 ghost use Rattle.mig_headers.specs.declared.kind.Kind.TheVariants.{Pv};
 ghost use Rattle.mig_restore.specs.Begun.{AreEntriesBegun, AreEntriesSet};
-ghost use Rattle.mig_restore_form.specs.Mean.{put_entry, put_entries, put_content, GrewByRecord};
-ghost use Rattle.mig_restore_form.specs.Judging.{sets_at, info_at, p2m_at, words_at, with_places, entry_at, list_at, pages_at, typed_at, body_at};
 ghost use Rattle.mig_restore_form.specs.Record.Content.{Nothing};
 ghost use Rattle.mig_restore_form.specs.Spelled.{IsGoodWord};
 

@@ -1,15 +1,9 @@
 ghost use Rattle.std.specs.Prelude.{◌≡◌, ◌≤◌, ◌<◌, ◌+◌, ◌^◌, IfOk, OnOk, IfSome, None, length, true};
 ghost use Rattle.std.specs.FinMap as maps;
 ghost use Rattle.std.specs.Option.{option_copied};
-ghost use Rattle.mig_bytes.specs.Faults.{RisesOnReadFault};
-ghost use Rattle.mig_bytes.specs.Judged.{AgreesWithJudging, each};
-ghost use Rattle.mig_headers.specs.RecordTypes.{record_row_of, type_of_number, most_body};
-ghost use Rattle.mig_headers.specs.declared.record_type.RecordType.{RecordType};
-ghost use Rattle.mig_records.specs.Faults.{fault_of_length};
+ghost use Rattle.mig_restore.specs.Common.{RisesOnReadFault, AgreesWithJudging, each, record_row_of, type_of_number, most_body, RecordType, fault_of_length, with_places, entry_at, pages_at, body_at, placed_content};
 ghost use Rattle.mig_restore.specs.Compared.{IsPut, differs_with};
-ghost use Rattle.mig_restore_form.specs.Judging.{with_places, entry_at, pages_at, body_at};
 ghost use Rattle.mig_restore_form.specs.Mean.{some_frame, is_same_page as same_page, is_same_frame as same_frame, agrees, differing, checked_in, GrewByRecord};
-ghost use Rattle.mig_restore_form.specs.Record.{placed_content};
 
 use crate::body::{take_body, take_list};
 use crate::page::EntryPage;

@@ -1,4 +1,4 @@
-ghost use Rattle.mig_bytes.specs.Bytes.{AreBytes};
+ghost use Rattle.mig_restore.specs.Common.{AreBytes};
 ghost use Rattle.mig_restore.specs.PageReads.{ReadsPage};
 
 use mig_bytes::{Source, Stop, take_part};

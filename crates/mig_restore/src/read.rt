@@ -1,20 +1,10 @@
 ghost use Rattle.std.specs.Prelude.{◌≡◌, ℕ, ◌≤◌, ◌<◌, ◌+◌, ◌==◌, ◌∷◌, [], ◌++◌, List, ⊤, true, None, Some, is_some, IfOk, OnOk, IsErrOf};
-ghost use Rattle.mig_bytes.specs.Answers.{or_stop};
-ghost use Rattle.mig_bytes.specs.Faults.{RisesOnReadFault};
-ghost use Rattle.mig_bytes.specs.Judged.{AgreesWithJudging};
-ghost use Rattle.mig_bytes.specs.declared.stop.Stop.TheVariants.{Memory};
-ghost use Rattle.mig_headers.specs.RecordTypes.{record_row_of, type_of_number, most_body};
-ghost use Rattle.mig_headers.specs.declared.record_type.RecordType.{RecordType};
-ghost use Rattle.mig_records.specs.Faults.{fault_of_length};
+ghost use Rattle.mig_restore.specs.Common.{or_stop, RisesOnReadFault, AgreesWithJudging, Memory, record_row_of, type_of_number, most_body, RecordType, fault_of_length, sent, put_record, IsBegun, GrewByRecord, StreamRecord, types_of, is_verified, Opening, Before, most_records, opening_of, head_at, record_at, next_at, image_at, image_behind, records_at, opening_at, opening_behind, marker_at, version_at, kind_at};
 ghost use Rattle.mig_records.specs.Heads.{head_in};
 ghost use Rattle.mig_pvtables.specs.Faults.{fault_of_guest};
 ghost use Rattle.mig_pvtables.specs.Whole.{IsStreamedBare};
-ghost use Rattle.mig_restore_form.specs.Mean.{sent, put_record, IsBegun, GrewByRecord};
 ghost use Rattle.mig_restore.specs.Compared.{differs_behind, IsWithinRecords};
-ghost use Rattle.mig_restore_form.specs.Record.{StreamRecord, types_of, is_verified};
-ghost use Rattle.mig_restore_form.specs.Judging.{Opening, Before, most_records, opening_of, head_at, record_at, next_at};
 ghost use Rattle.mig_restore_form.specs.Seen.{IsSeen};
-ghost use Rattle.mig_restore_form.specs.Stream.{image_at, image_behind, records_at, opening_at, opening_behind, marker_at, version_at, kind_at};
 ghost use Rattle.mig_restore.specs.Reads.{ReadsImage, ReadsRest, IsReading};
 
 use crate::answer::StreamAnswer;

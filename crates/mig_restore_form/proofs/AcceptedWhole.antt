@@ -1,12 +1,8 @@
 -- An accepted guest is whole: each content that is spelled keeps it well formed, and its END asks for the rest.
-use Rattle.mig_restore_form.proofs.Common.{◌≡◌, ℕ, zero, suc, ◌<◌, ◌≤◌, Bool, true, false, List, [], ◌∷◌, ◌++◌, length, Option, Some, is_some, refl, sym, ap, subst, ◌∙◌, arith, eqb-true, none-some, same_Some, All, common_steps, AreBytes, le32, record_row_of, type_number, type_of_number, Kind, Pv, Hvm, RecordType, numbers_are_inverse, pfn_limit, word_has_data, type_has_data, PageType, IsInside, GuestOf, words, IsInOrder, shape_of, bodies_are_spelled, is_shaped, Opening, type_in_guest, put_entry, put_entries, put_content, IsBegun, GrewByRecord, FrameEntry, Content, StreamRecord, types_of, is_verified, is_ended, Sets, Lists, IsPage, IsEntry, AreEntries, HasContent, IsComplete, Follows, Accepted, Spells, All-head, All-tail, X86PvP2mFrames, Notab, bytes_back, blank, optional, ends, pages, sets, info, p2m_frames, static_end, verify, no_part, one_more, most_body}
-use Rattle.mig_guest.specs.Formed.{HasNoEmulators}
-use Rattle.mig_restore_form.specs.Spelled.{IsGoodWord}
+use Rattle.mig_restore_form.proofs.Common.{◌≡◌, ℕ, zero, suc, ◌<◌, ◌≤◌, Bool, true, false, List, [], ◌∷◌, ◌++◌, length, Option, Some, is_some, refl, sym, ap, subst, ◌∙◌, arith, eqb-true, none-some, same_Some, All, common_steps, AreBytes, le32, record_row_of, type_number, type_of_number, Kind, Pv, Hvm, RecordType, numbers_are_inverse, pfn_limit, word_has_data, type_has_data, PageType, IsInside, GuestOf, words, IsInOrder, shape_of, bodies_are_spelled, is_shaped, Opening, type_in_guest, put_entry, put_entries, put_content, IsBegun, GrewByRecord, FrameEntry, Content, StreamRecord, types_of, is_verified, is_ended, Sets, Lists, IsPage, IsEntry, AreEntries, HasContent, IsComplete, Follows, Accepted, Spells, All-head, All-tail, X86PvP2mFrames, Notab, bytes_back, blank, optional, ends, pages, sets, info, p2m_frames, static_end, verify, no_part, one_more, most_body, HasNoEmulators, IsGoodWord, bytes_front, IsOfBytes}
 use Rattle.mig_order.specs.Order.IsInOrder.{optional as is_optional, ordered as is_ordered}
-use Rattle.mig_records.proofs.BodyBytes.{bytes_front}
 use Rattle.mig_records.proofs.Reading.{AreOctets}
 use Rattle.mig_records.proofs.Small.{small_parts}
-use Rattle.mig_pvtables.specs.Blank.{IsOfBytes}
 use Rattle.mig_pvtables.specs.Whole.{IsWhole}
 use Rattle.mig_pvtables.proofs.BlankAgain.{blank_again}
 use Rattle.mig_pvtables.proofs.BlankBytesKept.{blank_bytes}

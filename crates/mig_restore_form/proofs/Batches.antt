@@ -1,22 +1,9 @@
 -- The body of a PAGE_DATA record: what judging lets pass is spelled as the format says, and what is spelled so passes.
-use Rattle.mig_restore_form.proofs.Common.{zero, suc, ◌≡◌, ℕ, ◌+◌, ◌*◌, ◌<◌, ◌↔◌, List, [], ◌∷◌, ◌++◌, length, Bool, true, false, cond, nat_eq, not, Option, Some, None, refl, sym, ap, subst, ◌∙◌, arith, append_assoc, length-append, Result, Ok, Err, eqb-true, eqb-false, eq-eqb, ne_eqb, le-ltb, not-false, common_steps, le32, le64, ◌>>=◌, part, tried, Judged, Passes, Faulty, part_whole, both_pass, same_passes, then_passes, tried_none, Truncated, Kind, word_pfn, word_has_data, words, FrameEntry, Content, type_in_word, entries_at, pages_at, IsPage, Pv, Hvm, PageType, type_in_guest, EachEntry, IsWithin, FrameOf, IsEntry, AreEntries, IsBatch, rows_fine, no_fault, type_of, type_has_data, Cause, Frames, Notab}
-use Rattle.std.proofs.Common.{get_or}
-use Rattle.std.specs.List.{count_by}
-use Rattle.std.specs.Option.{option_or}
-use Rattle.mig_headers.proofs.FirstFaults.{both_none}
+use Rattle.mig_restore_form.proofs.Common.{zero, suc, ◌≡◌, ℕ, ◌+◌, ◌*◌, ◌<◌, ◌↔◌, List, [], ◌∷◌, ◌++◌, length, Bool, true, false, cond, nat_eq, not, Option, Some, None, refl, sym, ap, subst, ◌∙◌, arith, append_assoc, length-append, Result, Ok, Err, eqb-true, eqb-false, eq-eqb, ne_eqb, le-ltb, not-false, common_steps, le32, le64, ◌>>=◌, part, tried, Judged, Passes, Faulty, part_whole, both_pass, same_passes, then_passes, tried_none, Truncated, Kind, word_pfn, word_has_data, words, FrameEntry, Content, type_in_word, entries_at, pages_at, IsPage, Pv, Hvm, PageType, type_in_guest, EachEntry, IsWithin, FrameOf, IsEntry, AreEntries, IsBatch, rows_fine, no_fault, type_of, type_has_data, Cause, Frames, Notab, get_or, count_by, option_or, both_none, BadLength, word_type, some_has_data, fault_of_count, fault_of_words, count_rows, data_len_of, fault_of_data, fault_of_list, words_at, entry_at, with_places, fault_of_level, fault_of_page, list_at, stopped, then_reads, level_of, type_or_none, entry, length-map-range_with_len}
 use Rattle.mig_bytes.specs.Judged.{Matches, AgreesWithJudging, each}
-use Rattle.mig_headers.specs.declared.fault.Cause.TheVariants.{BadLength}
-use Rattle.mig_pagetypes.specs.FrameWords.{word_type, some_has_data}
-use Rattle.mig_records.specs.Faults.{fault_of_count, fault_of_words, count_rows}
-use Rattle.mig_records.specs.Words.{data_len_of}
-use Rattle.mig_restore_form.specs.Judging.{fault_of_data, fault_of_list, words_at, entry_at, with_places, fault_of_level, fault_of_page, list_at}
-use Rattle.mig_bytes.proofs.Joins.{stopped, then_reads}
-use Rattle.mig_pagetypes.specs.PageTypes.{level_of, type_or_none}
-use Rattle.mig_guest.specs.Tables.{entry}
 use Rattle.mig_pvtables.proofs.Within.{table_within}
 use Rattle.mig_bytes.specs.declared.stop.Stop.{Stop}
 use Rattle.std.specs.Result.{IsErrAnd}
-use Rattle.std.proofs.lemmas.List.FromFn.{length-map-range_with_len}
 use Rattle.mig_records.proofs.WordFaults.{none_is_wrong, nothing_found}
 use Rattle.mig_restore_form.proofs.Parts.{taken}
 use Rattle.mig_bytes.specs.declared.stop.Stop.TheVariants.{Refused, ReadFault, Memory}

@@ -1,6 +1,5 @@
 -- Frames that are compared: behind a VERIFY no more are sent, and before it none are compared.
-use Rattle.mig_restore_form.proofs.Common.{◌≡◌, ◌≢◌, ℕ, ◌+◌, List, [], ◌∷◌, ◌++◌, Bool, true, false, cond, not, nat_eq, ◌||◌, Option, Some, None, is_some, refl, sym, ap, subst, ◌∙◌, append_assoc, map-append, part, tried, Passes, both_pass, same_passes, said_passes, Truncated, padding_len, le32, Kind, RecordType, numbers_are_inverse, type_of_number, is_optional, PartCode, Part, fault_of_body, parts_of_body, fault_of_pv_info, fault_of_p2m, FrameEntry, StreamRecord, Content, Nothing, Frames, Sets, Lists, Checks, types_of, is_verified, placed_content, Opening, Before, before, head_at, body_at, typed_at, coded_at, code_of_type, lists_of, pages_at, entries_at, plain_at, entries_in, entries_of, checked_in, checked_of, differing, agrees, or_parts, list_any-append, append-nil, PageData, X86PvInfo, X86PvP2mFrames, FrameMap, record_at, next_at}
-use Rattle.std.proofs.lemmas.List.Sums.{sum_by-append}
+use Rattle.mig_restore_form.proofs.Common.{◌≡◌, ◌≢◌, ℕ, ◌+◌, List, [], ◌∷◌, ◌++◌, Bool, true, false, cond, not, nat_eq, ◌||◌, Option, Some, None, is_some, refl, sym, ap, subst, ◌∙◌, append_assoc, map-append, part, tried, Passes, both_pass, same_passes, said_passes, Truncated, padding_len, le32, Kind, RecordType, numbers_are_inverse, type_of_number, is_optional, PartCode, Part, fault_of_body, parts_of_body, fault_of_pv_info, fault_of_p2m, FrameEntry, StreamRecord, Content, Nothing, Frames, Sets, Lists, Checks, types_of, is_verified, placed_content, Opening, Before, before, head_at, body_at, typed_at, coded_at, code_of_type, lists_of, pages_at, entries_at, plain_at, entries_in, entries_of, checked_in, checked_of, differing, agrees, or_parts, list_any-append, append-nil, PageData, X86PvInfo, X86PvP2mFrames, FrameMap, record_at, next_at, sum_by-append}
 use Rattle.mig_restore_form.specs.Mean.{differs_of}
 use Rattle.mig_restore_form.proofs.Parts.{asks, begins, behind_record, behind_head, behind_body}
 

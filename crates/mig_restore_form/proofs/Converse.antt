@@ -1,10 +1,6 @@
 -- What is spelled as the format says is accepted.
-use Rattle.mig_restore_form.proofs.Common.{◌≡◌, ℕ, ◌≤◌, ◌<◌, List, [], ◌∷◌, ◌++◌, length, true, false, nat_le, not, Option, None, refl, sym, ap, subst, ◌∙◌, arith, append_assoc, drop, length-drop, ◌⊎◌, inl, inr, common_steps, le-ltb, length-map, padding_len, le32, be32, Judged, ◌>>=◌, part, placed, Passes, Faulty, part_whole, same_passes, fault_of_marker, fault_of_image, fault_of_domain, kind_of_number, IsImageHeader, IsDomainHeader, type_of_number, Cause, TooManyRecords, Truncated, Place, Kind, GuestOf, long_rows, length_rows, type_allows, fault_of_long, fault_of_length, IsInOrder, fault_of_type, fault_of_guest, StreamRecord, is_ended, is_verified, placed_content, types_of, Opening, Before, opening_of, before, fault_of_head, head_at, fault_at_end, body_at, Follows, IsImage, Accepted, ImageOf, image_of, records_at, then_passes, tried_none, no_fault, said_at, said_goes, Spells, image_is_spelled, domain_is_spelled, faultless_is_in_order, record_at, next_at, sent, placed_next, most_body, most_records}
-use Rattle.std.proofs.Common.{take, take-append-drop, length-take-le}
-use Rattle.std.proofs.lemmas.Bool.{lt-leb}
+use Rattle.mig_restore_form.proofs.Common.{◌≡◌, ℕ, ◌≤◌, ◌<◌, List, [], ◌∷◌, ◌++◌, length, true, false, nat_le, not, Option, None, refl, sym, ap, subst, ◌∙◌, arith, append_assoc, drop, length-drop, ◌⊎◌, inl, inr, common_steps, le-ltb, length-map, padding_len, le32, be32, Judged, ◌>>=◌, part, placed, Passes, Faulty, part_whole, same_passes, fault_of_marker, fault_of_image, fault_of_domain, kind_of_number, IsImageHeader, IsDomainHeader, type_of_number, Cause, TooManyRecords, Truncated, Place, Kind, GuestOf, long_rows, length_rows, type_allows, fault_of_long, fault_of_length, IsInOrder, fault_of_type, fault_of_guest, StreamRecord, is_ended, is_verified, placed_content, types_of, Opening, Before, opening_of, before, fault_of_head, head_at, fault_at_end, body_at, Follows, IsImage, Accepted, ImageOf, image_of, records_at, then_passes, tried_none, no_fault, said_at, said_goes, Spells, image_is_spelled, domain_is_spelled, faultless_is_in_order, record_at, next_at, sent, placed_next, most_body, most_records, take, take-append-drop, length-take-le, lt-leb, neither_some, unless_ok}
 use Rattle.mig_restore_form.specs.Stream.{IsRefused, opening_at, image_at}
-use Rattle.mig_headers.proofs.FirstFaults.{neither_some}
-use Rattle.mig_headers.proofs.HeaderLaws.{unless_ok}
 use Rattle.mig_headers.specs.declared.header.ImageHeader.{ImageHeader}
 use Rattle.mig_headers.specs.declared.header.DomainHeader.{DomainHeader}
 use Rattle.mig_restore_form.proofs.Meaning.{sent_kind}

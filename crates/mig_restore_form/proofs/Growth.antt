@@ -1,17 +1,7 @@
 -- What reading keeps of a guest: each frame, part or list of P2M frames that is set leaves it on its way.
-use Rattle.mig_restore_form.proofs.Common.{◌≡◌, ◌≢◌, ℕ, ◌≤◌, ◌<◌, List, [], ◌∷◌, length, Bool, true, false, cond, nat_eq, Option, Some, None, is_some, refl, sym, ap, subst, ◌∙◌, AllByRecursion, same_Some, none-some, ltb-false, arith, ne_eqb, unwrap_or, AreBytes, Kind, Pv, Hvm, pfn_limit, type_has_data, PageType, IsInside, EachEntry, IsWithin, GuestOf, Part, PartMap, p2m_key, part_cmp, record_row_of, type_number, type_of_number, RecordType, numbers_are_inverse, PartCode, code_number, shape_of, has_shape, fault_of_body, parts_of_body, set_p2m, IsP2m, IsBody, bodies_are_spelled, code_of_type, type_in_guest, Sets, says_of_part, last_bytes, parts_say_of_part, policy_says_of_part, empty_guest, IsBegun, GrewByRecord, word_pfn, option_map, option_or, eq_by_cmp, nat_cmp, nat_cmp_total, is_policy, FrameMap, FrameOf, framed, PartKey, tied, part_total, part_exact, End, listed_over, bytes_back, most_body}
-use Rattle.mig_guest.specs.Formed.{AreParts, is_emulator_code, width_of}
+use Rattle.mig_restore_form.proofs.Common.{◌≡◌, ◌≢◌, ℕ, ◌≤◌, ◌<◌, List, [], ◌∷◌, length, Bool, true, false, cond, nat_eq, Option, Some, None, is_some, refl, sym, ap, subst, ◌∙◌, AllByRecursion, same_Some, none-some, ltb-false, arith, ne_eqb, unwrap_or, AreBytes, Kind, Pv, Hvm, pfn_limit, type_has_data, PageType, IsInside, EachEntry, IsWithin, GuestOf, Part, PartMap, p2m_key, part_cmp, record_row_of, type_number, type_of_number, RecordType, numbers_are_inverse, PartCode, code_number, shape_of, has_shape, fault_of_body, parts_of_body, set_p2m, IsP2m, IsBody, bodies_are_spelled, code_of_type, type_in_guest, Sets, says_of_part, last_bytes, parts_say_of_part, policy_says_of_part, empty_guest, IsBegun, GrewByRecord, word_pfn, option_map, option_or, eq_by_cmp, nat_cmp, nat_cmp_total, is_policy, FrameMap, FrameOf, framed, PartKey, tied, part_total, part_exact, End, listed_over, bytes_back, most_body, AreParts, is_emulator_code, width_of, row_of, set_parts, HasBodyLength, nat_cmp-IsAntisymmetric, Xtab, is_type_of, Each, insert_holds, remove_holds, is_outside, IsSmallKey, bodies_say_bytes, sets_bytes, list_bytes}
 use Rattle.mig_guest.proofs.Kept.{empty_formed, frames_keep}
-use Rattle.mig_guest.specs.PartCodes.{row_of}
-use Rattle.mig_records.specs.Shapes.{set_parts, HasBodyLength}
-use Rattle.std.specs.FinMap.{nat_cmp-IsAntisymmetric}
-use Rattle.mig_pagetypes.specs.declared.page_type.PageType.TheVariants.{Xtab}
-use Rattle.mig_guest.specs.Frames.{is_type_of}
-use Rattle.mig_guest.proofs.Found.{Each, insert_holds, remove_holds}
 use Rattle.mig_guest.proofs.PartRows.{number_found}
-use Rattle.mig_records.specs.Words.{is_outside}
-use Rattle.mig_records.specs.Layouts.{IsSmallKey}
-use Rattle.mig_records.proofs.BodyBytes.{bodies_say_bytes, sets_bytes, list_bytes}
 use Rattle.mig_records.proofs.Kept.{bodies_say_parts, bodies_keep_formed, set_plain, sets_nothing}
 use Rattle.mig_records.proofs.P2mFormed.{p2m_keeps}
 use Rattle.mig_restore_form.proofs.Meaning.{said}

@@ -1,12 +1,9 @@
 -- What judging accepts is spelled as the format says.
-use Rattle.mig_restore_form.proofs.Common.{◌≡◌, ℕ, ◌≤◌, ◌<◌, List, [], ◌∷◌, ◌++◌, length, true, false, nat_le, Option, None, refl, sym, ap, subst, ◌∙◌, append_assoc, ltb-false, leb-false, Ok, arith, length-append, not-false, length-map, padding_len, le32, be32, Judged, ◌>>=◌, part, tried, placed, Passes, both_pass, part_passes, tried_passes, same_passes, fault_of_marker, fault_of_image, fault_of_domain, kind_of_number, unless_faulty, IsImageHeader, IsDomainHeader, type_of_number, Cause, TooManyRecords, Truncated, Place, Kind, Pv, Hvm, GuestOf, long_rows, length_rows, type_allows, fault_of_long, fault_of_length, IsInOrder, fault_of_type, fault_of_guest, StreamRecord, is_ended, is_verified, placed_content, types_of, Opening, Before, opening_of, before, fault_of_number, fault_of_head, fault_at_end, body_at, IsComplete, Follows, IsImage, ImageOf, image_of, records_at, rows_fine, said_passes, Spells, image_is_spelled, domain_is_spelled, faultless_is_in_order, record_at, next_at, sent, placed_next, most_body, most_records}
-use Rattle.mig_bytes.proofs.Joins.{placed_passes}
+use Rattle.mig_restore_form.proofs.Common.{◌≡◌, ℕ, ◌≤◌, ◌<◌, List, [], ◌∷◌, ◌++◌, length, true, false, nat_le, Option, None, refl, sym, ap, subst, ◌∙◌, append_assoc, ltb-false, leb-false, Ok, arith, length-append, not-false, length-map, padding_len, le32, be32, Judged, ◌>>=◌, part, tried, placed, Passes, both_pass, part_passes, tried_passes, same_passes, fault_of_marker, fault_of_image, fault_of_domain, kind_of_number, unless_faulty, IsImageHeader, IsDomainHeader, type_of_number, Cause, TooManyRecords, Truncated, Place, Kind, Pv, Hvm, GuestOf, long_rows, length_rows, type_allows, fault_of_long, fault_of_length, IsInOrder, fault_of_type, fault_of_guest, StreamRecord, is_ended, is_verified, placed_content, types_of, Opening, Before, opening_of, before, fault_of_number, fault_of_head, fault_at_end, body_at, IsComplete, Follows, IsImage, ImageOf, image_of, records_at, rows_fine, said_passes, Spells, image_is_spelled, domain_is_spelled, faultless_is_in_order, record_at, next_at, sent, placed_next, most_body, most_records, placed_passes, both_none, sequence_at}
 use Rattle.mig_headers.specs.declared.fault.Place.TheVariants.{Record, ImageHeader, DomainHeader}
 use Rattle.mig_pvtables.proofs.HvmGuests.{hvm_complete, hvm_faultless}
 use Rattle.mig_pvtables.proofs.PvGuests.{pv_complete, pv_faultless}
 use Rattle.mig_restore_form.specs.Stream.{marker_at, version_at, kind_at, image_at, opening_at}
-use Rattle.mig_headers.proofs.FirstFaults.{both_none}
-use Rattle.mig_bytes.specs.Sequences.{sequence_at}
 use Rattle.mig_bytes.proofs.Sequences.{Found}
 use Rattle.mig_restore_form.specs.Judging.{fault_of_fields}
 use Rattle.mig_restore_form.proofs.Parts.{behind_head, behind_body, head_stage, asks, behind_record, taken}

@@ -1,17 +1,11 @@
 -- Of each index of the list of P2M frames the last record that lists it decides.
-use Rattle.mig_restore_form.proofs.Common.{◌≡◌, ℕ, suc, ◌+◌, ◌*◌, ◌<◌, ◌≤◌, common_steps, unwrap_or, List, [], ◌∷◌, ◌++◌, length, drop, Bool, true, false, cond, nat_eq, Option, Some, None, refl, sym, ap, subst, ◌∙◌, inl, inr, arith, length-append, length-drop, le-ltb, AllByRecursion, Kind, GuestOf, p2m_key, Part, PartCode, code_number, shape_of, has_shape, is_shaped, IsBody, Opening, Content, StreamRecord, types_of, is_verified, placed_content, Sets, put_content, last_bytes, parts_say_of_part, policy_says_of_part, says_of_part, HasContent, Follows, IsImage, part_cmp, Spells, option_map, option_or, is_policy, P2mFrames, part_total, listed_over, PartKey, optional, ends, pages, sets, info, p2m_frames, static_end, verify, no_part, one_more}
-use Rattle.std.proofs.Common.{◌-◌}
+use Rattle.mig_restore_form.proofs.Common.{◌≡◌, ℕ, suc, ◌+◌, ◌*◌, ◌<◌, ◌≤◌, common_steps, unwrap_or, List, [], ◌∷◌, ◌++◌, length, drop, Bool, true, false, cond, nat_eq, Option, Some, None, refl, sym, ap, subst, ◌∙◌, inl, inr, arith, length-append, length-drop, le-ltb, AllByRecursion, Kind, GuestOf, p2m_key, Part, PartCode, code_number, shape_of, has_shape, is_shaped, IsBody, Opening, Content, StreamRecord, types_of, is_verified, placed_content, Sets, put_content, last_bytes, parts_say_of_part, policy_says_of_part, says_of_part, HasContent, Follows, IsImage, part_cmp, Spells, option_map, option_or, is_policy, P2mFrames, part_total, listed_over, PartKey, optional, ends, pages, sets, info, p2m_frames, static_end, verify, no_part, one_more, ◌-◌, cases_lt, lt-ltb, drop-append-le, ◌/◌, AreTableEntries, IsShaped, named_parts}
 use Rattle.mig_restore_form.specs.Mean.{lists_at, last_listed, sent}
-use Rattle.std.proofs.lemmas.Bool.{cases_lt, lt-ltb}
-use Rattle.std.proofs.lemmas.List.{drop-append-le}
 use Rattle.std.proofs.lemmas.Slice.{drop-append-drop}
-use Rattle.std.specs.Prelude.{◌/◌}
 use Rattle.byteorder.specs.Endian.{little_number}
 use Rattle.byteorder.specs.Numbers.{little_from-append}
 use Rattle.mig_bytes.specs.Fields.{le64}
 use Rattle.mig_guest.specs.Longs.{long_at}
-use Rattle.mig_records.specs.Layouts.{AreTableEntries}
-use Rattle.mig_records.specs.Shapes.{IsShaped, named_parts}
 use Rattle.mig_records.specs.declared.layout.Layout.{Layout}
 use Rattle.mig_records.specs.declared.shape.Shape.{Shape}
 use Rattle.mig_records.specs.declared.shape.Shape.TheVariants.{Table, Single, Named, Chain, Other}

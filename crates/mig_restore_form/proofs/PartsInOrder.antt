@@ -1,9 +1,6 @@
 -- Parts set one after another in the order of their keys: the map has them, and else what it had.
-use Rattle.mig_restore_form.proofs.Common.{◌≡◌, List, [], ◌∷◌, Option, None, Some, refl, ap, ◌∙◌, part_cmp, Part, PartMap, put_part, put_parts, option_or, eq_by_cmp, PartKey, part_total, part_exact}
-use Rattle.std.specs.FinMap.{find, is_sorted}
+use Rattle.mig_restore_form.proofs.Common.{◌≡◌, List, [], ◌∷◌, Option, None, Some, refl, ap, ◌∙◌, part_cmp, Part, PartMap, put_part, put_parts, option_or, eq_by_cmp, PartKey, part_total, part_exact, find, is_sorted, T, found_first}
 use Rattle.std.specs.FinMap.Entries.{below_all}
-use Rattle.std.specs.Prelude.{T}
-use Rattle.mig_guest.proofs.Found.{found_first}
 use Rattle.mig_guest.proofs.PartCursor.{both_of}
 use Rattle.std.specs.FinMap as maps
 

@@ -1,9 +1,7 @@
 -- What a VERIFY parts: the entries before it are sent, those behind it are compared and counted.
-use Rattle.mig_restore_form.proofs.Common.{◌≡◌, ◌≢◌, ◌↔◌, ℕ, ◌^◌, ◌≤◌, List, [], ◌∷◌, ◌++◌, Bool, true, false, cond, nat_eq, ◌||◌, Option, Some, None, is_some, refl, sym, ap, subst, ◌∙◌, arith, eqb-true, eqb-false, eq-eqb, ne_eqb, same_Some, numbers_are_inverse, All, Kind, type_of_number, IsInOrder, ordered, FrameOf, PageType, FrameEntry, StreamRecord, Content, Nothing, Frames, Sets, Lists, Checks, types_of, is_verified, placed_content, Opening, put_entries, entries_in, entries_of, frame_in, checked_in, checked_of, differing, agrees, HasContent, Follows, IsImage, Spells, or_parts, append-nil, All-nil, All-cons, All-head, All-tail, PageData, Verify, type_of, FrameMap, no_part, one_more, code_of_type, sent, IsBatch, ends, pages, sets, info, p2m_frames, static_end, verify}
+use Rattle.mig_restore_form.proofs.Common.{◌≡◌, ◌≢◌, ◌↔◌, ℕ, ◌^◌, ◌≤◌, List, [], ◌∷◌, ◌++◌, Bool, true, false, cond, nat_eq, ◌||◌, Option, Some, None, is_some, refl, sym, ap, subst, ◌∙◌, arith, eqb-true, eqb-false, eq-eqb, ne_eqb, same_Some, numbers_are_inverse, All, Kind, type_of_number, IsInOrder, ordered, FrameOf, PageType, FrameEntry, StreamRecord, Content, Nothing, Frames, Sets, Lists, Checks, types_of, is_verified, placed_content, Opening, put_entries, entries_in, entries_of, frame_in, checked_in, checked_of, differing, agrees, HasContent, Follows, IsImage, Spells, or_parts, append-nil, All-nil, All-cons, All-head, All-tail, PageData, Verify, type_of, FrameMap, no_part, one_more, code_of_type, sent, IsBatch, ends, pages, sets, info, p2m_frames, static_end, verify, and_parts, number_of}
 use Rattle.mig_order.specs.Order.{optional}
-use Rattle.std.proofs.lemmas.Bool.{and_parts}
 use Rattle.std.proofs.lemmas.Slice.Eq.{bytes_eq-Decides}
-use Rattle.mig_pagetypes.specs.PageTypes.{number_of}
 use Rattle.mig_pagetypes.proofs.Numbers.{type_back}
 use Rattle.mig_records.specs.Records.{IsRecord}
 use Rattle.mig_restore_form.specs.Mean.{differs_of, is_same_page, is_same_frame}

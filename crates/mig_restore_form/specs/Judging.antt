@@ -1,28 +1,8 @@
 -- Judging a record: its parts in their order, and the causes that are tried in each, in the order of their numbers.
 use Rattle.std.specs.Prelude.{ℕ, ◌+◌, ◌*◌, ◌^◌, List, [], ◌∷◌, ◌++◌, length, drop, Option, Some, None, ◌==◌, not, nat_le, if◌then◌else◌}
-use Rattle.std.specs.Option.{option_or}
-use Rattle.mig_bytes.specs.Bytes.{padding_len}
-use Rattle.mig_bytes.specs.Fields.{le32}
+use Rattle.mig_restore_form.specs.Common.{option_or, padding_len, le32, Passes, type_number, type_of_number, is_optional, Kind, RecordType, PageData, X86PvInfo, X86PvP2mFrames, Cause, BadLength, TooManyRecords, Truncated, PageType, type_of, type_or_none, level_of, word_type, word_pfn, word_has_data, GuestOf, fault_of_long, fault_of_length, fault_of_count, fault_of_words, words, data_len_of, fault_of_type, PartCode, code_of_number, fault_of_pv_info, fault_of_p2m, fault_of_body, parts_of_body}
 use Rattle.mig_bytes.specs.Judged.{Judged, ◌>>=◌, part, tried, said_at, plain_at, each}
-use Rattle.mig_bytes.specs.Judged.Judged.{Passes}
-use Rattle.mig_headers.specs.RecordTypes.{type_number, type_of_number, is_optional}
 use Rattle.mig_headers.specs.Rows.{first_fault}
-use Rattle.mig_headers.specs.declared.kind.Kind.{Kind}
-use Rattle.mig_headers.specs.declared.record_type.RecordType.{RecordType}
-use Rattle.mig_headers.specs.declared.record_type.RecordType.TheVariants.{PageData, X86PvInfo, X86PvP2mFrames}
-use Rattle.mig_headers.specs.declared.fault.Cause.{Cause}
-use Rattle.mig_headers.specs.declared.fault.Cause.TheVariants.{BadLength, TooManyRecords, Truncated}
-use Rattle.mig_pagetypes.specs.declared.page_type.PageType.{PageType}
-use Rattle.mig_pagetypes.specs.PageTypes.{type_of, type_or_none, level_of}
-use Rattle.mig_pagetypes.specs.FrameWords.{word_type, word_pfn, word_has_data}
-use Rattle.mig_guest.specs.Guests.{GuestOf}
-use Rattle.mig_records.specs.Faults.{fault_of_long, fault_of_length, fault_of_count, fault_of_words}
-use Rattle.mig_records.specs.Words.{words, data_len_of}
-use Rattle.mig_order.specs.Order.{fault_of_type}
-use Rattle.mig_guest.specs.declared.part_code.PartCode.{PartCode}
-use Rattle.mig_guest.specs.PartCodes.{code_of_number}
-use Rattle.mig_records.specs.PvBodies.{fault_of_pv_info, fault_of_p2m}
-use Rattle.mig_records.specs.Shapes.{fault_of_body, parts_of_body}
 use Rattle.mig_pvtables.specs.Faults.{fault_of_guest}
 use Rattle.mig_pvtables.specs.Tables.{fault_of_page_table}
 use Rattle.mig_restore_form.specs.Mean.{sent, type_in_guest}

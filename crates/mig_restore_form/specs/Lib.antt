@@ -1,3 +1,4 @@
+mod Common
 pub mod Judging
 pub mod Mean
 pub mod Record

@@ -1,25 +1,10 @@
 -- What records send: of each frame number its last entry; of each part its last content; of a policy its last body that
 -- isn't empty; of each P2M frame the last PFN that was listed for it. They mean the blank form of it.
 use Rattle.std.specs.Prelude.{◌≡◌, ℕ, List, [], ◌∷◌, ◌++◌, Bool, true, false, not, Option, Some, None, fold, count_by, ◌==◌, ◌&&◌, if◌then◌else◌}
-use Rattle.std.specs.Option.{option_map, option_or}
+use Rattle.mig_restore_form.specs.Common.{option_map, option_or, Kind, Pv, Hvm, PageType, number_of, type_has_data, PartKey, FrameMap, FrameOf, framed, GuestOf, code_number, is_policy, IsFormed, HasNoEmulators, p2m_key, Part, set_parts, set_p2m, blank, IsOfBytes, listed_in}
 use Rattle.std.specs.FinMap as maps
 use Rattle.std.specs.Str.{bytes_eq}
-use Rattle.mig_headers.specs.declared.kind.Kind.{Kind}
-use Rattle.mig_headers.specs.declared.kind.Kind.TheVariants.{Pv, Hvm}
-use Rattle.mig_pagetypes.specs.declared.page_type.PageType.{PageType}
 use Rattle.mig_pagetypes.specs.declared.page_type.PageType.TheVariants.{Notab, Xtab}
-use Rattle.mig_pagetypes.specs.PageTypes.{number_of, type_has_data}
-use Rattle.mig_guest.specs.declared.part_key.PartKey.{PartKey}
-use Rattle.mig_guest.specs.Frames.{FrameMap, FrameOf, framed}
-use Rattle.mig_guest.specs.Guests.{GuestOf}
-use Rattle.mig_guest.specs.PartCodes.{code_number}
-use Rattle.mig_guest.specs.Formed.{is_policy, IsFormed, HasNoEmulators}
-use Rattle.mig_guest.specs.PartKeys.{p2m_key}
-use Rattle.mig_guest.specs.Parts.{Part}
-use Rattle.mig_records.specs.Shapes.{set_parts}
-use Rattle.mig_records.specs.PvBodies.{set_p2m}
-use Rattle.mig_pvtables.specs.Blank.{blank, IsOfBytes}
-use Rattle.mig_pvtables.specs.P2mFrames.{listed_in}
 use Rattle.mig_restore_form.specs.Record.{FrameEntry, StreamRecord, Content, types_of, is_verified}
 use Rattle.mig_restore_form.specs.Record.Content.{Nothing, Frames, Sets, Lists, Checks}
 

@@ -1,11 +1,6 @@
 -- The records of an image, and what they say (libxc migration stream, "Records").
 use Rattle.std.specs.Prelude.{ℕ, List, [], ◌∷◌, map, Option, Bool, ◌==◌, if◌then◌else◌}
-use Rattle.std.specs.List.{list_any}
-use Rattle.mig_headers.specs.declared.record_type.RecordType.TheVariants.{Verify}
-use Rattle.mig_order.specs.Order.{some_earlier}
-use Rattle.mig_pagetypes.specs.declared.page_type.PageType.{PageType}
-use Rattle.mig_guest.specs.declared.part_code.PartCode.{PartCode}
-use Rattle.mig_guest.specs.Parts.{Part}
+use Rattle.mig_restore_form.specs.Common.{list_any, Verify, some_earlier, PageType, PartCode, Part}
 
 -- an entry of a PAGE_DATA record: a frame number and a type, and the page where the type has data
 pub record FrameEntry : Type 0 where

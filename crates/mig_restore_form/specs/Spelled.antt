@@ -1,26 +1,8 @@
 -- The spelling of an image, in the words of the format: headers, then records one after the other.
 use Rattle.std.specs.Prelude.{◌≡◌, ℕ, ◌*◌, ◌≤◌, ◌<◌, ◌^◌, true, false, Bool, List, [], ◌∷◌, ◌++◌, length, Option, Some, None, IsSome}
-use Rattle.std.specs.List.{All}
+use Rattle.mig_restore_form.specs.Common.{All, le32, Spells, IsImageHeader, IsDomainHeader, Kind, Pv, Hvm, word_pfn, word_has_data, GuestOf, context_key, IsRecord, words, has_reserved_type, names_outside, IsInOrder, record_row_of, type_number, most_body, RecordType, PartCode, IsPvInfo, IsP2m, IsBody, IsFew, Part}
 use Rattle.std.specs.FinMap as maps
-use Rattle.mig_bytes.specs.Fields.{le32}
-use Rattle.mig_bytes.specs.Sequences.{Spells}
-use Rattle.mig_headers.specs.Headers.{IsImageHeader, IsDomainHeader}
-use Rattle.mig_headers.specs.declared.kind.Kind.{Kind}
-use Rattle.mig_headers.specs.declared.kind.Kind.TheVariants.{Pv, Hvm}
-use Rattle.mig_pagetypes.specs.FrameWords.{word_pfn, word_has_data}
-use Rattle.mig_guest.specs.Guests.{GuestOf}
-use Rattle.mig_guest.specs.PartKeys.{context_key}
-use Rattle.mig_records.specs.Records.{IsRecord}
-use Rattle.mig_records.specs.Words.{words, has_reserved_type, names_outside}
-use Rattle.mig_order.specs.Order.{IsInOrder}
-use Rattle.mig_headers.specs.RecordTypes.{record_row_of, type_number, most_body}
-use Rattle.mig_headers.specs.declared.record_type.RecordType.{RecordType}
-use Rattle.mig_guest.specs.declared.part_code.PartCode.{PartCode}
-use Rattle.mig_records.specs.PvBodies.{IsPvInfo, IsP2m}
-use Rattle.mig_records.specs.Shapes.{IsBody}
 use Rattle.mig_pvtables.specs.WholePv.{IsCompletePv}
-use Rattle.mig_guest.specs.Frames.{IsFew}
-use Rattle.mig_guest.specs.Parts.{Part}
 use Rattle.mig_guest.specs.Tables.{EachEntry, IsWithin}
 use Rattle.mig_restore_form.specs.Judging.{Opening, most_records, type_in_word, code_of_type}
 use Rattle.mig_restore_form.specs.Mean.{sent, mean, type_in_guest}

@@ -1,14 +1,7 @@
 -- Judging an image: two headers, and records up to the one that ends it.
 use Rattle.std.specs.Prelude.{◌≡◌, ℕ, List, length}
-use Rattle.mig_bytes.specs.Fields.{le32, be32}
+use Rattle.mig_restore_form.specs.Common.{le32, be32, Passes, Faulty, sequence_at, fault_of_marker, fault_of_image, fault_of_domain, kind_of_number, behind_marker, Kind, Cause, Truncated, Place}
 use Rattle.mig_bytes.specs.Judged.{Judged, ◌>>=◌, placed, said_at}
-use Rattle.mig_bytes.specs.Judged.Judged.{Passes, Faulty}
-use Rattle.mig_bytes.specs.Sequences.{sequence_at}
-use Rattle.mig_headers.specs.Headers.{fault_of_marker, fault_of_image, fault_of_domain, kind_of_number, behind_marker}
-use Rattle.mig_headers.specs.declared.kind.Kind.{Kind}
-use Rattle.mig_headers.specs.declared.fault.Cause.{Cause}
-use Rattle.mig_headers.specs.declared.fault.Cause.TheVariants.{Truncated}
-use Rattle.mig_headers.specs.declared.fault.Place.{Place}
 use Rattle.mig_headers.specs.declared.fault.Place.TheVariants.{ImageHeader, DomainHeader, Record}
 use Rattle.mig_restore_form.specs.Record.{StreamRecord, is_ended}
 use Rattle.mig_restore_form.specs.Judging.{Opening, opening_of, next_at}

@@ -1,8 +1,5 @@
 ghost use Rattle.std.specs.Prelude.{◌≡◌, ◌≤◌, ◌<◌, ◌∷◌, [], ◌++◌, List, ℕ, ◌+◌, length, true, OnOk, IfNone as OnNone, None, Some};
-ghost use Rattle.mig_headers.specs.Headers.{unless_faulty};
-ghost use Rattle.mig_headers.specs.RecordTypes.{record_row_of, type_of_number, most_body};
-ghost use Rattle.mig_headers.specs.declared.record_type.RecordType.{RecordType};
-ghost use Rattle.mig_records.specs.Faults.{fault_of_length};
+ghost use Rattle.mig_restore_form.specs.Common.{unless_faulty, record_row_of, type_of_number, most_body, RecordType, fault_of_length};
 ghost use Rattle.mig_restore_form.specs.Judging.{Opening, Before, most_records, opening_of, fault_of_number, fault_of_fields};
 
 use mig_headers::{Cause, Kind};

@@ -1,24 +1,11 @@
 ghost use Rattle.std.specs.Prelude.{◌≡◌, ◌≢◌, ◌≤◌, ◌⊎◌, ◌↔◌, [], ◌∷◌, ◌++◌, ℕ, List, option_and_then, unwrap_or, true, Some, None};
-ghost use Rattle.std.specs.List.{All, Contains};
+ghost use Rattle.mig_restore_form.specs.Common.{All, Contains, AreBytes, Cause, Place, Kind, HasNoEmulators, FrameMap, p2m_key, blank, IsOfBytes, GuestOf, listed, PartKey, IsRecord, Passes};
 ghost use Rattle.std.specs.FinMap as maps;
-ghost use Rattle.mig_bytes.specs.Bytes.{AreBytes};
-ghost use Rattle.mig_headers.specs.declared.fault.Cause.{Cause};
-ghost use Rattle.mig_headers.specs.declared.fault.Place.{Place};
-ghost use Rattle.mig_headers.specs.declared.kind.Kind.{Kind};
-ghost use Rattle.mig_guest.specs.Formed.{HasNoEmulators};
-ghost use Rattle.mig_guest.specs.Frames.{FrameMap};
-ghost use Rattle.mig_guest.specs.PartKeys.{p2m_key};
-ghost use Rattle.mig_pvtables.specs.Blank.{blank, IsOfBytes};
-ghost use Rattle.mig_guest.specs.Guests.{GuestOf};
-ghost use Rattle.mig_pvtables.specs.P2mFrames.{listed};
 ghost use Rattle.mig_pvtables.specs.Whole.{IsWhole};
-ghost use Rattle.mig_guest.specs.declared.part_key.PartKey.{PartKey};
 ghost use Rattle.mig_restore_form.specs.Judging.{Opening};
 ghost use Rattle.mig_restore_form.specs.Record.{FrameEntry, StreamRecord};
 ghost use Rattle.mig_restore_form.specs.Mean.{sent, last_entry, frame_in, entries_in, entries_of, last_said, last_listed, ends_of, checked_in, checked_of, agrees, differing, differs_of};
-ghost use Rattle.mig_records.specs.Records.{IsRecord};
 ghost use Rattle.mig_restore_form.specs.Spelled.{IsBatch, Follows, IsImage, Accepted};
-ghost use Rattle.mig_bytes.specs.Judged.Judged.{Passes};
 ghost use Rattle.mig_restore_form.specs.Stream.{image_at, image_of, IsRefused};
 
 /// What judging accepts is spelled as the format says.

@@ -1,8 +1,6 @@
 ghost use Rattle.std.specs.Prelude.{◌≡◌, ◌<◌, ◌≤◌, ◌*◌, ◌^◌, IfNone, IfOk, length, vec_len};
-ghost use Rattle.std.specs.List.{All};
+ghost use Rattle.mig_restore_form.specs.Common.{All, word_pfn, level_of};
 ghost use Rattle.mig_records.specs.Words.{words as words_in};
-ghost use Rattle.mig_pagetypes.specs.FrameWords.{word_pfn};
-ghost use Rattle.mig_pagetypes.specs.PageTypes.{level_of};
 ghost use Rattle.mig_restore_form.specs.Mean.{type_in_guest};
 ghost use Rattle.mig_restore_form.specs.Judging.{type_in_word, fault_of_level, fault_of_list};
 ghost use Rattle.mig_restore_form.specs.Spelled.{IsGoodWord};

@@ -1,8 +1,6 @@
 -- No number of a tree is a float.
-use Rattle.mig_show.proofs.Common.{◌≡◌, ℕ, Bool, true, false, cond, List, [], ◌∷◌, map, Option, Some, None, refl, items_of, has_float, Place, Cause, Kind, Seen1, is_page_data, record_tree, kind_tree, version_tree, refused_tree, shown_tree}
-use Rattle.serde_json.specs.Written.{items_have_float, members_have_float}
+use Rattle.mig_show.proofs.Common.{◌≡◌, ℕ, Bool, true, false, cond, List, [], ◌∷◌, map, Option, Some, None, refl, items_of, has_float, Place, Cause, Kind, Seen1, is_page_data, record_tree, kind_tree, version_tree, refused_tree, shown_tree, items_have_float, members_have_float, common_members, with_pages}
 use Rattle.mig_headers.specs.declared.kind.Kind.TheVariants.{Pv, Hvm}
-use Rattle.mig_show.specs.Tree.{common_members, with_pages}
 
 of_members : (pages : Bool) (shown : Seen1) → members_have_float (cond pages (with_pages shown (common_members shown)) (common_members shown)) ≡ false
 of_members true shown = refl

@@ -1,14 +1,9 @@
 -- Of one input only one front stands in front of a place: its bytes are read step by step, each step is fixed by what was read and
 -- by the bytes that follow, and no step leads back to a place.
-use Rattle.mig_show.proofs.Common.{count_by, ◌≡◌, ◌≢◌, ◌⊎◌, inl, inr, ℕ, ◌+◌, ◌*◌, ◌≤◌, Bool, true, false, cond, List, [], ◌++◌, length, take, drop, Option, Some, None, refl, sym, ap, ◌∙◌, arith, append_assoc, sum_by_push, padding_len, le32, kind_of_number, Place, ImageHeader, DomainHeader, LibxlHeader, Record, ShownFront, HasWords, StandsWhole, StandsBefore, of_form, with_shown, libxl_number, image_first, header_first, libxl_header, libxl_record, libxl_context, libxl_end, image_header, domain_header, image_record, image_end, is_page_data, Seen1}
-use Rattle.std.specs.Prelude.{if◌then◌else◌}
-use Rattle.std.proofs.Common.{◌==◌, not}
-use Rattle.std.proofs.Math.Seq.{take-append_seam, drop-append_seam}
-use Rattle.std.proofs.lemmas.List.{append_cancel_right}
+use Rattle.mig_show.proofs.Common.{count_by, ◌≡◌, ◌≢◌, ◌⊎◌, inl, inr, ℕ, ◌+◌, ◌*◌, ◌≤◌, Bool, true, false, cond, List, [], ◌++◌, length, take, drop, Option, Some, None, refl, sym, ap, ◌∙◌, arith, append_assoc, sum_by_push, padding_len, le32, kind_of_number, Place, ImageHeader, DomainHeader, LibxlHeader, Record, ShownFront, HasWords, StandsWhole, StandsBefore, of_form, with_shown, libxl_number, image_first, header_first, libxl_header, libxl_record, libxl_context, libxl_end, image_header, domain_header, image_record, image_end, is_page_data, Seen1, if◌then◌else◌, ◌==◌, not, take-append_seam, drop-append_seam, append_cancel_right, behind_image}
 use Rattle.mig_bytes.specs.Fields.{be32}
 use Rattle.mig_headers.specs.declared.fault.Place.TheVariants.{LibxlRecord}
 use Rattle.mig_records.specs.Records.{IsRecord}
-use Rattle.mig_show.specs.Fronts.{behind_image}
 
 -- ---- a record
 

@@ -1,6 +1,5 @@
 -- What is shown of an input is the only thing that can be.
-use Rattle.mig_show.proofs.Common.{◌≡◌, ℕ, ◌≤◌, Bool, true, false, List, ◌++◌, length, Option, Some, None, refl, sym, ap, ◌∙◌, arith, length-append, Consumes, Data, Cause, Place, begins_with_ident, ShownFront, StandsBefore, StandsWhole, image_first, header_first, libxl_header, libxl_record, libxl_context, libxl_end, image_header, domain_header, image_record, image_end, Shows, front_tree, Seen1}
-use Rattle.mig_show.specs.Shows.{ShowsWhole}
+use Rattle.mig_show.proofs.Common.{◌≡◌, ℕ, ◌≤◌, Bool, true, false, List, ◌++◌, length, Option, Some, None, refl, sym, ap, ◌∙◌, arith, length-append, Consumes, Data, Cause, Place, begins_with_ident, ShownFront, StandsBefore, StandsWhole, image_first, header_first, libxl_header, libxl_record, libxl_context, libxl_end, image_header, domain_header, image_record, image_end, Shows, front_tree, Seen1, ShowsWhole}
 use Rattle.mig_show.proofs.OneFront.{only_one_front}
 use Rattle.mig_show.proofs.Passing.{form_on}
 

@@ -1,8 +1,5 @@
 -- What a viewer has seen behind a step of the relay.
-use Rattle.mig_show.proofs.Common.{◌≡◌, ◌≢◌, ◌⊎◌, inl, inr, ℕ, ◌+◌, ◌*◌, ◌≤◌, Bool, true, false, List, [], ◌∷◌, ◌++◌, length, take, Option, Some, None, refl, sym, ap, subst, ◌∙◌, arith, append_assoc, append-nil, length-append, count_by, is_some, padding_len, le32, LibxlRecord, ImageHeader, DomainHeader, LibxlHeader, Record, kind_of_number, head_in, RecordHead, Due, ComesBehind, NothingDue, CountDue, WordsDue, bytes_behind_head, due, head_spot, in_hand, place_of_spot, to_come, words_in_hand, Next, AtMarker, AtVersion, AtKind, AtHead, AtBody, AtFront, AtWords, AtPages, AtPadding, Outer, Alone, Behind, Spot, AtStart, AtLibxlHeader, AtLibxlHead, AtLibxlBody, AtLibxlPadding, InImage, AtEnd, begins_with_ident, Step, Relay, ShownFront, StandsBefore, StandsWhole, of_form, libxl_number, image_first, header_first, libxl_header, image_header, domain_header, SeenState, with_step, with_end, is_page_data, Seen1}
-use Rattle.std.specs.Prelude.{nat_le, ◌&&◌, ◌||◌, option_map}
-use Rattle.std.proofs.Math.Seq.{drop-append-add, take-append-le, take_all}
-use Rattle.std.proofs.lemmas.Bool.{le-leb, ne_eqb, eq-eqb}
+use Rattle.mig_show.proofs.Common.{◌≡◌, ◌≢◌, ◌⊎◌, inl, inr, ℕ, ◌+◌, ◌*◌, ◌≤◌, Bool, true, false, List, [], ◌∷◌, ◌++◌, length, take, Option, Some, None, refl, sym, ap, subst, ◌∙◌, arith, append_assoc, append-nil, length-append, count_by, is_some, padding_len, le32, LibxlRecord, ImageHeader, DomainHeader, LibxlHeader, Record, kind_of_number, head_in, RecordHead, Due, ComesBehind, NothingDue, CountDue, WordsDue, bytes_behind_head, due, head_spot, in_hand, place_of_spot, to_come, words_in_hand, Next, AtMarker, AtVersion, AtKind, AtHead, AtBody, AtFront, AtWords, AtPages, AtPadding, Outer, Alone, Behind, Spot, AtStart, AtLibxlHeader, AtLibxlHead, AtLibxlBody, AtLibxlPadding, InImage, AtEnd, begins_with_ident, Step, Relay, ShownFront, StandsBefore, StandsWhole, of_form, libxl_number, image_first, header_first, libxl_header, image_header, domain_header, SeenState, with_step, with_end, is_page_data, Seen1, nat_le, ◌&&◌, ◌||◌, option_map, drop-append-add, take-append-le, take_all, le-leb, ne_eqb, eq-eqb, FillsBody, ComesNext, image_opens, wrapper_opens, wrapper_header, marker, version, kind, libxl_begins, libxl_whole, image_begins, pages_begin, image_whole, count, more, whole, is_ident, IsStep, begun_record, counted_record, with_hand}
 use Rattle.byteorder.specs.Endian.{big_number}
 use Rattle.mig_bytes.specs.Fields.{be32}
 use Rattle.mig_headers.specs.declared.kind.Kind.{Kind as KindOf}
@@ -11,10 +8,6 @@ use Rattle.mig_records.specs.Words.{words}
 use Rattle.mig_restore_form.specs.Judging.{Opening}
 use Rattle.mig_restore_form.specs.Record.{StreamRecord}
 use Rattle.mig_relay.proofs.Paging.{words_number}
-use Rattle.mig_relay.specs.Following.{FillsBody, ComesNext, image_opens, wrapper_opens, wrapper_header, marker, version, kind, libxl_begins, libxl_whole, image_begins, pages_begin, image_whole, count, more, whole}
-use Rattle.mig_relay.specs.Spots.{is_ident}
-use Rattle.mig_relay.specs.Steps.{IsStep}
-use Rattle.mig_show.specs.Seeing.{begun_record, counted_record, with_hand}
 use Rattle.mig_show.proofs.Stages.{Has, HandOf, HasSome, InHand, IsAround, IsAroundImage, finished, head_around, head_layer, head_place, is_libxl, is_start, more_some, opened, stood}
 use Rattle.mig_relay.specs.declared.answer.Step.TheVariants as steps
 

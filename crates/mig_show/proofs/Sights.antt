@@ -1,18 +1,12 @@
 -- What a viewer has seen while the relay goes on, and at its end.
-use Rattle.mig_show.proofs.Common.{arith, ◌≡◌, ◌≢◌, ℕ, Bool, true, false, List, [], ◌∷◌, ◌++◌, length, Option, Some, None, Ok, refl, sym, ap, subst, ◌∙◌, append_assoc, append-nil, is_some, IfOk, Consumes, Cause, Place, ImageHeader, in_hand, words_in_hand, Next, AtMarker, AtVersion, AtKind, AtHead, AtBody, AtFront, AtWords, AtPages, AtPadding, Outer, Spot, AtStart, AtLibxlHeader, AtLibxlHead, AtLibxlBody, AtLibxlPadding, InImage, AtEnd, begins_with_ident, StepSays, Step, Relay, ShownFront, StandsBefore, of_form, image_first, SeenState, with_step, with_end, Shows, RisesOnShow, front_tree}
-use Rattle.std.proofs.Common.{Err}
+use Rattle.mig_show.proofs.Common.{arith, ◌≡◌, ◌≢◌, ℕ, Bool, true, false, List, [], ◌∷◌, ◌++◌, length, Option, Some, None, Ok, refl, sym, ap, subst, ◌∙◌, append_assoc, append-nil, is_some, IfOk, Consumes, Cause, Place, ImageHeader, in_hand, words_in_hand, Next, AtMarker, AtVersion, AtKind, AtHead, AtBody, AtFront, AtWords, AtPages, AtPadding, Outer, Spot, AtStart, AtLibxlHeader, AtLibxlHead, AtLibxlBody, AtLibxlPadding, InImage, AtEnd, begins_with_ident, StepSays, Step, Relay, ShownFront, StandsBefore, of_form, image_first, SeenState, with_step, with_end, Shows, RisesOnShow, front_tree, Err, RisesOnFault, Keeps, KeepsNext, StandsForBytes, PassesOn, IsRefusedBehind, IsNotRefused, is_at_end, is_at_start, ended_by, ShowsRefused}
 use Rattle.std.specs.Prelude.{◌≤◌}
 use Rattle.mig_bytes.specs.Faults.{Rose}
-use Rattle.mig_relay.specs.Steps.{RisesOnFault}
 use Rattle.mig_relay.specs.Streams.{open_stream_at}
 use Rattle.mig_relay.proofs.Streams.{fronts_pass}
-use Rattle.mig_relay.specs.Keeping.{Keeps, KeepsNext}
-use Rattle.mig_relay.specs.Standing.{StandsForBytes, PassesOn, IsRefusedBehind, IsNotRefused, is_at_end, is_at_start}
 use Rattle.mig_relay.specs.declared.answer.RelayAnswer.{RelayAnswer}
 use Rattle.mig_relay.specs.declared.answer.RelayAnswer.TheVariants.{Refused, ReadFault, WriteFault, Memory}
 use Rattle.mig_relay.proofs.Steps.{consumed_on, left_alone, over_there}
-use Rattle.mig_show.specs.Seeing.{ended_by}
-use Rattle.mig_show.specs.Shows.{ShowsRefused}
 use Rattle.mig_show.proofs.Passing.{form_on, seen_on}
 use Rattle.mig_show.proofs.Stages.{Has}
 use Rattle.mig_relay.specs.declared.answer.Step.TheVariants as steps

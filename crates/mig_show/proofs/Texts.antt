@@ -1,9 +1,5 @@
 -- The text of a tree from the texts of its parts.
-use Rattle.mig_show.proofs.Common.{arith, length, take, ◌≡◌, ℕ, ◌+◌, Bool, true, false, List, [], ◌∷◌, ◌++◌, map, codes, Option, refl, sym, ap, ◌∙◌, append_assoc, append-nil, Data, boolean, items_of, compact_text, Cause, Place, Kind, records_text, record_tree, kind_tree, refused_tree, version_tree, shown_tree, Seen1}
-use Rattle.std.proofs.Common.{zero, suc, get_or, nat_lt, ◌<◌}
-use Rattle.std.proofs.lemmas.Bool.{lt-ltb}
-use Rattle.std.proofs.lemmas.List.{take_more}
-use Rattle.serde_json.specs.Written.{comma_if, items_text}
+use Rattle.mig_show.proofs.Common.{arith, length, take, ◌≡◌, ℕ, ◌+◌, Bool, true, false, List, [], ◌∷◌, ◌++◌, map, codes, Option, refl, sym, ap, ◌∙◌, append_assoc, append-nil, Data, boolean, items_of, compact_text, Cause, Place, Kind, records_text, record_tree, kind_tree, refused_tree, version_tree, shown_tree, Seen1, zero, suc, get_or, nat_lt, ◌<◌, lt-ltb, take_more, comma_if, items_text}
 use Rattle.serde_json.proofs.OnLiterals.{serde_json_on_literals}
 
 -- one record more

@@ -3,10 +3,9 @@
 use Rattle.std.specs.Prelude.{◌≡◌, ◌≢◌, ◌+◌, ◌*◌, ℕ, Bool, true, false, List, [], ◌∷◌, ◌++◌, length, count_by, Option, Some, None, if◌then◌else◌}
 use Rattle.mig_bytes.specs.Fields.{le32, be32}
 use Rattle.mig_headers.specs.Headers.{kind_of_number}
-use Rattle.mig_headers.specs.declared.fault.Place.{Place}
+use Rattle.mig_show.specs.Common.{Place, word_has_data}
 use Rattle.mig_headers.specs.declared.fault.Place.TheVariants.{ImageHeader, DomainHeader, LibxlHeader, LibxlRecord, Record}
 use Rattle.mig_headers.specs.declared.kind.Kind.{Kind}
-use Rattle.mig_pagetypes.specs.FrameWords.{word_has_data}
 use Rattle.mig_records.specs.Records.{IsRecord}
 use Rattle.mig_records.specs.Words.{words}
 use Rattle.mig_show.specs.Tree.{is_page_data}

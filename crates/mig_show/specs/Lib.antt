@@ -1,3 +1,4 @@
+mod Common
 pub mod Names
 pub mod Refusals
 pub mod Tree

@@ -1,6 +1,6 @@
 -- The texts of records.
 use Rattle.std.specs.Prelude.{ℕ, Bool, true, List, [], ◌∷◌, ◌++◌}
-use Rattle.serde_json.specs.Written.{comma_if, compact_text}
+use Rattle.mig_show.specs.Common.{comma_if, compact_text}
 use Rattle.mig_show.specs.Tree.{record_tree}
 use Rattle.mig_show.specs.declared.record.Seen1.{Seen1}
 

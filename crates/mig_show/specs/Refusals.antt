@@ -1,8 +1,6 @@
 -- The text of a stream's refusal.
 use Rattle.std.specs.Prelude.{ℕ, List, ◌++◌, codes}
-use Rattle.mig_headers.specs.declared.fault.Place.{Place}
-use Rattle.mig_headers.specs.declared.fault.Cause.{Cause}
-use Rattle.mig_headers_text.specs.Texts.{text_of_place, text_of_cause}
+use Rattle.mig_show.specs.Common.{Place, Cause, text_of_place, text_of_cause}
 
 -- what the refusal line says behind its first word
 abbrev pub refused_text : Place → Cause → List ℕ

@@ -1,8 +1,6 @@
 -- What a viewer has of a stream, and what it has behind a step of the relay.
 use Rattle.std.specs.Prelude.{ℕ, Bool, true, false, ◌||◌, List, length, count_by, Option, Some, None, option_map, Result, Ok, Err}
-use Rattle.mig_headers.specs.declared.fault.Cause.{Cause}
-use Rattle.mig_headers.specs.declared.fault.Place.{Place}
-use Rattle.mig_pagetypes.specs.FrameWords.{word_has_data}
+use Rattle.mig_show.specs.Common.{Cause, Place, word_has_data}
 use Rattle.mig_records.specs.declared.head.RecordHead.{RecordHead}
 use Rattle.mig_relay.specs.declared.answer.RelayAnswer.{RelayAnswer}
 use Rattle.mig_relay.specs.declared.answer.RelayAnswer.TheVariants as answers

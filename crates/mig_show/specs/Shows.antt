@@ -1,12 +1,7 @@
 -- What is shown of an input.
 use Rattle.std.specs.Prelude.{◌≡◌, ◌≤◌, ℕ, List, ◌++◌, codes, Option, Some, None, Result, Ok, Err}
-use Rattle.std.specs.Io.KnownBytes.{Consumes}
-use Rattle.serde_json.specs.Data.{Data}
-use Rattle.serde_json.specs.Written.{compact_text}
-use Rattle.mig_bytes.specs.Faults.{Rose}
+use Rattle.mig_show.specs.Common.{Consumes, Data, compact_text, Rose, Cause, Place}
 use Rattle.mig_bytes.specs.Judged.Judged.{Passes}
-use Rattle.mig_headers.specs.declared.fault.Cause.{Cause}
-use Rattle.mig_headers.specs.declared.fault.Place.{Place}
 use Rattle.mig_libxl_form.specs.Stream.{StreamOf}
 use Rattle.mig_relay.specs.Streams.{open_stream_at, IsOpenRefused}
 use Rattle.mig_relay.specs.Spots.{begins_with_ident}

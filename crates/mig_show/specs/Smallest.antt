@@ -1,7 +1,6 @@
 -- The smallest HVM stream as it is shown.
 use Rattle.std.specs.Prelude.{ℕ, List, [], ◌∷◌, codes, Some, None, false}
-use Rattle.serde_json.specs.Data.{Data}
-use Rattle.mig_headers.specs.declared.kind.Kind.TheVariants.{Hvm}
+use Rattle.mig_show.specs.Common.{Data, Hvm}
 use Rattle.mig_show.specs.declared.record.Seen1.{Seen1}
 use Rattle.mig_show.specs.Tree.{shown_tree}
 

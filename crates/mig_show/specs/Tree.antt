@@ -1,13 +1,7 @@
 -- The tree that shows a stream's records, in the terms of JSON: objects have their members in the order of their keys.
 use Rattle.std.specs.Prelude.{ℕ, Bool, List, map, codes, Option, Some, None, ◌==◌, ◌&&◌, not, if◌then◌else◌}
-use Rattle.serde_json.specs.Data.{Data, null, boolean, number, string, array, object, unsigned, Members, no_members, member, put}
-use Rattle.serde_json.specs.View.{items_of}
-use Rattle.mig_headers.specs.declared.fault.Place.{Place}
-use Rattle.mig_headers.specs.declared.fault.Cause.{Cause}
+use Rattle.mig_show.specs.Common.{Data, null, boolean, number, string, array, object, unsigned, Members, no_members, member, put, items_of, Place, Cause, Pv, Hvm, PageData, type_number}
 use Rattle.mig_headers.specs.declared.kind.Kind.{Kind}
-use Rattle.mig_headers.specs.declared.kind.Kind.TheVariants.{Pv, Hvm}
-use Rattle.mig_headers.specs.declared.record_type.RecordType.TheVariants.{PageData}
-use Rattle.mig_headers.specs.RecordTypes.{type_number}
 use Rattle.mig_show.specs.declared.record.Seen1.{Seen1}
 use Rattle.mig_show.specs.Names.{shown_name}
 use Rattle.mig_show.specs.Refusals.{refused_text}

@@ -1,8 +1,5 @@
 ghost use Rattle.std.specs.Prelude.{◌≡◌, ℕ, Bool, List, Option, Some, false};
-ghost use Rattle.serde_json.specs.Data.{Data};
-ghost use Rattle.serde_json.specs.Written.{has_float, compact_text};
-ghost use Rattle.mig_headers.specs.declared.fault.Cause.{Cause};
-ghost use Rattle.mig_headers.specs.declared.fault.Place.{Place};
+ghost use Rattle.mig_show.specs.Common.{Data, has_float, compact_text, Cause, Place};
 ghost use Rattle.mig_headers.specs.declared.kind.Kind.{Kind};
 ghost use Rattle.mig_show.specs.declared.record.Seen1.{Seen1};
 ghost use Rattle.mig_show.specs.Smallest.{smallest_tree, smallest_text};

@@ -1,6 +1,5 @@
 ghost use Rattle.std.specs.Prelude.{◌≡◌, ◌<◌, ◌++◌, false, length, nat_lt, slice_index_or, string_bytes, IfOk, OnOk};
-ghost use Rattle.serde_json.specs.View.{view};
-ghost use Rattle.serde_json.specs.Written.{has_float, comma_if, compact_text};
+ghost use Rattle.mig_show.specs.Common.{view, has_float, comma_if, compact_text};
 ghost use Rattle.mig_show.specs.Lines.{records_text};
 ghost use Rattle.mig_show.specs.Tree.{record_tree};
 ghost use Rattle.mig_show.specs.Shows.{front_tree, tree_line};

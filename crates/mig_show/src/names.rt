@@ -1,5 +1,5 @@
 ghost use Rattle.std.specs.Prelude.{◌≡◌, unwrap_or, option_map, [], slice_get};
-ghost use Rattle.mig_headers.specs.RecordTypes.{type_of_number};
+ghost use Rattle.mig_show.specs.Common.{type_of_number};
 ghost use Rattle.mig_show.specs.Names.{libxc_name, libxl_names, shown_name};
 
 use mig_headers::{RecordType, is_optional};

@@ -1,5 +1,5 @@
 ghost use Rattle.std.specs.Prelude.{◌≡◌, IfOk, OnOk, if◌then◌else◌};
-ghost use Rattle.serde_json.specs.View.{view, members_view};
+ghost use Rattle.mig_show.specs.Common.{view, members_view};
 ghost use Rattle.mig_show.specs.Tree.{layer_name, is_page_data, common_members, with_pages, record_tree};
 
 use crate::names::shown_name;

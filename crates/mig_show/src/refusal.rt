@@ -1,6 +1,6 @@
 ghost use Rattle.std.specs.Prelude.{◌≡◌, string_bytes, IfOk};
 ghost use Rattle.mig_headers_text.specs.Arguments.{argument_texts};
-ghost use Rattle.mig_headers_text.specs.Texts.{spaced, words_of_context, text_of_place, text_of_cause};
+ghost use Rattle.mig_show.specs.Common.{spaced, words_of_context, text_of_place, text_of_cause};
 ghost use Rattle.mig_show.specs.Refusals.{refused_text};
 
 use mig_headers::{Cause, ContextFault, Place};

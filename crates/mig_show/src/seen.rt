@@ -1,5 +1,5 @@
 ghost use Rattle.std.specs.Prelude.{◌≡◌, [], None, false, OnOk, count_by};
-ghost use Rattle.mig_pagetypes.specs.FrameWords.{word_has_data};
+ghost use Rattle.mig_show.specs.Common.{word_has_data};
 ghost use Rattle.mig_show.specs.Fronts.{of_form};
 ghost use Rattle.mig_show.specs.Seeing.{begun_record, counted_record, with_step, with_end};
 

@@ -1,5 +1,5 @@
 ghost use Rattle.std.specs.Prelude.{◌≡◌, IfOk};
-ghost use Rattle.serde_json.specs.View.{view};
+ghost use Rattle.mig_show.specs.Common.{view};
 ghost use Rattle.mig_show.specs.Tree.{records_tree, kind_tree, version_tree, refused_tree, shown_tree};
 
 use crate::record::{Seen1, record_object};

@@ -1,6 +1,5 @@
 ghost use Rattle.std.specs.Prelude.{◌≡◌, false, None, IfOk, string_bytes};
-ghost use Rattle.serde_json.specs.Data.{Data};
-ghost use Rattle.serde_json.specs.View.{view};
+ghost use Rattle.mig_show.specs.Common.{Data, view};
 ghost use Rattle.mig_show.specs.Fronts.{of_form};
 ghost use Rattle.mig_show.specs.Seeing.{ended_by};
 ghost use Rattle.mig_show.specs.Shows.{Shows, RisesOnShow, tree_line, front_tree};

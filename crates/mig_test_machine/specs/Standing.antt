@@ -1,10 +1,8 @@
 -- A machine whose guest never runs: its host stays, its log is empty, and the calls that it answered Ok are its history.
 use Rattle.std.specs.Prelude.{Bool, true, false, List}
 use Rattle.std.specs.List.{fold}
-use Rattle.mig_guest.specs.Hosts.{HostOf}
-use Rattle.mig_guest.specs.History.{History, no_history, after_peek, after_call, after_log}
+use Rattle.mig_test_machine.specs.Common.{HostOf, History, no_history, after_peek, after_call, after_log, no_pfns}
 use Rattle.mig_guest.specs.MachineStates.{MachineState}
-use Rattle.mig_guest.specs.Pfns.{no_pfns}
 use Rattle.mig_test_machine.specs.declared.standing.Call.{Call}
 use Rattle.mig_test_machine.specs.declared.standing.Call.TheVariants as calls
 

@@ -1,5 +1,5 @@
 ghost use Rattle.std.specs.Prelude.{◌≤◌, IfOk};
-ghost use Rattle.mig_guest.specs.Hosts.{most_saved_width};
+ghost use Rattle.mig_test_machine.specs.Common.{most_saved_width};
 
 use mig_bytes::MemSource;
 use mig_image::{Host, read_host};

@@ -1,6 +1,5 @@
 ghost use Rattle.std.specs.Prelude.{◌≡◌, IfOk};
-ghost use Rattle.mig_machine.specs.MachineSeen.{history_of};
-ghost use Rattle.mig_guest.specs.History.{no_history};
+ghost use Rattle.mig_test_machine.specs.Common.{history_of, no_history};
 
 use crate::scripts::script;
 use mig_bytes::Failed;

@@ -1,7 +1,5 @@
 ghost use Rattle.std.specs.Prelude.{◌≡◌, ◌≤◌, false, IfOk};
-ghost use Rattle.mig_guest.specs.Hosts.{most_saved_width};
-ghost use Rattle.mig_machine.specs.MachineSeen.{is_paused, history_of};
-ghost use Rattle.mig_guest.specs.History.{no_history};
+ghost use Rattle.mig_test_machine.specs.Common.{most_saved_width, is_paused, history_of, no_history};
 
 use crate::hosts::{wide, worked};
 use mig_bytes::{MemSink, MemSource};

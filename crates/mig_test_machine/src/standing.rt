@@ -1,8 +1,7 @@
 ghost use Rattle.std.specs.Prelude.{refl, ◌≡◌, [], ◌∷◌, ◌++◌, ℕ, ◌≤◌, OnOk, OnErr};
 ghost use Rattle.std.proofs.Common.{◌∙◌};
 ghost use Rattle.mig_bytes.specs.Faults.{FaultHasCause};
-ghost use Rattle.mig_guest.specs.Hosts.{IsValid, most_saved_width};
-ghost use Rattle.mig_guest.specs.Pfns.{pfns_of_words, no_pfns};
+ghost use Rattle.mig_test_machine.specs.Common.{IsValid, most_saved_width, pfns_of_words, no_pfns};
 ghost use Rattle.mig_test_machine.specs.Standing.{asked, standing};
 
 use mig_bytes::Failed;

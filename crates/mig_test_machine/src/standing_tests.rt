@@ -1,5 +1,5 @@
 ghost use Rattle.std.specs.Prelude.{◌≡◌, IfOk};
-ghost use Rattle.mig_guest.specs.History.{no_history};
+ghost use Rattle.mig_test_machine.specs.Common.{no_history};
 
 use crate::made::{log, looks_up};
 use crate::standing::StandingMachine;

@@ -1,16 +1,13 @@
 -- Of what a command answers: an input that is accepted is done, and one that is refused is refused, where nothing failed.
-use Rattle.mig_tool.proofs.Common.{◌⊎◌, ◌≡◌, ℕ, List, Option, None, Some, refl, subst, sym, Refusal, InputRises, Command, Convert, Exercise, Normalise, Restore, Save, Verify, Walk, WalkImage, Relay, Show}
+use Rattle.mig_tool.proofs.Common.{◌⊎◌, ◌≡◌, ℕ, List, Option, None, Some, refl, subst, sym, Refusal, InputRises, Command, Convert, Exercise, Normalise, Restore, Save, Verify, Walk, WalkImage, Relay, Show, CarriedOut, Effects, IsOfInput, KeepsPromise, Promise, StatusSays, HasOpenRefusal}
 use mathlib.Core.Logic.{inl, inr}
 use Rattle.mig_bytes.specs.Faults.{Rose}
 use Rattle.mig_host_view.specs.View.{view}
-use Rattle.mig_tool_report.specs.Promises.{CarriedOut, Effects, IsOfInput, KeepsPromise, Promise}
-use Rattle.mig_tool_report.specs.Statuses.{StatusSays}
 use Rattle.mig_tool_report.specs.declared.status.Status.{Status}
 use Rattle.mig_tool_report.specs.declared.status.Status.TheVariants as statuses
 use Rattle.mig_tool_guest.proofs.Once.{accepted_once, legacy_once, walk_image_once, walk_once}
 use Rattle.mig_tool_guest.proofs.Relaying.{front_once, passed_front}
 use Rattle.mig_tool_guest.proofs.Walks.{host_found, stream_found}
-use Rattle.mig_tool_guest.specs.Refusals.{HasOpenRefusal}
 use Rattle.mig_tool_guest.specs.Relays.{PassedOn, RelayBreaksOff}
 use Rattle.mig_tool_save.proofs.SaveInputs.{not_refused, paused}
 use Rattle.mig_tool.specs.Promises.{promise_of}

@@ -1,7 +1,6 @@
 -- An input isn't both accepted and refused, whatever is read of it.
-use Rattle.mig_tool_guest.proofs.Common.{AcceptedLegacy, HostHasFrame, StreamHasFrame, ℕ, List, GuestOf, AcceptedStream, Refusal, HasLegacyRefusal, HasStreamRefusal, HasWalkImageRefusal, HasWalkRefusal}
+use Rattle.mig_tool_guest.proofs.Common.{AcceptedLegacy, HostHasFrame, StreamHasFrame, ℕ, List, GuestOf, AcceptedStream, Refusal, HasLegacyRefusal, HasStreamRefusal, HasWalkImageRefusal, HasWalkRefusal, never_both}
 use Rattle.mig_legacy.proofs.Laws.{never_both as never_both_legacy}
-use Rattle.mig_libxl_form.proofs.Laws.{never_both}
 use Rattle.mig_tool_guest.proofs.Walks.{stream_once, image_once, host_once, address_once}
 use Rattle.mig_tool_report.specs.declared.outcome.Refusal.TheVariants as refusals
 

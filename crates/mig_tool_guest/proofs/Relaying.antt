@@ -1,22 +1,13 @@
 -- What a relay's answer says.
-use Rattle.mig_tool_guest.proofs.Common.{◌≡◌, ◌⊎◌, ℕ, List, Option, Some, None, sym, subst, arith, line_reported, says_of, CarriedOut, Effects, HasOpenRefusal, InputRises, relay_promise, inl, inr, Appends, AppendsPart, Passes, Cause, Place, StreamOf, status_of, Outcome, Status}
-use Rattle.std.proofs.Common.{◌++◌, Ok, Err, refl, ap, ◌∙◌}
-use Rattle.mig_tool_report.specs.Statuses.{PutsLineOrFault}
+use Rattle.mig_tool_guest.proofs.Common.{◌≡◌, ◌⊎◌, ℕ, List, Option, Some, None, sym, subst, arith, line_reported, says_of, CarriedOut, Effects, HasOpenRefusal, InputRises, relay_promise, inl, inr, Appends, AppendsPart, Passes, Cause, Place, StreamOf, status_of, Outcome, Status, ◌++◌, Ok, Err, refl, ap, ◌∙◌, PutsLineOrFault, Consumes, Rose, ◌≤◌, ◌≢◌, line_of, Reports, relayed_line, Refusal, FrontRelayed, OutputStopped, ReportStopped, PassableFront, PassedOn, SaysRelayed, counts_of}
 use Rattle.mig_tool_guest.proofs.Says.{RelayComes, RelaySays}
-use Rattle.std.specs.Io.KnownBytes.{Consumes}
-use Rattle.mig_bytes.specs.Faults.{Rose}
 use Rattle.mig_relay.specs.Streams.{open_stream_at, IsOpenRefused}
 use Rattle.mig_relay.specs.Relaying.{PassedWhole, IsRelayed, RisesOnAnswer}
 use Rattle.mig_relay.specs.declared.answer.RelayAnswer.{RelayAnswer}
 use Rattle.mig_relay.specs.declared.answer.Relayed.{Relayed}
-use Rattle.std.specs.Prelude.{◌≤◌, ◌≢◌}
-use Rattle.mig_tool_report.specs.Outcome.{line_of}
-use Rattle.mig_tool_report.specs.Report.{Reports, relayed_line}
-use Rattle.mig_tool_report.specs.declared.outcome.Refusal.{Refusal}
 use Rattle.mig_tool_report.specs.declared.outcome.RelaySummary.{RelaySummary}
 use Rattle.mig_bytes.proofs.Joins.{passes_not}
 use Rattle.mig_tool_guest.specs.RelaySteps.{outcome_of_relay, summary_of_relay}
-use Rattle.mig_tool_guest.specs.Relays.{FrontRelayed, OutputStopped, ReportStopped, PassableFront, PassedOn, SaysRelayed, counts_of}
 use Rattle.mig_relay.specs.declared.answer.RelayAnswer.TheVariants as answers
 use Rattle.mig_tool_report.specs.declared.outcome.Refusal.TheVariants as refusals
 use Rattle.mig_tool_report.specs.declared.status.Status.TheVariants as statuses

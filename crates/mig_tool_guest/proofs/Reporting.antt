@@ -1,9 +1,7 @@
 -- What a command answers.
-use Rattle.mig_tool_guest.proofs.Common.{inl, inr, Appends, AppendsPart, Passes, Cause, Place, AcceptedLegacy, StreamOf, ReadsStream, Outcome, Status, Reading, ◌⊎◌, ◌≡◌, ℕ, ◌++◌, List, length, arith, Option, Some, None, Result, Ok, Err, refl, sym, ap, subst, ◌∙◌, GuestOf, AcceptedStream, HasStreamRefusal, HasLegacyRefusal, Kind, Hvm, Pv, Accepting, Normalised, PartWritten, IsCarried, IsFew, IsBase, restored_text, OutcomeSays, InputRises, IsUnwritten, ComesTo, Effects, restore_promise, text_written, unwritten, Refusal, status_of, summary_of, mean_kind, outcome_of}
+use Rattle.mig_tool_guest.proofs.Common.{inl, inr, Appends, AppendsPart, Passes, Cause, Place, AcceptedLegacy, StreamOf, ReadsStream, Outcome, Status, Reading, ◌⊎◌, ◌≡◌, ℕ, ◌++◌, List, length, arith, Option, Some, None, Result, Ok, Err, refl, sym, ap, subst, ◌∙◌, GuestOf, AcceptedStream, HasStreamRefusal, HasLegacyRefusal, Kind, Hvm, Pv, Accepting, Normalised, PartWritten, IsCarried, IsFew, IsBase, restored_text, OutcomeSays, InputRises, IsUnwritten, ComesTo, Effects, restore_promise, text_written, unwritten, Refusal, status_of, summary_of, mean_kind, outcome_of, Puts, RisesOnReadFault, accepted_is_stream, canon_any, stream_at, IsStreamReading, ok_line, OutputRises}
 use Rattle.mig_tool_guest.proofs.Says.{ConvertComes, NormaliseComes, RestoreComes, VerifySays}
-use Rattle.mig_bytes.specs.Bytes.{Puts}
 use Rattle.mig_bytes.specs.Answers.{or_stop}
-use Rattle.mig_bytes.specs.Faults.{RisesOnReadFault}
 use Rattle.mig_bytes.specs.declared.answer.Answer.{Answer}
 use Rattle.mig_bytes.specs.declared.failure.WriteFailed.{WriteFailed}
 use Rattle.mig_headers.specs.declared.legacy_fault.LegacyCause.{LegacyCause}
@@ -16,15 +14,9 @@ use Rattle.mig_legacy.proofs.Laws.{accepted_is_legacy}
 use Rattle.mig_legacy.specs.Legacy.{LegacyStream, mean_legacy}
 use Rattle.mig_legacy.specs.Stream.{ReadsLegacy, legacy_at}
 use Rattle.mig_libxl.proofs.AnyCanons.{canon_is_accepted, canon_is_one_to_one}
-use Rattle.mig_libxl_form.proofs.Laws.{accepted_is_stream}
-use Rattle.mig_canon.specs.CanonStream.{canon_any}
-use Rattle.mig_libxl_form.specs.Stream.{stream_at}
-use Rattle.mig_libxl.specs.Reads.{IsStreamReading}
 use Rattle.mig_pvtables.proofs.HvmGuests.{hvm_complete}
 use Rattle.mig_pvtables.proofs.PvGuests.{pv_complete}
 use Rattle.mig_pvtables.specs.Whole.{IsWhole}
-use Rattle.mig_tool_report.specs.Report.{ok_line}
-use Rattle.mig_tool_report.specs.Statuses.{OutputRises}
 use Rattle.mig_tool_report.specs.declared.outcome.Summary.{Summary}
 use Rattle.mig_restore_form.specs.Mean.{differs_of}
 use Rattle.mig_restore_form.specs.Stream.{ImageOf}

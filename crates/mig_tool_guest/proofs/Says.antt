@@ -1,18 +1,6 @@
 -- What an outcome or a status says of each command, by the parts of it that the lemmas speak of.
+use Rattle.mig_tool_guest.proofs.Common.{Appends, AppendsPart, AcceptedLegacy, canon_any, AcceptedStream, Effects, Promise, SinkEffect, effects, OutcomeSays, StatusSays, Outcome, Status, Normalised, PartWritten, Restored, Verified, restored_text, relay_promise, HasLegacyRefusal, HasOpenRefusal, HasStreamRefusal, FrontShown, PartShown}
 use Rattle.std.specs.Prelude.{◌⊎◌, ℕ, List, Some, Option}
-use Rattle.std.specs.Io.KnownBytes.{Appends}
-use Rattle.mig_bytes.specs.Bytes.{AppendsPart}
-use Rattle.mig_legacy.specs.Spelled.{AcceptedLegacy}
-use Rattle.mig_canon.specs.CanonStream.{canon_any}
-use Rattle.mig_libxl_form.specs.Spelled.{AcceptedStream}
-use Rattle.mig_tool_report.specs.Promises.{Effects, Promise, SinkEffect, effects}
-use Rattle.mig_tool_report.specs.Statuses.{OutcomeSays, StatusSays}
-use Rattle.mig_tool_report.specs.declared.outcome.Outcome.{Outcome}
-use Rattle.mig_tool_report.specs.declared.status.Status.{Status}
-use Rattle.mig_tool_guest.specs.Fronts.{Normalised, PartWritten, Restored, Verified, restored_text}
-use Rattle.mig_tool_guest.specs.Promises.{relay_promise}
-use Rattle.mig_tool_guest.specs.Refusals.{HasLegacyRefusal, HasOpenRefusal, HasStreamRefusal}
-use Rattle.mig_tool_guest.specs.Shown.{FrontShown, PartShown}
 
 abbrev pub NormaliseComes : (told left old new : Option (List ℕ)) → Outcome → Type 0
 NormaliseComes told left old new outcome = OutcomeSays (λ input. Normalised AcceptedStream input left old new) (λ input. PartWritten AcceptedStream canon_any input left old new) HasStreamRefusal told left outcome

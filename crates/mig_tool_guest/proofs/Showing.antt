@@ -1,12 +1,10 @@
 -- What the showing of a stream comes to.
-use Rattle.mig_tool_guest.proofs.Common.{◌≡◌, ◌⊎◌, ℕ, List, Option, Some, None, sym, subst, refl, ap, Err, status_of, inl, inr, ComesTo, Effects, InputRises, IsUnwritten, show_promise, text_written, Appends, AppendsPart, Cause, Place, Outcome}
+use Rattle.mig_tool_guest.proofs.Common.{◌≡◌, ◌⊎◌, ℕ, List, Option, Some, None, sym, subst, refl, ap, Err, status_of, inl, inr, ComesTo, Effects, InputRises, IsUnwritten, show_promise, text_written, Appends, AppendsPart, Cause, Place, Outcome, OutputRises, FrontShown, SaysShown}
 use Rattle.mig_tool_guest.proofs.Says.{ShowComes}
 use Rattle.serde_json.specs.Data.{Data}
 use Rattle.mig_show.specs.Shows.{RisesOnShow, Shows, tree_line}
-use Rattle.mig_tool_report.specs.Statuses.{OutputRises}
 use Rattle.mig_show.specs.declared.viewer.ShowAnswer.{ShowAnswer}
 use Rattle.mig_tool_guest.proofs.Relaying.{taken_front}
-use Rattle.mig_tool_guest.specs.Shown.{FrontShown, SaysShown}
 use Rattle.mig_tool_guest.specs.ShownSteps.{outcome_of_shown, outcome_of_unshown}
 use Rattle.mig_tool_report.specs.declared.outcome.Outcome.TheVariants as outcomes
 use Rattle.mig_show.specs.declared.viewer.ShowAnswer.TheVariants as answers

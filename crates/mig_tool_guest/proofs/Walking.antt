@@ -1,16 +1,8 @@
 -- What a walk comes to, says and reports.
-use Rattle.mig_tool_guest.proofs.Common.{inl, inr, Appends, AppendsPart, Passes, HostOf, ReadsStream, Reading, Outcome, WalkSummary, Status, in_stream, in_host, MeansFrame, any_host_at, line_reported, says_of, ◌≡◌, ℕ, List, Option, Some, None, Result, Ok, Err, sym, ap, subst, ◌∙◌, OutcomeSays, InputRises, CarriedOut, Effects, IsUnwritten, finished, line_put, never_failed, no_line, status_of, unwritten}
-use Rattle.std.specs.Prelude.{◌⊎◌, ◌≤◌, IfOk, IfErr, OnOk}
-use Rattle.mig_guest.specs.Hosts.{most_width}
+use Rattle.mig_tool_guest.proofs.Common.{inl, inr, Appends, AppendsPart, Passes, HostOf, ReadsStream, Reading, Outcome, WalkSummary, Status, in_stream, in_host, MeansFrame, any_host_at, line_reported, says_of, ◌≡◌, ℕ, List, Option, Some, None, Result, Ok, Err, sym, ap, subst, ◌∙◌, OutcomeSays, InputRises, CarriedOut, Effects, IsUnwritten, finished, line_put, never_failed, no_line, status_of, unwritten, ◌⊎◌, ◌≤◌, IfOk, IfErr, OnOk, most_width, IsSound, Rose, IsUntouched, Promise, reports_line, walked_line, PutsLineOf, Refusing, StatusSays, AddressReported}
 use Rattle.mig_host.specs.HostView.{HostAndSpare}
-use Rattle.mig_host_view.specs.Sound.{IsSound}
 use Rattle.mig_image.specs.Answer.{ReadsHost}
-use Rattle.mig_bytes.specs.Faults.{Rose}
-use Rattle.mig_tool_report.specs.Promises.{IsUntouched, Promise, reports_line}
-use Rattle.mig_tool_report.specs.Report.{walked_line}
 use Rattle.mig_tool_report.specs.declared.status.Status.TheVariants as statuses
-use Rattle.mig_tool_report.specs.Statuses.{PutsLineOf, Refusing, StatusSays}
-use Rattle.mig_tool_guest.specs.Addresses.{AddressReported}
 use Rattle.mig_tool_guest.specs.AddressSteps.{EndsWalk, EndsInHost, FindsFrame, FindsInImage, FindsInStream, TellsFound, status_found}
 use Rattle.mig_tool_guest.proofs.Reporting.{accepted_front}
 use Rattle.mig_tool_report.specs.declared.outcome.Outcome.TheVariants as outcomes

@@ -1,21 +1,16 @@
 -- An address that means a frame of an input doesn't come to a refusal, and the other way round.
-use Rattle.mig_tool_guest.proofs.Common.{Passes, HostOf, WalkSummary, in_stream, in_host, MeansFrame, StreamHasFrame, FrameInStream, HostHasFrame, FrameInHost, any_host_at, ◌≡◌, ℕ, List, Option, Some, None, refl, sym, ap, subst, ◌∙◌, GuestOf}
+use Rattle.mig_tool_guest.proofs.Common.{Passes, HostOf, WalkSummary, in_stream, in_host, MeansFrame, StreamHasFrame, FrameInStream, HostHasFrame, FrameInHost, any_host_at, ◌≡◌, ℕ, List, Option, Some, None, refl, sym, ap, subst, ◌∙◌, GuestOf, Faulty, unsoundness, one_front, Standing, MeansNone, StreamHasNone, HasUnsoundHost, HostHasNone}
 use Rattle.mig_bytes.specs.Judged.{Judged}
-use Rattle.mig_bytes.specs.Judged.Judged.{Faulty}
 use Rattle.mig_headers.specs.declared.image_fault.ImageCause.{ImageCause}
 use Rattle.mig_headers.specs.declared.image_fault.ImagePlace.{ImagePlace}
 use Rattle.mig_headers.specs.declared.unsound.Unsound.{Unsound}
-use Rattle.mig_host_view.specs.Sound.{unsoundness}
 use Rattle.mig_host_view.specs.View.{view}
 use Rattle.mig_host_view.proofs.SoundRows.{sound_is_faultless}
-use Rattle.mig_libxl_form.proofs.Laws.{one_front}
 use Rattle.mig_tool_report.specs.declared.outcome.WalkEnd.{WalkEnd}
-use Rattle.mig_host_laws.specs.Standing.{Standing}
 use Rattle.mig_walk.specs.Walks.{IsWalked}
 use Rattle.mig_walk.specs.declared.walk.Walked.{Walked}
 use Rattle.mig_walk.proofs.OneAnswer.{one_answer}
 use Rattle.mig_walk.proofs.Standings.{one_number, one_machine}
-use Rattle.mig_tool_guest.specs.Addresses.{MeansNone, StreamHasNone, HasUnsoundHost, HostHasNone}
 use Rattle.mig_tool_report.specs.declared.outcome.WalkEnd.TheVariants as ends
 use Rattle.mig_walk.specs.declared.walk.Walked.TheVariants as walks
 

@@ -1,21 +1,10 @@
 -- What the steps of a walk answer.
 use Rattle.std.specs.Prelude.{◌≡◌, ◌⊎◌, ⊤, ℕ, List, Option, Some, None, Result, Ok, Err}
-use Rattle.std.specs.Io.KnownBytes.{Appends}
-use Rattle.mig_bytes.specs.Bytes.{AppendsPart}
-use Rattle.mig_bytes.specs.Faults.{Rose}
-use Rattle.mig_guest.specs.Hosts.{HostOf}
-use Rattle.mig_host_view.specs.Sound.{IsSound, unsoundness}
-use Rattle.mig_tool_report.specs.Outcome.{status_of, line_of}
-use Rattle.mig_tool_report.specs.Report.{Reports, walked_line}
-use Rattle.mig_tool_report.specs.declared.outcome.Outcome.{Outcome}
+use Rattle.mig_tool_guest.specs.Common.{Appends, AppendsPart, Rose, HostOf, IsSound, unsoundness, status_of, line_of, Reports, walked_line, Outcome, WalkSummary, Status, Standing, in_host, OutcomeSays, Refusing}
 use Rattle.mig_tool_report.specs.declared.outcome.Outcome.TheVariants as outcomes
 use Rattle.mig_tool_report.specs.declared.outcome.Refusal.TheVariants as refusals
-use Rattle.mig_tool_report.specs.declared.outcome.WalkSummary.{WalkSummary}
-use Rattle.mig_tool_report.specs.declared.status.Status.{Status}
 use Rattle.mig_tool_report.specs.declared.status.Status.TheVariants as statuses
-use Rattle.mig_host_laws.specs.Standing.{Standing, in_host}
 use Rattle.mig_tool_guest.specs.Addresses.{FrameInHost, FrameInStream, MeansNone}
-use Rattle.mig_tool_report.specs.Statuses.{OutcomeSays, Refusing}
 use Rattle.mig_tool_guest.specs.Refusals.{HasWalkImageRefusal, HasWalkRefusal}
 
 -- a walk that comes to no frame is refused so

@@ -3,22 +3,12 @@ use Rattle.std.specs.Prelude.{◌≡◌, ℕ, List, Option, Some}
 use Rattle.mig_headers.specs.declared.image_fault.ImagePlace.{ImagePlace}
 use Rattle.mig_headers.specs.declared.image_fault.ImageCause.{ImageCause}
 use Rattle.mig_bytes.specs.Judged.{Judged}
-use Rattle.mig_bytes.specs.Judged.Judged.{Passes}
+use Rattle.mig_tool_guest.specs.Common.{Passes, GuestOf, HostOf, most_width, IsSound, unsoundness, view, host_at, AcceptedStream, walked_line, WalkSummary, Standing, in_stream, in_host, IsWalked}
 use Rattle.mig_headers.specs.declared.unsound.Unsound.{Unsound}
 use Rattle.mig_pagetypes.specs.PageTypes.{number_of}
 use Rattle.mig_pagetypes.specs.declared.page_type.PageType.{PageType}
-use Rattle.mig_guest.specs.Guests.{GuestOf}
-use Rattle.mig_guest.specs.Hosts.{HostOf, most_width}
-use Rattle.mig_host_view.specs.Sound.{IsSound, unsoundness}
-use Rattle.mig_host_view.specs.View.{view}
-use Rattle.mig_image.specs.GuestImageForm.{host_at}
-use Rattle.mig_libxl_form.specs.Spelled.{AcceptedStream}
-use Rattle.mig_tool_report.specs.Report.{walked_line}
 use Rattle.mig_tool_report.specs.declared.outcome.WalkEnd.{WalkEnd}
 use Rattle.mig_tool_report.specs.declared.outcome.WalkEnd.TheVariants as ends
-use Rattle.mig_tool_report.specs.declared.outcome.WalkSummary.{WalkSummary}
-use Rattle.mig_host_laws.specs.Standing.{Standing, in_stream, in_host}
-use Rattle.mig_walk.specs.Walks.{IsWalked}
 use Rattle.mig_walk.specs.declared.walk.Walked.TheVariants as walks
 
 -- the address means this frame, of a type with this number

@@ -1,23 +1,13 @@
 -- An accepted front of the input, and what was written or reported of its guest.
 use Rattle.std.specs.Prelude.{◌≡◌, ◌↔◌, ◌≤◌, ℕ, List, ◌++◌, length, Some, Option}
 use Rattle.std.specs.FinMap as maps
-use Rattle.std.specs.Io.KnownBytes.{Appends}
-use Rattle.mig_bytes.specs.Bytes.{AppendsPart}
-use Rattle.mig_bytes.specs.Judged.Judged.{Passes}
-use Rattle.mig_guest.specs.Guests.{GuestOf}
-use Rattle.mig_guest.specs.Hosts.{IsValid}
+use Rattle.mig_tool_guest.specs.Common.{Appends, AppendsPart, Passes, GuestOf, IsValid, host_at, IsSound, view, canon_any, AcceptedStream, ok_line}
 use Rattle.mig_host.specs.Hosted.{hosted}
 use Rattle.mig_image.specs.declared.version.GuestImageVersion.TheVariants.{Two}
 use Rattle.mig_image.specs.GuestImage.{guest_image}
-use Rattle.mig_image.specs.GuestImageForm.{host_at}
-use Rattle.mig_host_view.specs.Sound.{IsSound}
-use Rattle.mig_host_view.specs.View.{view}
 use Rattle.mig_libxl_form.specs.Carried.{IsCarried}
-use Rattle.mig_canon.specs.CanonStream.{canon_any}
-use Rattle.mig_libxl_form.specs.Spelled.{AcceptedStream}
 use Rattle.mig_restore_form.specs.Mean.{differs_of}
 use Rattle.mig_tool_report.specs.declared.outcome.Summary.{Summary}
-use Rattle.mig_tool_report.specs.Report.{ok_line}
 
 -- that a front of an input is accepted with this guest, and what follows it
 abbrev pub Accepting : Type 1

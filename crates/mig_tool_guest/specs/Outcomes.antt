@@ -1,9 +1,8 @@
 -- What the answer of a reader comes to.
 use Rattle.mig_bytes.specs.declared.answer.Answer.{Answer}
 use Rattle.mig_bytes.specs.declared.answer.Answer.TheVariants as answers
-use Rattle.mig_tool_report.specs.declared.outcome.Outcome.{Outcome}
+use Rattle.mig_tool_guest.specs.Common.{Outcome, Refusal}
 use Rattle.mig_tool_report.specs.declared.outcome.Outcome.TheVariants as outcomes
-use Rattle.mig_tool_report.specs.declared.outcome.Refusal.{Refusal}
 
 -- the outcome where no stream is read, and what a refusal is told as
 abbrev pub outcome_of : {P C : Type 0} → (P → C → Refusal) → Answer P C → Outcome

@@ -1,16 +1,7 @@
 -- What each command that reads a guest, or passes its stream on, promises.
 use Rattle.std.specs.Prelude.{◌≡◌, ◌⊎◌, ℕ, List, ⊤, Some}
-use Rattle.std.specs.Io.KnownBytes.{Appends}
-use Rattle.mig_bytes.specs.Bytes.{AppendsPart}
-use Rattle.mig_bytes.specs.Faults.{Rose}
-use Rattle.mig_guest.specs.Guests.{GuestOf}
-use Rattle.mig_canon.specs.CanonStream.{canon_any}
+use Rattle.mig_tool_guest.specs.Common.{Appends, AppendsPart, Rose, GuestOf, canon_any, AcceptedStream, PassedPart, IsDoneOrStarved, Promise, reports_line, writes_text, ok_line, relayed_line, walked_line, EndsWithOwnLine, PutsLineOrFault}
 use Rattle.mig_legacy.specs.Spelled.{AcceptedLegacy}
-use Rattle.mig_libxl_form.specs.Spelled.{AcceptedStream}
-use Rattle.mig_relay.specs.Relaying.{PassedPart}
-use Rattle.mig_tool_report.specs.Promises.{IsDoneOrStarved, Promise, reports_line, writes_text}
-use Rattle.mig_tool_report.specs.Report.{ok_line, relayed_line, walked_line}
-use Rattle.mig_tool_report.specs.Statuses.{EndsWithOwnLine, PutsLineOrFault}
 use Rattle.mig_tool_report.specs.declared.status.Status.TheVariants as statuses
 use Rattle.mig_tool_guest.specs.Addresses.{AddressReported, FrameInHost, FrameInStream, HostHasFrame, StreamHasFrame}
 use Rattle.mig_tool_guest.specs.Fronts.{Accepting, Normalised, PartWritten, Restored, Verified, restored_text}

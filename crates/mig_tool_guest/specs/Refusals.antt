@@ -1,10 +1,7 @@
 -- Which refusals an input has, by what is read of it.
 use Rattle.std.specs.Prelude.{◌≡◌, ℕ, List}
-use Rattle.mig_bytes.specs.Judged.Judged.{Faulty}
+use Rattle.mig_tool_guest.specs.Common.{Faulty, IsStreamRefused, IsOpenRefused, Refusal}
 use Rattle.mig_legacy.specs.Stream.{IsLegacyRefused}
-use Rattle.mig_libxl_form.specs.Stream.{IsStreamRefused}
-use Rattle.mig_relay.specs.Streams.{IsOpenRefused}
-use Rattle.mig_tool_report.specs.declared.outcome.Refusal.{Refusal}
 use Rattle.mig_tool_report.specs.declared.outcome.Refusal.TheVariants as refusals
 use Rattle.mig_tool_guest.specs.Addresses.{HasUnsoundHost, HostHasNone, StreamHasNone, any_host_at}
 

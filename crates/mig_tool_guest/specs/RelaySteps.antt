@@ -1,11 +1,9 @@
 -- What a relay's answer comes to.
 use Rattle.mig_relay.specs.declared.answer.RelayAnswer.{RelayAnswer}
 use Rattle.mig_relay.specs.declared.answer.RelayAnswer.TheVariants as answers
-use Rattle.mig_relay.specs.declared.answer.Relayed.{Relayed}
-use Rattle.mig_tool_report.specs.declared.outcome.Outcome.{Outcome}
+use Rattle.mig_tool_guest.specs.Common.{Relayed, Outcome, RelaySummary}
 use Rattle.mig_tool_report.specs.declared.outcome.Outcome.TheVariants as outcomes
 use Rattle.mig_tool_report.specs.declared.outcome.Refusal.TheVariants as refusals
-use Rattle.mig_tool_report.specs.declared.outcome.RelaySummary.{RelaySummary}
 
 abbrev pub outcome_of_relay : RelayAnswer → Outcome
 outcome_of_relay (answers.Refused place cause) = outcomes.Refused (refusals.Stream place cause)

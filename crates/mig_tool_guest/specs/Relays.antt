@@ -1,19 +1,7 @@
 -- A stream that is passed on: what was taken, and what was written of it.
 use Rattle.std.specs.Prelude.{◌≡◌, ◌⊎◌, ℕ, List, Option, Some}
-use Rattle.mig_bytes.specs.Bytes.{AppendsPart}
-use Rattle.mig_bytes.specs.Faults.{Rose}
-use Rattle.mig_bytes.specs.Judged.Judged.{Passes}
-use Rattle.mig_headers.specs.declared.fault.Cause.{Cause}
-use Rattle.mig_headers.specs.declared.fault.Place.{Place}
-use Rattle.mig_libxl_form.specs.Stream.{StreamOf}
-use Rattle.mig_relay.specs.Streams.{open_stream_at}
-use Rattle.mig_relay.specs.Relaying.{PassedWhole, PassedPart, RefusedPart, IsCutPart, IsWrittenPart}
-use Rattle.mig_relay.specs.declared.answer.Relayed.{Relayed}
-use Rattle.mig_tool_report.specs.Report.{Reports, relayed_line, write_fault_line}
-use Rattle.mig_tool_report.specs.declared.outcome.RelaySummary.{RelaySummary}
-use Rattle.mig_tool_report.specs.declared.status.Status.{Status}
+use Rattle.mig_tool_guest.specs.Common.{AppendsPart, Rose, Passes, Cause, Place, StreamOf, open_stream_at, PassedWhole, PassedPart, RefusedPart, IsCutPart, IsWrittenPart, Relayed, Reports, relayed_line, write_fault_line, RelaySummary, Status, Effects}
 use Rattle.mig_tool_report.specs.declared.status.Status.TheVariants as statuses
-use Rattle.mig_tool_report.specs.Promises.{Effects}
 
 -- a front of the input may pass, and rest follows it
 pub record PassableFront (input rest : List ℕ) : Type 0 where

@@ -1,14 +1,8 @@
 -- A stream whose records are shown: what was taken, and what was written of it.
 use Rattle.std.specs.Prelude.{◌≡◌, ℕ, List, Option, Some, None, ⊤}
-use Rattle.std.specs.Io.KnownBytes.{Appends}
+use Rattle.mig_tool_guest.specs.Common.{Appends, AppendsPart, Cause, Place, Effects, OutputRises, Status}
 use Rattle.serde_json.specs.Data.{Data}
-use Rattle.mig_bytes.specs.Bytes.{AppendsPart}
-use Rattle.mig_headers.specs.declared.fault.Cause.{Cause}
-use Rattle.mig_headers.specs.declared.fault.Place.{Place}
 use Rattle.mig_show.specs.Shows.{Shows, tree_line}
-use Rattle.mig_tool_report.specs.Promises.{Effects}
-use Rattle.mig_tool_report.specs.Statuses.{OutputRises}
-use Rattle.mig_tool_report.specs.declared.status.Status.{Status}
 use Rattle.mig_tool_report.specs.declared.status.Status.TheVariants as statuses
 use Rattle.mig_tool_guest.specs.Relays.{PassableFront}
 

@@ -1,10 +1,8 @@
 -- What the showing of a stream comes to.
 use Rattle.std.specs.Prelude.{Option, Some, None}
-use Rattle.mig_headers.specs.declared.fault.Cause.{Cause}
-use Rattle.mig_headers.specs.declared.fault.Place.{Place}
+use Rattle.mig_tool_guest.specs.Common.{Cause, Place, Outcome}
 use Rattle.mig_show.specs.declared.viewer.ShowAnswer.{ShowAnswer}
 use Rattle.mig_show.specs.declared.viewer.ShowAnswer.TheVariants as answers
-use Rattle.mig_tool_report.specs.declared.outcome.Outcome.{Outcome}
 use Rattle.mig_tool_report.specs.declared.outcome.Outcome.TheVariants as outcomes
 use Rattle.mig_tool_report.specs.declared.outcome.Refusal.TheVariants as refusals
 

@@ -1,16 +1,11 @@
 ghost use Rattle.std.specs.Prelude.{◌≡◌, ◌≤◌, ℕ, IfOk, IfErr, OnOk};
 ghost use Rattle.mig_tool_report.specs.declared.outcome.Refusal.TheVariants as refusals;
 ghost use Rattle.mig_tool_report.specs.declared.status.Status.TheVariants as statuses;
-ghost use Rattle.mig_host_view.specs.Sound.{IsSound};
-ghost use Rattle.mig_host_laws.specs.Standing.{Standing, in_host};
-ghost use Rattle.mig_walk.specs.Walks.{IsWalked};
+ghost use Rattle.mig_tool_guest.specs.Common.{IsSound, Standing, in_host, IsWalked, IsUnwritten, InputRises, CarriedOut, effects, input_effect, sink_effect, unreached};
 ghost use Rattle.mig_tool_guest.specs.Addresses.{MeansFrame};
 ghost use Rattle.mig_tool_guest.specs.AddressSteps.{EndsInHost, EndsWalk, FindsInImage, FindsInStream, TellsFound, status_found};
 ghost use Rattle.mig_tool_guest.specs.Outcomes.{outcome_of};
 ghost use Rattle.mig_tool_guest.specs.Promises.{walk_image_promise, walk_promise};
-ghost use Rattle.mig_tool_report.specs.Outcome.{IsUnwritten};
-ghost use Rattle.mig_tool_report.specs.Statuses.{InputRises};
-ghost use Rattle.mig_tool_report.specs.Promises.{CarriedOut, effects, input_effect, sink_effect, unreached};
 
 use crate::commands::unread;
 use mig_bytes::{Sink, Source};

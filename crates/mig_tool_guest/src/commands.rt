@@ -1,14 +1,9 @@
 ghost use Rattle.std.specs.Prelude.{◌≡◌, ◌⊎◌};
-ghost use Rattle.std.specs.Io.KnownBytes.{Appends};
-ghost use Rattle.mig_bytes.specs.Bytes.{AppendsPart};
+ghost use Rattle.mig_tool_guest.specs.Common.{Appends, AppendsPart, canon_any, OutputRises, CarriedOut, ComesTo, effects, input_effect, sink_effect, unreached, status_of};
 ghost use Rattle.mig_pvtables.specs.Whole.{IsWhole};
-ghost use Rattle.mig_canon.specs.CanonStream.{canon_any};
 ghost use Rattle.mig_tool_guest.specs.Fronts.{restored_text};
 ghost use Rattle.mig_tool_guest.specs.Outcomes.{outcome_of};
 ghost use Rattle.mig_tool_guest.specs.Promises.{normalise_promise, convert_promise, restore_promise, verify_promise};
-ghost use Rattle.mig_tool_report.specs.Statuses.{OutputRises};
-ghost use Rattle.mig_tool_report.specs.Promises.{CarriedOut, ComesTo, effects, input_effect, sink_effect, unreached};
-ghost use Rattle.mig_tool_report.specs.Outcome.{status_of};
 ghost use Rattle.mig_tool_report.specs.Words.{IsBase};
 ghost use Rattle.mig_tool_report.specs.declared.outcome.Outcome.TheVariants as outcomes;
 ghost use Rattle.mig_tool_report.specs.declared.outcome.Refusal.TheVariants as refusals;

@@ -1,12 +1,8 @@
 ghost use Rattle.std.specs.Prelude.{◌≡◌, ◌≢◌, ◌≤◌, ◌⊎◌};
-ghost use Rattle.std.specs.Io.KnownBytes.{Appends};
-ghost use Rattle.mig_bytes.specs.Bytes.{AppendsPart};
-ghost use Rattle.mig_bytes.specs.Faults.{Rose};
-ghost use Rattle.mig_tool_report.specs.Report.{relayed_line};
+ghost use Rattle.mig_tool_guest.specs.Common.{Appends, AppendsPart, Rose, relayed_line, CarriedOut, effects, input_effect, sink_effect};
 ghost use Rattle.mig_tool_report.specs.declared.status.Status.TheVariants as statuses;
 ghost use Rattle.mig_tool_guest.specs.RelaySteps.{outcome_of_relay, summary_of_relay};
 ghost use Rattle.mig_tool_guest.specs.Promises.{relay_promise};
-ghost use Rattle.mig_tool_report.specs.Promises.{CarriedOut, effects, input_effect, sink_effect};
 
 use mig_bytes::{Sink, Source};
 use mig_relay::{RelayAnswer, Relayed, relay as pass_on};

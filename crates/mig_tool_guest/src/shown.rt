@@ -1,13 +1,9 @@
 ghost use Rattle.std.specs.Prelude.{◌≡◌, ◌⊎◌, string_bytes};
-ghost use Rattle.std.specs.Io.KnownBytes.{Appends};
-ghost use Rattle.mig_bytes.specs.Bytes.{AppendsPart};
-ghost use Rattle.mig_tool_report.specs.Outcome.{status_of};
+ghost use Rattle.mig_tool_guest.specs.Common.{Appends, AppendsPart, status_of, OutputRises, CarriedOut, ComesTo, effects, input_effect, sink_effect, unreached};
 ghost use Rattle.mig_tool_report.specs.declared.outcome.Outcome.TheVariants as outcomes;
 ghost use Rattle.mig_tool_guest.specs.Promises.{show_promise};
 ghost use Rattle.mig_tool_guest.specs.Shown.{SaysShown};
 ghost use Rattle.mig_tool_guest.specs.ShownSteps.{outcome_of_shown, outcome_of_unshown};
-ghost use Rattle.mig_tool_report.specs.Statuses.{OutputRises};
-ghost use Rattle.mig_tool_report.specs.Promises.{CarriedOut, ComesTo, effects, input_effect, sink_effect, unreached};
 
 use mig_bytes::{Sink, Source, put_all};
 use mig_headers::{Cause, Place};

@@ -1,9 +1,6 @@
 -- Words name one command at most.
-use mathlib.Core.Logic.{inl, inr}
-use Rattle.mig_tool_report.proofs.Common.{◌≡◌, ◌+◌, ◌*◌, Some, ℕ, ◌<◌, ◌^◌, List, [], length, get_or, sym, ap, ◌∙◌, refl, arith, IsBase, IsFrameNumber, Names, Command, Convert, Exercise, Normalise, Restore, Save, Verify, Walk, WalkImage, Relay, Show}
-use Rattle.std.proofs.lemmas.Fmt.{decimal_injective}
+use Rattle.mig_tool_report.proofs.Common.{◌≡◌, ◌+◌, ◌*◌, Some, ℕ, ◌<◌, ◌^◌, List, [], length, get_or, sym, ap, ◌∙◌, refl, arith, IsBase, IsFrameNumber, Names, Command, Convert, Exercise, Normalise, Restore, Save, Verify, Walk, WalkImage, Relay, Show, inl, inr, decimal_injective, hex_behind, NamePlace}
 use Rattle.mig_headers.specs.RecordTypes.{vcpu_limit}
-use Rattle.mig_tool_report.specs.Words.{hex_behind, NamePlace}
 
 -- the third letter of the first word, and how long that is
 abbrev initial : List (List ℕ) → ℕ

@@ -1,17 +1,8 @@
 -- Promises that are kept.
-use Rattle.mig_tool_report.proofs.Common.{◌≡◌, ℕ, ◌≤◌, List, Option, refl, subst, sym, ◌∙◌, arith, line_of}
-use mathlib.Core.Logic.{inl, inr}
-use Rattle.std.specs.Prelude.{◌⊎◌, ◌≢◌}
+use Rattle.mig_tool_report.proofs.Common.{◌≡◌, ℕ, ◌≤◌, List, Option, refl, subst, sym, ◌∙◌, arith, line_of, inl, inr, ◌⊎◌, ◌≢◌, AppendsPart, Rose, IsUnwritten, status_of, Reports, EndsWithOwnLine, InputRises, NoneFailed, OutcomeSays, OutputRises, PutsLineOf, Refusing, StatusSays, Outcome, Status}
 use Rattle.std.specs.Io.KnownBytes.{Appends}
-use Rattle.mig_bytes.specs.Bytes.{AppendsPart}
-use Rattle.mig_bytes.specs.Faults.{Rose}
-use Rattle.mig_tool_report.specs.Outcome.{IsUnwritten, status_of}
 use Rattle.mig_tool_report.specs.Promises.{CarriedOut, ComesTo, Effects, InputEffect, IsUntouched, Promise, SinkEffect, effects, reports_line, unreached}
-use Rattle.mig_tool_report.specs.Report.{Reports}
-use Rattle.mig_tool_report.specs.Statuses.{EndsWithOwnLine, InputRises, NoneFailed, OutcomeSays, OutputRises, PutsLineOf, Refusing, StatusSays}
-use Rattle.mig_tool_report.specs.declared.outcome.Outcome.{Outcome}
 use Rattle.mig_tool_report.specs.declared.outcome.Outcome.TheVariants as outcomes
-use Rattle.mig_tool_report.specs.declared.status.Status.{Status}
 use Rattle.mig_tool_report.specs.declared.status.Status.TheVariants as statuses
 use Rattle.mig_tool_report.proofs.Statuses.{line_reported, says_of}
 

@@ -1,10 +1,6 @@
 -- What a line that was put comes to on the report.
-use Rattle.mig_tool_report.proofs.Common.{◌≡◌, ℕ, List, [], length, arith, Option, Result, Ok, Err, ap}
-use mathlib.Core.Logic.{inl, inr}
-use Rattle.mig_bytes.specs.Bytes.{Puts}
-use Rattle.mig_bytes.specs.Faults.{FaultHasCause}
+use Rattle.mig_tool_report.proofs.Common.{◌≡◌, ℕ, List, [], length, arith, Option, Result, Ok, Err, ap, inl, inr, Puts, FaultHasCause, Reports}
 use Rattle.mig_bytes.specs.declared.failure.WriteFailed.{WriteFailed}
-use Rattle.mig_tool_report.specs.Report.{Reports}
 
 pub reports : (line : List ℕ) (old new : Option (List ℕ)) (before now : ℕ) (r : Result (Unit {0}) WriteFailed) → Puts line old new r → FaultHasCause before now r → Reports line old new before now
 reports line old new before now (Ok u) put cause = inl (cause.quiet, put)

@@ -1,11 +1,6 @@
 -- The status and the line of what a command came to.
-use Rattle.mig_tool_report.proofs.Common.{◌≡◌, ℕ, List, Option, Some, None, refl, subst, sym, line_of}
-use Rattle.mig_tool_report.specs.Outcome.{status_of}
-use Rattle.mig_tool_report.specs.Report.{Reports}
-use Rattle.mig_tool_report.specs.Statuses.{IsStatusLine, OutcomeSays, Refusing, ReportsStatus, StatusSays}
-use Rattle.mig_tool_report.specs.declared.outcome.Outcome.{Outcome}
+use Rattle.mig_tool_report.proofs.Common.{◌≡◌, ℕ, List, Option, Some, None, refl, subst, sym, line_of, status_of, Reports, IsStatusLine, OutcomeSays, Refusing, ReportsStatus, StatusSays, Outcome, Status}
 use Rattle.mig_tool_report.specs.declared.outcome.Outcome.TheVariants as outcomes
-use Rattle.mig_tool_report.specs.declared.status.Status.{Status}
 
 module _ (D P : List ℕ → Type 0) (Has : Refusing) where
   -- the line of an outcome is that of its status

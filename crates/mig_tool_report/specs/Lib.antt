@@ -1,3 +1,4 @@
+mod Common
 pub mod Words
 pub mod Report
 pub mod Outcome

@@ -1,8 +1,6 @@
 -- The lines that the program puts on its report.
 use Rattle.std.specs.Prelude.{◌≡◌, ◌≤◌, ◌⊎◌, ℕ, List, [], ◌++◌, codes, decimal, Option, Some, None}
-use Rattle.std.specs.Io.KnownBytes.{Appends}
-use Rattle.mig_bytes.specs.Bytes.{AppendsPart}
-use Rattle.mig_bytes.specs.Faults.{Rose}
+use Rattle.mig_tool_report.specs.Common.{Appends, AppendsPart, Rose}
 use Rattle.mig_headers.specs.declared.kind.Kind.{Kind}
 use Rattle.mig_headers.specs.declared.kind.Kind.TheVariants.{Pv, Hvm}
 use Rattle.mig_headers_text.specs.ImageTexts.{text_of_image_place, text_of_image_cause}

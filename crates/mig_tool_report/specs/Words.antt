@@ -1,7 +1,7 @@
 -- The words of a command line, and the commands that they name.
 use Rattle.std.specs.Prelude.{◌≡◌, ◌≢◌, ◌⊎◌, ◌<◌, ◌≤◌, ◌^◌, ◌+◌, ◌-◌, ◌*◌, ◌&&◌, ℕ, List, [], ◌∷◌, length, map, codes, decimal, string_bytes, slice_index, nat_le, Option, Some, None, option_and_then, if◌then◌else◌}
 use Rattle.std.specs.declared.string.String.{String}
-use Rattle.mig_headers.specs.RecordTypes.{vcpu_limit}
+use Rattle.mig_tool_report.specs.Common.{vcpu_limit}
 use Rattle.mig_pagetypes.specs.Limits.{machine_limit, most_frames}
 use Rattle.mig_tool_report.specs.declared.command.Command.{Command}
 use Rattle.mig_tool_report.specs.declared.command.Command.TheVariants.{Normalise, Restore, Verify, Convert, Save, Exercise, Walk, WalkImage, Relay, Show}

@@ -1,7 +1,7 @@
 ghost use Rattle.std.specs.Prelude.{◌≡◌, ◌↔◌, ◌<◌, ◌^◌, ◌∷◌, [], ℕ, IfSome, IfNone, IsTrue, decimal, codes, length, ◌≤◌};
 ghost use Rattle.mig_tool_report.specs.Words.{texts_of, IsBase, IsFrameNumber, hex_value as value_of_letter, hex_behind, IsAddress, ArePlace, Names};
 ghost use Rattle.mig_tool_report.specs.declared.command.Command.{Command};
-ghost use Rattle.mig_headers.specs.RecordTypes.{vcpu_limit};
+ghost use Rattle.mig_tool_report.specs.Common.{vcpu_limit};
 
 use itoa::Buffer;
 use mig_headers::VCPU_LIMIT;

@@ -1,6 +1,5 @@
 ghost use Rattle.std.specs.Prelude.{◌≡◌, ◌≤◌, ◌++◌, codes, decimal};
-ghost use Rattle.mig_bytes.specs.Bytes.{Puts};
-ghost use Rattle.mig_bytes.specs.Faults.{FaultHasCause};
+ghost use Rattle.mig_tool_report.specs.Common.{Puts, FaultHasCause};
 ghost use Rattle.mig_tool_report.specs.Outcome.{status_of, line_of};
 ghost use Rattle.mig_tool_report.specs.Report.{Reports, refusal_line, refusal_place, refusal_cause, text_of_walk_end, kind_name, differs_text, ok_line, saved_line, exercised_line, walked_line, relayed_line};
 ghost use Rattle.mig_tool_report.specs.declared.outcome.Outcome.TheVariants as outcomes;

@@ -1,24 +1,13 @@
 -- What an exercise comes to.
-use Rattle.mig_tool_save.proofs.Common.{◌≡◌, ◌⊎◌, ℕ, ◌++◌, List, [], length, Option, Some, None, Ok, Err, refl, sym, ap, subst, ◌∙◌, arith, GuestOf, AcceptedStream, inl, inr, append-nil, HostOf, unsoundness, Outcome, LineOf, ◌≤◌, view, canon_any, Paced, IsExerciseSize, host_of_exercise, script_of_exercise, SaveSummary, WroteLive, WroteLiveTo, paused_host, ComesToNone}
+use Rattle.mig_tool_save.proofs.Common.{◌≡◌, ◌⊎◌, ℕ, ◌++◌, List, [], length, Option, Some, None, Ok, Err, refl, sym, ap, subst, ◌∙◌, arith, GuestOf, AcceptedStream, inl, inr, append-nil, HostOf, unsoundness, Outcome, LineOf, ◌≤◌, view, canon_any, Paced, IsExerciseSize, host_of_exercise, script_of_exercise, SaveSummary, WroteLive, WroteLiveTo, paused_host, ComesToNone, RisesOnReadFault, ◌*◌, data_count, exercise_canon_len, ◌≢◌, Rose, unchanged, CarriedOut, Effects, Reports, exercised_line, memory_line, EndsWithOwnLine, InputRises, PutsLineOf, ReportsStatus, StatusSays, Status, exercise_promise}
 use Rattle.mig_bytes.specs.Answers.{or_stop}
-use Rattle.mig_bytes.specs.Faults.{RisesOnReadFault}
 use Rattle.mig_headers.specs.declared.fault.Cause.{Cause}
 use Rattle.mig_headers.specs.declared.fault.Place.{Place}
 use Rattle.mig_libxl.specs.Reads.{ReadsStream}
 use Rattle.mig_libxl_form.proofs.Laws.{accepted_is_stream, one_front, never_both}
 use Rattle.mig_restore.specs.declared.read.Reading.{Reading}
 use Rattle.mig_bytes.specs.declared.answer.Answer.{Answer}
-use Rattle.std.specs.Prelude.{◌*◌}
-use Rattle.mig_exercise.specs.ExerciseHosts.{data_count, exercise_canon_len}
-use Rattle.std.specs.Prelude.{◌≢◌}
-use Rattle.mig_bytes.specs.Faults.{Rose}
-use Rattle.mig_tool_report.proofs.Promises.{unchanged}
-use Rattle.mig_tool_report.specs.Promises.{CarriedOut, Effects}
-use Rattle.mig_tool_report.specs.Report.{Reports, exercised_line, memory_line}
-use Rattle.mig_tool_report.specs.Statuses.{EndsWithOwnLine, InputRises, PutsLineOf, ReportsStatus, StatusSays}
-use Rattle.mig_tool_report.specs.declared.status.Status.{Status}
 use Rattle.mig_tool_report.specs.declared.status.Status.TheVariants as statuses
-use Rattle.mig_tool_save.specs.Promises.{exercise_promise}
 use Rattle.mig_tool_save.specs.Exercises.{Exercises, ExerciseSaved, SaysExercise}
 use Rattle.mig_bytes.specs.declared.answer.Answer.TheVariants as answers
 use Rattle.mig_tool_report.specs.declared.outcome.Outcome.TheVariants as outcomes

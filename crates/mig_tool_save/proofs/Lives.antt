@@ -1,18 +1,11 @@
 -- A machine that was saved, and what was written of it.
-use Rattle.mig_tool_save.proofs.Common.{◌≡◌, ℕ, ◌++◌, List, [], length, Option, Some, None, Err, refl, sym, ap, subst, ◌∙◌, arith, inl, ◌+◌, Rose, Unsound, HostOf, headers, unsoundness, view, AcceptedStream, HasRounds, LineOf, history_of, machine_state, Paced, IsTrusted, SaveAnswer, Outcome, WroteLive, WroteLiveTo, paused_host, ComesToNone}
+use Rattle.mig_tool_save.proofs.Common.{◌≡◌, ℕ, ◌++◌, List, [], length, Option, Some, None, Err, refl, sym, ap, subst, ◌∙◌, arith, inl, ◌+◌, Rose, Unsound, HostOf, headers, unsoundness, view, AcceptedStream, HasRounds, LineOf, history_of, machine_state, Paced, IsTrusted, SaveAnswer, Outcome, WroteLive, WroteLiveTo, paused_host, ComesToNone, Result, ◌∷◌, map, wrapper_opening, wrapper_closing, MachineSeen, HasPaces, pfns_paced, EndsUnsound, PausesMachine, SaveEnds, SaveWritten, WroteNoStream}
 use Rattle.mig_headers.specs.declared.kind.Kind.{Kind}
-use Rattle.std.proofs.Common.{Result}
-use Rattle.std.specs.Prelude.{◌∷◌, map}
 use Rattle.mig_records.specs.Records.{text_of}
 use Rattle.mig_records_pages.specs.Told.{telling_record}
-use Rattle.mig_canon.specs.CanonStream.{wrapper_opening, wrapper_closing}
 use Rattle.mig_guest.specs.MachineStates.{IsSameShape, MachineState}
 use Rattle.mig_guest.specs.Rounds.{Rounds, Tight, all_read}
-use Rattle.mig_machine.specs.MachineSeen.{MachineSeen}
 use Rattle.mig_machine.specs.Exact.{IsExactFrom}
-use Rattle.mig_machine.specs.Paced.{HasPaces, pfns_paced}
-use Rattle.mig_dirtysave.specs.SaveAnswers.{EndsUnsound, PausesMachine, SaveEnds, SaveWritten}
-use Rattle.mig_dirtysave.specs.Unread.{WroteNoStream}
 use Rattle.mig_tool_report.specs.declared.outcome.Refusal.TheVariants as refusals
 use Rattle.mig_dirtysave.specs.declared.answer.SaveAnswer.TheVariants as answers
 use Rattle.mig_tool_report.specs.declared.outcome.Outcome.TheVariants as outcomes

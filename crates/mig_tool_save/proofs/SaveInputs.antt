@@ -1,13 +1,9 @@
 -- An input that is a host and a script isn't refused.
-use Rattle.mig_tool_save.proofs.Common.{◌≡◌, ℕ, List, length, sym, ap, subst, ◌∙◌, arith, Refusal, HasSaveRefusal, Passes, Unsound, HostOf, LineOf, HasHostAndScript, saved_host_at}
+use Rattle.mig_tool_save.proofs.Common.{◌≡◌, ℕ, List, length, sym, ap, subst, ◌∙◌, arith, Refusal, HasSaveRefusal, Passes, Unsound, HostOf, LineOf, HasHostAndScript, saved_host_at, Faulty, IsBadLine, IsOfInput, HasUnsoundPause}
 use Rattle.mig_bytes.specs.Judged.{Judged}
-use Rattle.mig_bytes.specs.Judged.Judged.{Faulty}
 use Rattle.mig_headers.specs.declared.image_fault.ImageCause.{ImageCause}
 use Rattle.mig_headers.specs.declared.image_fault.ImagePlace.{ImagePlace}
-use Rattle.mig_machine_script.specs.Scripts.{IsBadLine}
 use Rattle.mig_machine_script.proofs.OneScript.{never_both}
-use Rattle.mig_tool_report.specs.Promises.{IsOfInput}
-use Rattle.mig_tool_save.specs.LiveSaves.{HasUnsoundPause}
 use Rattle.mig_tool_report.specs.declared.outcome.Refusal.TheVariants as refusals
 
 abbrev HostJudged : Type 0

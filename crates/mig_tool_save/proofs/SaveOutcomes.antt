@@ -1,13 +1,7 @@
 -- What a live save comes to, says and reports.
-use Rattle.mig_tool_save.proofs.Common.{◌+◌, ◌⊎◌, ◌≡◌, ℕ, List, [], length, arith, Option, Some, None, Ok, Err, refl, sym, ap, subst, ◌∙◌, ◌≤◌, Refusal, HasSaveRefusal, inl, inr, append-nil, Rose, Passes, Unsound, HostOf, most_saved_width, headers, LineOf, Outcome, SaveSummary, HasHostAndScript, WroteLive, saved_host_at, ComesToNone}
-use Rattle.std.specs.Prelude.{drop}
+use Rattle.mig_tool_save.proofs.Common.{◌+◌, ◌⊎◌, ◌≡◌, ℕ, List, [], length, arith, Option, Some, None, Ok, Err, refl, sym, ap, subst, ◌∙◌, ◌≤◌, Refusal, HasSaveRefusal, inl, inr, append-nil, Rose, Passes, Unsound, HostOf, most_saved_width, headers, LineOf, Outcome, SaveSummary, HasHostAndScript, WroteLive, saved_host_at, ComesToNone, drop, RisesOnReadFault, finished, input_same, never_failed, never_usage, own_line_alone, unchanged, unwritten, CarriedOut, Effects, InputRises, NamesRefusal, OutcomeSays, PutsLineOrFault, StatusSays, save_promise, WroteNoStream, most_script_bytes, Reports, saved_line, write_fault_line, Status, StopsAt, ReadsHostToSave, ReadsHostAndScript, stop_of_script, outcome_of_stop}
 use Rattle.mig_headers.specs.declared.kind.Kind.TheVariants.{Hvm}
-use Rattle.mig_bytes.specs.Faults.{RisesOnReadFault}
-use Rattle.mig_tool_report.proofs.Promises.{finished, input_same, never_failed, never_usage, own_line_alone, unchanged, unwritten}
 use Rattle.mig_tool_report.proofs.Statuses.{line_reported, says_of}
-use Rattle.mig_tool_report.specs.Promises.{CarriedOut, Effects}
-use Rattle.mig_tool_report.specs.Statuses.{InputRises, NamesRefusal, OutcomeSays, PutsLineOrFault, StatusSays}
-use Rattle.mig_tool_save.specs.Promises.{save_promise}
 use Rattle.mig_tool_report.specs.Outcome.{IsUnwritten, status_of, line_of}
 use Rattle.std.specs.Io.KnownBytes.{Appends}
 use Rattle.mig_bytes.specs.Bytes.{AppendsPart}
@@ -15,14 +9,9 @@ use Rattle.mig_bytes.specs.declared.stop.Stop.{Stop}
 use Rattle.mig_headers.specs.Headers.{image_header_of, domain_header_of}
 use Rattle.mig_host.specs.HostView.{HostAndSpare}
 use Rattle.mig_image.specs.Answer.{ReadsHost}
-use Rattle.mig_dirtysave.specs.Unread.{WroteNoStream}
 use Rattle.mig_dirtysave.proofs.Written.{bare_headers}
 use Rattle.mig_machine_script.specs.ScriptAnswers.{ReadsScript}
-use Rattle.mig_machine_script.specs.Scripts.{most_script_bytes}
 use Rattle.mig_machine_script.specs.declared.script.ScriptAnswer.{ScriptAnswer}
-use Rattle.mig_tool_report.specs.Report.{Reports, saved_line, write_fault_line}
-use Rattle.mig_tool_report.specs.declared.status.Status.{Status}
-use Rattle.mig_tool_save.specs.SaveSteps.{StopsAt, ReadsHostToSave, ReadsHostAndScript, stop_of_script, outcome_of_stop}
 use Rattle.mig_tool_save.specs.declared.saving.HostAndScript.{HostAndScript}
 use Rattle.mig_tool_report.specs.declared.outcome.Refusal.TheVariants as refusals
 use Rattle.mig_bytes.specs.declared.stop.Stop.TheVariants as stops

@@ -1,17 +1,8 @@
 -- What the program's own exercise comes to.
 use Rattle.std.specs.Prelude.{◌≡◌, ⊤, ℕ, ◌+◌, ◌*◌, ◌≤◌, List, [], length, Option, Some}
-use Rattle.std.specs.Io.KnownBytes.{Appends}
-use Rattle.mig_bytes.specs.Bytes.{AppendsPart}
+use Rattle.mig_tool_save.specs.Common.{Appends, AppendsPart, view, canon_any, Paced, host_of_exercise, data_count, exercise_canon_len, script_of_exercise, exercised_line, SaveSummary, Status}
 use Rattle.mig_guest.specs.Rounds.{most_rounds}
-use Rattle.mig_host_view.specs.View.{view}
-use Rattle.mig_canon.specs.CanonStream.{canon_any}
-use Rattle.mig_machine.specs.Paced.{Paced}
-use Rattle.mig_exercise.specs.ExerciseHosts.{host_of_exercise, data_count, exercise_canon_len}
-use Rattle.mig_exercise.specs.ExerciseScripts.{script_of_exercise}
-use Rattle.mig_tool_report.specs.Report.{exercised_line}
 use Rattle.mig_tool_report.specs.declared.outcome.ExerciseSummary.{ExerciseSummary}
-use Rattle.mig_tool_report.specs.declared.outcome.SaveSummary.{SaveSummary}
-use Rattle.mig_tool_report.specs.declared.status.Status.{Status}
 use Rattle.mig_tool_report.specs.declared.status.Status.TheVariants as statuses
 use Rattle.mig_tool_save.specs.LiveSaves.{WroteLive, paused_host}
 

@@ -1,3 +1,4 @@
+mod Common
 pub mod LiveSaves
 pub mod Saves
 pub mod SaveSteps

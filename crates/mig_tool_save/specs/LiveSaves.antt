@@ -1,32 +1,20 @@
 -- A host that is saved live: what it is read from, when it isn't saved, and what is written of it.
 use Rattle.std.specs.Prelude.{◌≡◌, ◌<◌, ◌≤◌, ◌+◌, ℕ, List, [], ◌∷◌, ◌++◌, length, map, drop, false, Option, Some, None}
 use Rattle.std.specs.List.{AllByRecursion}
-use Rattle.std.specs.Io.KnownBytes.{Appends}
+use Rattle.mig_tool_save.specs.Common.{Appends, Passes, ImageCause, ImagePlace, Unsound, HostOf, most_saved_width, unsoundness, view, wrapper_opening, wrapper_closing, AcceptedStream, LineOf, Paced, pfns_paced, SaveSummary}
 use Rattle.mig_bytes.specs.Judged.{Judged}
-use Rattle.mig_bytes.specs.Judged.Judged.{Passes}
-use Rattle.mig_headers.specs.declared.image_fault.ImageCause.{ImageCause}
-use Rattle.mig_headers.specs.declared.image_fault.ImagePlace.{ImagePlace}
-use Rattle.mig_headers.specs.declared.unsound.Unsound.{Unsound}
-use Rattle.mig_guest.specs.Hosts.{HostOf, most_saved_width}
 use Rattle.mig_records.specs.Records.{Record, text_of}
 use Rattle.mig_canon.specs.Canon.{headers}
 use Rattle.mig_records_pages.specs.Told.{FrameTold, telling_record, all_told}
-use Rattle.mig_host_view.specs.Sound.{unsoundness}
-use Rattle.mig_host_view.specs.View.{view}
 use Rattle.mig_image.specs.GuestImageForm.{host_at}
-use Rattle.mig_canon.specs.CanonStream.{wrapper_opening, wrapper_closing}
-use Rattle.mig_libxl_form.specs.Spelled.{AcceptedStream}
 use Rattle.mig_dirtysave_rounds.specs.Entries.{pfns_sent}
 use Rattle.mig_dirtysave_parts.specs.SaveTexts.{IsOtherRecord}
-use Rattle.mig_machine_script.specs.ScriptLines.{LineOf}
 use Rattle.mig_machine_script.specs.Scripts.{IsScript, IsBadLine, most_script_bytes}
 use Rattle.mig_machine_script.specs.Groups.{ran}
 use Rattle.mig_machine_script.specs.HostLines.{after}
 use Rattle.mig_machine.specs.MachineSeen.{MachineSeen, calls_of, is_paused, log_of, history_of}
 use Rattle.mig_guest.specs.History.{no_history}
 use Rattle.mig_guest.specs.Pfns.{no_pfns}
-use Rattle.mig_machine.specs.Paced.{Paced, pfns_paced}
-use Rattle.mig_tool_report.specs.declared.outcome.SaveSummary.{SaveSummary}
 
 -- ---- what is read
 

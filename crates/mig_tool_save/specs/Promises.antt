@@ -1,13 +1,6 @@
 -- What each command that saves a host live promises.
 use Rattle.std.specs.Prelude.{◌≡◌, ◌⊎◌, ℕ, List}
-use Rattle.std.specs.Io.KnownBytes.{Appends}
-use Rattle.mig_bytes.specs.Bytes.{AppendsPart}
-use Rattle.mig_bytes.specs.Faults.{Rose}
-use Rattle.mig_guest.specs.Hosts.{HostOf}
-use Rattle.mig_machine_script.specs.ScriptLines.{LineOf}
-use Rattle.mig_tool_report.specs.Promises.{Promise, reports_line}
-use Rattle.mig_tool_report.specs.Report.{exercised_line, saved_line}
-use Rattle.mig_tool_report.specs.Statuses.{EndsWithOwnLine, PutsLineOrFault}
+use Rattle.mig_tool_save.specs.Common.{Appends, AppendsPart, Rose, HostOf, LineOf, Promise, reports_line, exercised_line, saved_line, EndsWithOwnLine, PutsLineOrFault}
 use Rattle.mig_tool_report.specs.declared.status.Status.TheVariants as statuses
 use Rattle.mig_tool_save.specs.Exercises.{ExerciseReported, SaysExercise}
 use Rattle.mig_tool_save.specs.LiveSaves.{HasHostAndScript}

@@ -4,19 +4,13 @@ use Rattle.mig_bytes.specs.declared.answer.Answer.{Answer}
 use Rattle.mig_bytes.specs.declared.answer.Answer.TheVariants as answers
 use Rattle.mig_bytes.specs.declared.stop.Stop.{Stop}
 use Rattle.mig_bytes.specs.declared.stop.Stop.TheVariants as stops
-use Rattle.mig_headers.specs.declared.image_fault.ImageCause.{ImageCause}
-use Rattle.mig_headers.specs.declared.image_fault.ImagePlace.{ImagePlace}
-use Rattle.mig_guest.specs.Hosts.{HostOf}
+use Rattle.mig_tool_save.specs.Common.{ImageCause, ImagePlace, HostOf, Passes, Refusal, LineOf, IsOfInput}
 use Rattle.mig_host.specs.HostView.{HostAndSpare}
-use Rattle.mig_bytes.specs.Judged.Judged.{Passes}
 use Rattle.mig_tool_report.specs.declared.outcome.Outcome.{Outcome}
 use Rattle.mig_tool_report.specs.declared.outcome.Outcome.TheVariants as outcomes
-use Rattle.mig_tool_report.specs.declared.outcome.Refusal.{Refusal}
 use Rattle.mig_tool_report.specs.declared.outcome.Refusal.TheVariants as refusals
-use Rattle.mig_machine_script.specs.ScriptLines.{LineOf}
 use Rattle.mig_machine_script.specs.declared.script.ScriptAnswer.{ScriptAnswer}
 use Rattle.mig_machine_script.specs.declared.script.ScriptAnswer.TheVariants as scripts
-use Rattle.mig_tool_report.specs.Promises.{IsOfInput}
 use Rattle.mig_tool_save.specs.Saves.{HasSaveRefusal}
 use Rattle.mig_tool_save.specs.LiveSaves.{HasHostAndScript, PausesUnsound, saved_host_at}
 use Rattle.mig_tool_save.specs.declared.saving.HostAndScript.{HostAndScript}

@@ -1,20 +1,8 @@
 -- What `save` says: of the input, of what is left of it, of what was written, and of the report.
 use Rattle.std.specs.Prelude.{◌≡◌, ◌⊎◌, ℕ, List, [], Some, Option}
-use Rattle.mig_bytes.specs.Bytes.{AppendsPart}
-use Rattle.mig_bytes.specs.Faults.{Rose}
-use Rattle.mig_bytes.specs.Judged.Judged.{Faulty}
-use Rattle.mig_headers.specs.declared.unsound.Unsound.{Unsound}
-use Rattle.mig_guest.specs.Hosts.{HostOf}
-use Rattle.mig_tool_report.specs.declared.outcome.Refusal.{Refusal}
+use Rattle.mig_tool_save.specs.Common.{AppendsPart, Rose, Faulty, Unsound, HostOf, Refusal, SaveSummary, Status, Reports, refusal_line, write_fault_line, saved_line, Effects, NamesRefusal, LineOf, WroteNoStream}
 use Rattle.mig_tool_report.specs.declared.outcome.Refusal.TheVariants as refusals
-use Rattle.mig_tool_report.specs.declared.outcome.SaveSummary.{SaveSummary}
-use Rattle.mig_tool_report.specs.declared.status.Status.{Status}
 use Rattle.mig_tool_report.specs.declared.status.Status.TheVariants as statuses
-use Rattle.mig_tool_report.specs.Report.{Reports, refusal_line, write_fault_line, saved_line}
-use Rattle.mig_tool_report.specs.Promises.{Effects}
-use Rattle.mig_tool_report.specs.Statuses.{NamesRefusal}
-use Rattle.mig_machine_script.specs.ScriptLines.{LineOf}
-use Rattle.mig_dirtysave.specs.Unread.{WroteNoStream}
 use Rattle.mig_tool_save.specs.LiveSaves.{HasHostAndScript, HasBadLine, HasLongScript, HasUnsoundPause, WroteLive, saved_host_at}
 
 -- ---- when it is refused

@@ -1,16 +1,9 @@
 ghost use Rattle.std.specs.Prelude.{◌≡◌, ◌≤◌, ◌⊎◌, ◌++◌, ℕ, List, [], Some, None, IfOk, OnOk, length};
-ghost use Rattle.mig_bytes.specs.Faults.{Rose};
+ghost use Rattle.mig_tool_save.specs.Common.{Rose, host_of_exercise, script_of_exercise, unsoundness, view, canon_any, AcceptedStream, Reports, memory_line};
 ghost use Rattle.mig_bytes.specs.declared.answer.Answer.TheVariants as stream_answers;
-ghost use Rattle.mig_exercise.specs.ExerciseHosts.{host_of_exercise};
-ghost use Rattle.mig_exercise.specs.ExerciseScripts.{script_of_exercise};
 ghost use Rattle.mig_guest.specs.Guests.{GuestOf};
-ghost use Rattle.mig_host_view.specs.Sound.{unsoundness};
-ghost use Rattle.mig_host_view.specs.View.{view};
-ghost use Rattle.mig_canon.specs.CanonStream.{canon_any};
-ghost use Rattle.mig_libxl_form.specs.Spelled.{AcceptedStream};
 ghost use Rattle.mig_pvtables.specs.Blank.{blank as blank_form};
 ghost use Rattle.mig_pvtables.specs.Whole.{IsWhole};
-ghost use Rattle.mig_tool_report.specs.Report.{Reports, memory_line};
 ghost use Rattle.mig_tool_report.specs.Words.{IsFrameNumber};
 ghost use Rattle.mig_tool_report.specs.declared.outcome.Outcome.TheVariants as outcomes;
 ghost use Rattle.mig_tool_report.specs.declared.status.Status.TheVariants as statuses;

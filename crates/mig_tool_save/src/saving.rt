@@ -1,16 +1,9 @@
 ghost use Rattle.std.specs.Prelude.{◌≡◌, ◌≤◌, ◌⊎◌, IfOk, IfErr, OnOk, OnErr, IsErrOf};
-ghost use Rattle.mig_guest.specs.Hosts.{most_saved_width};
-ghost use Rattle.std.specs.Io.KnownBytes.{Appends};
-ghost use Rattle.mig_bytes.specs.Bytes.{AppendsPart};
-ghost use Rattle.mig_bytes.specs.Faults.{Rose, RisesOnReadFault};
-ghost use Rattle.mig_headers.specs.declared.unsound.Unsound.{Unsound};
+ghost use Rattle.mig_tool_save.specs.Common.{most_saved_width, Appends, AppendsPart, Rose, RisesOnReadFault, Unsound, saved_line, WroteNoStream, CarriedOut, effects, input_effect, sink_effect};
 ghost use Rattle.mig_dirtysave.specs.declared.answer.SaveAnswer.TheVariants as answers;
-ghost use Rattle.mig_tool_report.specs.Report.{saved_line};
 ghost use Rattle.mig_tool_report.specs.declared.outcome.Outcome.TheVariants as outcomes;
 ghost use Rattle.mig_tool_report.specs.declared.outcome.Refusal.TheVariants as refusals;
 ghost use Rattle.mig_tool_report.specs.declared.status.Status.TheVariants as statuses;
-ghost use Rattle.mig_dirtysave.specs.Unread.{WroteNoStream};
-ghost use Rattle.mig_tool_report.specs.Promises.{CarriedOut, effects, input_effect, sink_effect};
 ghost use Rattle.mig_tool_save.specs.Promises.{save_promise};
 ghost use Rattle.mig_tool_save.specs.LiveSaves.{IsUnasked, WroteLive, WroteLiveTo};
 ghost use Rattle.mig_tool_save.specs.SaveSteps.{ReadsHostToSave, ReadsHostAndScript, stop_of_image, stop_of_script, outcome_of_stop, ComesToNone};

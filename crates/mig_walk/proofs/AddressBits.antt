@@ -1,6 +1,5 @@
 -- The slots that an address selects are its bits from 12 on; addresses of one page select the same.
-use Rattle.mig_walk.proofs.Common.{◌≡◌, ℕ, ◌+◌, ◌-◌, ◌*◌, ◌/◌, ◌^◌, ◌≤◌, ◌<◌, zero, suc, Option, Some, None, sym, ap, subst, ◌∙◌, arith, inl, inr, option_and_then, ◌⊎◌, Frame, level_of, PageType, Standing, Walked, IsCanonical, IsTableOf, NamesNothing, Reach, IsWalked, by_root, by_entry, no_vcpu, not_canonical, absent, not_table, frame}
-use Rattle.std.proofs.Common.{◌%◌}
+use Rattle.mig_walk.proofs.Common.{◌≡◌, ℕ, ◌+◌, ◌-◌, ◌*◌, ◌/◌, ◌^◌, ◌≤◌, ◌<◌, zero, suc, Option, Some, None, sym, ap, subst, ◌∙◌, arith, inl, inr, option_and_then, ◌⊎◌, Frame, level_of, PageType, Standing, Walked, IsCanonical, IsTableOf, NamesNothing, Reach, IsWalked, by_root, by_entry, no_vcpu, not_canonical, absent, not_table, frame, ◌%◌}
 use Rattle.std.proofs.Math.Nat.{div-div-eq-div-mul}
 use Rattle.std.proofs.lemmas.Nat.{pow-add, mod-pow-add}
 use Rattle.mig_walk.specs.Walks.{slot_of}

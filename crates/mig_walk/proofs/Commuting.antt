@@ -1,7 +1,6 @@
 -- The way of an address is the same in a guest and in the host that it becomes, with machine frames for frame numbers.
-use Rattle.mig_walk.proofs.Common.{◌≡◌, ℕ, ◌+◌, ◌*◌, ◌/◌, ◌<◌, ◌^◌, List, Option, Some, None, IsSome, is_some, refl, sym, ap, subst, ◌∙◌, arith, inl, inr, option_and_then, nat_cmp_total, nat_cmp-IsAntisymmetric, option_map, Kind, Pv, Hvm, level_of, Entry, FrameOf, GuestOf, HostOf, IsValid, pfn_in, long_at, vcpu_key, entry, type_at, IsWhole, get_each, pv_complete, guest_in, some_value, Root, said_by, Standing, said_in, said_of, says_in, in_stream, in_host, Walked, NoVcpu, slot_of, IsTableOf, NamesNothing, Reach, IsWalked, by_root, by_entry, no_vcpu, not_canonical, absent, not_table, frame}
+use Rattle.mig_walk.proofs.Common.{◌≡◌, ℕ, ◌+◌, ◌*◌, ◌/◌, ◌<◌, ◌^◌, List, Option, Some, None, IsSome, is_some, refl, sym, ap, subst, ◌∙◌, arith, inl, inr, option_and_then, nat_cmp_total, nat_cmp-IsAntisymmetric, option_map, Kind, Pv, Hvm, level_of, Entry, FrameOf, GuestOf, HostOf, IsValid, pfn_in, long_at, vcpu_key, entry, type_at, IsWhole, get_each, pv_complete, guest_in, some_value, Root, said_by, Standing, said_in, said_of, says_in, in_stream, in_host, Walked, NoVcpu, slot_of, IsTableOf, NamesNothing, Reach, IsWalked, by_root, by_entry, no_vcpu, not_canonical, absent, not_table, frame, blank, blank_of, IsBaseInside, base_inside, whole_valid, at_machine}
 use Rattle.mig_guest.proofs.PartOrder.{part_exact, part_total}
-use Rattle.mig_pvtables.specs.Blank.{blank, blank_of}
 use Rattle.mig_pvtables.specs.P2mFrames.{place_of}
 use Rattle.mig_pvtables.specs.Renaming.{name_for, entry_named, NamesFit, GoesBack}
 use Rattle.mig_pvtables.specs.VcpuContexts.{is_used}
@@ -14,13 +13,11 @@ use Rattle.mig_host_view.proofs.GuestsBack.{table_goes, context_bytes}
 use Rattle.mig_host_view.proofs.LocalisedGuests.{localised_type, to_localised}
 use Rattle.mig_host.specs.Hosted.{hosted, rank_in, mfn_in, IsBaseOutside}
 use Rattle.mig_host.specs.HostView.{with_machine}
-use Rattle.mig_host.proofs.HostedGuests.{IsBaseInside, base_inside, whole_valid}
 use Rattle.mig_host.proofs.HostMaps.{get_with_machines, without_machines}
 use Rattle.mig_host.proofs.Machines.{pfn_of_machine}
 use Rattle.mig_host.proofs.Ranks.{rank_small}
 use Rattle.mig_host_laws.specs.NamedAnew.{AreNamesSmall}
 use Rattle.mig_host_laws.proofs.FieldLaws.{in_stream_anew}
-use Rattle.mig_walk.specs.Walks.{at_machine}
 use Rattle.mig_walk.proofs.Laws.{hvm_none, hvm_part}
 use Rattle.mig_walk.proofs.OneAnswer.{one_answer}
 use Rattle.mig_walk.proofs.Standings.{named_itself, some_itself, guest_ready, one_number, one_machine}

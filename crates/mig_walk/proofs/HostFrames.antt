@@ -1,7 +1,5 @@
 -- The frames of a host, without their machine frames, have the types and pages of the host's, and say what its tables say.
-use Rattle.mig_walk.proofs.Common.{◌≡◌, ℕ, Option, Some, None, IfSome, List, refl, sym, ap, ◌∙◌, option_and_then, nat_cmp-IsAntisymmetric, nat_cmp_total, option_map, level_of, PageType, Entry, FrameOf, FrameMap, HostFrame, HostFrames, type_at, get_each, said_in, said_of, says_in}
-use Rattle.mig_pvtables.specs.Blank.{each_value}
-use Rattle.mig_host_view.specs.View.{without_machine}
+use Rattle.mig_walk.proofs.Common.{◌≡◌, ℕ, Option, Some, None, IfSome, List, refl, sym, ap, ◌∙◌, option_and_then, nat_cmp-IsAntisymmetric, nat_cmp_total, option_map, level_of, PageType, Entry, FrameOf, FrameMap, HostFrame, HostFrames, type_at, get_each, said_in, said_of, says_in, each_value, without_machine}
 use Rattle.std.specs.FinMap as maps
 
 module _ (frames : HostFrames) where

@@ -1,8 +1,5 @@
 -- Laws of answers over whole guests and sound hosts.
-use Rattle.mig_walk.proofs.Common.{◌≡◌, ℕ, ◌≤◌, true, List, Option, Some, None, IsSome, refl, sym, subst, inl, inr, option_and_then, option_map, Kind, Hvm, level_of, IsPart, width_of, FrameOf, FrameMap, GuestOf, HostOf, IsValid, long_at, vcpu_key, IsWhole, IsSound, guest_in, some_value, Standing, said_in, said_of, in_stream, in_host, NoVcpu, Absent, slot_of, IsCanonical, IsTableOf, NamesNothing, IsWalked, IsWalkedOnce, CanBeWalked, no_vcpu, absent}
-use Rattle.std.proofs.Common.{le-leb}
-use Rattle.std.specs.Prelude.{◌&&◌}
-use Rattle.mig_guest.specs.Tables.{is_blank_slot}
+use Rattle.mig_walk.proofs.Common.{◌≡◌, ℕ, ◌≤◌, true, List, Option, Some, None, IsSome, refl, sym, subst, inl, inr, option_and_then, option_map, Kind, Hvm, level_of, IsPart, width_of, FrameOf, FrameMap, GuestOf, HostOf, IsValid, long_at, vcpu_key, IsWhole, IsSound, guest_in, some_value, Standing, said_in, said_of, in_stream, in_host, NoVcpu, Absent, slot_of, IsCanonical, IsTableOf, NamesNothing, IsWalked, IsWalkedOnce, CanBeWalked, no_vcpu, absent, le-leb, ◌&&◌, is_blank_slot}
 use Rattle.mig_pvtables.proofs.BlankSays.{blank_says}
 use Rattle.mig_walk.proofs.SomeAnswer.{walked_once, root_reached}
 use Rattle.mig_walk.proofs.Standings.{guest_ready, host_ready, one_number, one_machine, not_hvm}

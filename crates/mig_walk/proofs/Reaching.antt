@@ -1,6 +1,5 @@
 -- The way of an address, level by level: to one frame at each level, and on to the next level as long as an entry names one.
-use Rattle.mig_walk.proofs.Common.{◌≡◌, ℕ, ◌+◌, ◌<◌, ◌≤◌, zero, suc, List, Some, IsSome, is_some, refl, sym, ap, subst, ◌∙◌, inl, inr, arith, ◌⊎◌, cases_eq, Entry, Frame, vcpu_key, Root, said_by, Standing, slot_of, IsTableOf, NamesNothing, Reach, by_root, by_entry}
-use Rattle.std.proofs.lemmas.Bool.{cases_order}
+use Rattle.mig_walk.proofs.Common.{◌≡◌, ℕ, ◌+◌, ◌<◌, ◌≤◌, zero, suc, List, Some, IsSome, is_some, refl, sym, ap, subst, ◌∙◌, inl, inr, arith, ◌⊎◌, cases_eq, Entry, Frame, vcpu_key, Root, said_by, Standing, slot_of, IsTableOf, NamesNothing, Reach, by_root, by_entry, cases_order}
 use Rattle.std.specs.FinMap as maps
 
 -- the root of a vCPU names the frame of a PFN

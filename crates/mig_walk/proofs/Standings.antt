@@ -1,24 +1,15 @@
 -- In a whole guest, and in a sound host, an address can be walked.
-use Rattle.mig_walk.proofs.Common.{◌≡◌, ℕ, ◌<◌, true, false, List, Option, Some, None, IsSome, is_some, refl, sym, ap, subst, ◌∙◌, arith, option_and_then, nat_cmp-IsAntisymmetric, nat_cmp_total, option_map, Kind, Pv, Hvm, level_of, PageType, Entry, Frame, IsPart, width_of, FrameOf, FrameMap, GuestOf, HostOf, HostFrame, HostFrames, IsValid, pfn_in, vcpu_key, entry, type_at, IsWhole, pv_complete, IsSound, guest_in, Root, said_by, said_in, said_of, says_in, in_stream, in_host, IsTableOf, CanBeWalked}
-use Rattle.std.proofs.Common.{Bool, cond, [], ◌∷◌, length}
-use Rattle.std.specs.Prelude.{◌==◌, find}
+use Rattle.mig_walk.proofs.Common.{◌≡◌, ℕ, ◌<◌, true, false, List, Option, Some, None, IsSome, is_some, refl, sym, ap, subst, ◌∙◌, arith, option_and_then, nat_cmp-IsAntisymmetric, nat_cmp_total, option_map, Kind, Pv, Hvm, level_of, PageType, Entry, Frame, IsPart, width_of, FrameOf, FrameMap, GuestOf, HostOf, HostFrame, HostFrames, IsValid, pfn_in, vcpu_key, entry, type_at, IsWhole, pv_complete, IsSound, guest_in, Root, said_by, said_in, said_of, says_in, in_stream, in_host, IsTableOf, CanBeWalked, Bool, cond, [], ◌∷◌, length, ◌==◌, find, eqb-true, NotPresent, Superpage, is_type_of, EachEntry, IsWithin, is_root, machine_type, itself_in}
 use Rattle.std.specs.List.{All}
 use Rattle.std.proofs.lemmas.List.Elements.{All-head, All-tail}
-use Rattle.std.proofs.lemmas.Bool.{eqb-true}
 use Rattle.mig_pagetypes.specs.declared.page_type.PageType.TheVariants.{L4Tab, L4Pinned}
 use Rattle.mig_guest.specs.declared.part_code.PartCode.TheVariants.{VcpuBasic}
-use Rattle.mig_guest.specs.declared.table.Entry.TheVariants.{NotPresent, Superpage}
-use Rattle.mig_guest.specs.Frames.{is_type_of}
 use Rattle.mig_guest.specs.PartCodes.{row_of}
-use Rattle.mig_guest.specs.Tables.{EachEntry, IsWithin}
 use Rattle.mig_guest.proofs.PartRows.{of_part, no_entries, one_code}
 use Rattle.mig_pvtables.specs.BadEntries.{NamesKnown}
-use Rattle.mig_pvtables.specs.Faults.{is_root}
-use Rattle.mig_host_view.specs.Sound.{machine_type}
 use Rattle.mig_host_view.proofs.ViewedSays.{pfn_found}
 use Rattle.mig_host.proofs.InOrder.{all_there}
 use Rattle.mig_host.proofs.SoundHosts.{contexts_long}
-use Rattle.mig_host_laws.specs.Standing.{itself_in}
 use Rattle.mig_walk.proofs.HostFrames.{bare_type}
 use Rattle.std.specs.FinMap as maps
 

@@ -1,6 +1,5 @@
 -- An address is walked, level by level, as far as the entries name frames.
-use Rattle.mig_walk.proofs.Common.{◌≡◌, ℕ, ◌+◌, ◌<◌, ◌≤◌, Some, refl, sym, subst, ◌∙◌, arith, inl, inr, Entry, PageType, some_value, Standing, Absent, NotTable, IsCanonical, IsTableOf, NamesNothing, Reach, IsWalked, CanBeWalked, IsReached, by_entry, absent, not_table, frame}
-use Rattle.std.proofs.lemmas.Bool.{cases_lt}
+use Rattle.mig_walk.proofs.Common.{◌≡◌, ℕ, ◌+◌, ◌<◌, ◌≤◌, Some, refl, sym, subst, ◌∙◌, arith, inl, inr, Entry, PageType, some_value, Standing, Absent, NotTable, IsCanonical, IsTableOf, NamesNothing, Reach, IsWalked, CanBeWalked, IsReached, by_entry, absent, not_table, frame, cases_lt}
 use Rattle.mig_walk.specs.declared.walk.Walked.TheVariants.{Frame}
 use Rattle.mig_walk.specs.Walks.{slot_of}
 use Rattle.mig_guest.specs.declared.table.Entry.TheVariants as entries

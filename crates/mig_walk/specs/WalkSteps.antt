@@ -2,9 +2,7 @@
 use Rattle.std.specs.Prelude.{◌≡◌, ◌<◌, ℕ, List, length, Some, IsSome}
 use Rattle.std.specs.FinMap as maps
 use Rattle.mig_guest.specs.declared.table.Entry.TheVariants.{Superpage, Frame}
-use Rattle.mig_guest.specs.PartKeys.{vcpu_key}
-use Rattle.mig_host_laws.specs.Fields.{Root, said_by}
-use Rattle.mig_host_laws.specs.Standing.{Standing}
+use Rattle.mig_walk.specs.Common.{vcpu_key, Root, said_by, Standing}
 use Rattle.mig_walk.specs.Walks.{IsTableOf, Reach}
 
 -- the context of the vCPU is whole, and its root is a table of level 4; no slot of a table holds a superpage; each frame that

@@ -3,13 +3,10 @@
 -- entries name frame numbers (PFN), or in a host, in which they name the PFN that has their machine frame.
 use Rattle.std.specs.Prelude.{◌≡◌, ◌⊎◌, ◌≤◌, ℕ, ◌+◌, ◌-◌, ◌*◌, ◌/◌, ◌%◌, ◌^◌, List, Some, None, IsSome, option_and_then}
 use Rattle.std.specs.FinMap as maps
-use Rattle.mig_pagetypes.specs.PageTypes.{level_of}
+use Rattle.mig_walk.specs.Common.{level_of, vcpu_key, Root, said_by, Standing}
 use Rattle.mig_pagetypes.specs.declared.page_type.PageType.{PageType}
 use Rattle.mig_guest.specs.declared.table.Entry.{Entry}
 use Rattle.mig_guest.specs.declared.table.Entry.TheVariants as entries
-use Rattle.mig_guest.specs.PartKeys.{vcpu_key}
-use Rattle.mig_host_laws.specs.Fields.{Root, said_by}
-use Rattle.mig_host_laws.specs.Standing.{Standing}
 use Rattle.mig_walk.specs.declared.walk.Walked.{Walked}
 use Rattle.mig_walk.specs.declared.walk.Walked.TheVariants.{Frame, NoVcpu, NotCanonical, Absent, NotTable}
 

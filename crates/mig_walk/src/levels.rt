@@ -1,10 +1,7 @@
 ghost use Rattle.std.specs.Prelude.{◌≡◌, ◌≤◌, ◌<◌, ℕ, List, Option, Some, IfSome, IfNone, length, option_and_then};
 ghost use Rattle.std.specs.FinMap as maps;
 ghost use Rattle.std.specs.Option.{option_copied, option_map};
-ghost use Rattle.mig_pagetypes.specs.PageTypes.{level_of};
-ghost use Rattle.mig_guest.specs.PartKeys.{vcpu_key};
-ghost use Rattle.mig_host_laws.specs.Fields.{Root, said_by};
-ghost use Rattle.mig_host_laws.specs.Standing.{Standing, said_in, in_stream, in_host};
+ghost use Rattle.mig_walk.specs.Common.{level_of, vcpu_key, Root, said_by, Standing, said_in, in_stream, in_host};
 ghost use Rattle.mig_walk.specs.Walks.{IsTableOf};
 
 use mig_guest::{Entry, Guest, PartKey};

@@ -1,7 +1,5 @@
 ghost use Rattle.std.specs.Prelude.{◌≡◌, ◌≤◌, ◌<◌, true};
-ghost use Rattle.mig_pvtables.specs.Whole.{IsWhole};
-ghost use Rattle.mig_host_view.specs.Sound.{IsSound};
-ghost use Rattle.mig_host_laws.specs.Standing.{in_stream, in_host};
+ghost use Rattle.mig_walk.specs.Common.{IsWhole, IsSound, in_stream, in_host};
 ghost use Rattle.mig_walk.specs.Walks.{slot_of, IsCanonical, IsWalked};
 ghost use Rattle.mig_walk.specs.WalkSteps.{CanBeWalked, IsReached};
 

@@ -1,5 +1,5 @@
 ghost use Rattle.std.specs.Prelude.{◌≡◌, ℕ, ◌+◌, ◌-◌, ◌*◌, ◌/◌, ◌^◌, ◌<◌, ◌≤◌, length, IfOk};
-ghost use Rattle.std.specs.Int.{bit_at};
+ghost use Rattle.mig_guest.specs.Common.{bit_at};
 ghost use Rattle.mig_guest.specs.Pfns.{pfns_of_words, no_pfns, all_below};
 
 use std::alloc::{AllocError, Global};

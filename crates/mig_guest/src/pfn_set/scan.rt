@@ -1,5 +1,5 @@
 ghost use Rattle.std.specs.Prelude.{◌≡◌, ℕ, ◌^◌, ◌<◌, ◌≤◌, length, true, false, IfSome, IfNone};
-ghost use Rattle.std.specs.Int.{bit_at};
+ghost use Rattle.mig_guest.specs.Common.{bit_at};
 ghost use Rattle.mig_guest.specs.Pfns.{pfns_of_words, size};
 ghost use Rattle.mig_guest.specs.Changes.{IsBelow};
 

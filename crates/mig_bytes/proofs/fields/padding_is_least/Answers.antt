@@ -1,5 +1,4 @@
-use Rattle.mig_bytes.proofs.Common.{◌+◌, arith}
-use Rattle.std.proofs.Common.{◌/◌}
+use Rattle.mig_bytes.proofs.Common.{◌+◌, arith, ◌/◌}
 use Rattle.mig_bytes.proofs.fields.padding_is_least.Goals as goal
 
 pub returns : goal.returns

@@ -1,5 +1,4 @@
-use Rattle.mig_bytes.proofs.Common.{◌≡◌, ◌<◌, ◌+◌, ◌-◌, length, take, rules, arith, ap, ◌∙◌, subst, length-take-le, Taken}
-use Rattle.std.proofs.Common.{vec_len}
+use Rattle.mig_bytes.proofs.Common.{◌≡◌, ◌<◌, ◌+◌, ◌-◌, length, take, rules, arith, ap, ◌∙◌, subst, length-take-le, Taken, vec_len}
 use Rattle.mig_bytes.proofs.Vectors.{tail_written, first_items}
 use Rattle.mig_bytes.proofs.take.take_piece.Goals as goal
 

@@ -1,5 +1,4 @@
-use Rattle.mig_bytes.proofs.Common.{◌++◌, length, rules, arith, length-append, append_assoc, ap, subst, ◌∙◌, Consumes-trans}
-use Rattle.mig_bytes.specs.Bytes.{Grown}
+use Rattle.mig_bytes.proofs.Common.{◌++◌, length, rules, arith, length-append, append_assoc, ap, subst, ◌∙◌, Consumes-trans, Grown}
 use Rattle.mig_bytes.proofs.Taking.{takes_more, few_more}
 use Rattle.mig_bytes.proofs.Vectors.{kept_first}
 use Rattle.mig_bytes.proofs.take.take_vec.Goals as goal

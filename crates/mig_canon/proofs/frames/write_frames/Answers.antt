@@ -1,7 +1,5 @@
-use Rattle.mig_canon.proofs.Common.{◌≡◌, ℕ, ◌<◌, List, length, refl, sym, ap, subst, ◌∙◌, rules, arith, Appends, AppendsPart, FrameMap, entries_from, Record, batch, batches, text_of, frame_bodies, frames_in, puts_same, spelled, body_of}
+use Rattle.mig_canon.proofs.Common.{◌≡◌, ℕ, ◌<◌, List, length, refl, sym, ap, subst, ◌∙◌, rules, arith, Appends, AppendsPart, FrameMap, entries_from, Record, batch, batches, text_of, frame_bodies, frames_in, puts_same, spelled, body_of, most_entries, walk_on, walk_stop}
 use Rattle.std.specs.Int.{div_ceil}
-use Rattle.mig_records_pages.specs.PageData.{most_entries}
-use Rattle.mig_records_pages.proofs.ListSteps.{walk_on, walk_stop}
 use Rattle.mig_canon.proofs.Batches.{from_zero, counted, batch_next, all_bodies}
 use Rattle.std.specs.FinMap as maps
 use Rattle.mig_canon.proofs.frames.write_frames.Goals as goal

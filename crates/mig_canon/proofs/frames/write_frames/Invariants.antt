@@ -1,5 +1,4 @@
-use Rattle.mig_canon.proofs.Common.{◌≡◌, ◌*◌, take, drop, Appends, entries_from, batches, text_of, frame_bodies, frames_in}
-use Rattle.mig_records_pages.specs.PageData.{most_entries}
+use Rattle.mig_canon.proofs.Common.{◌≡◌, ◌*◌, take, drop, Appends, entries_from, batches, text_of, frame_bodies, frames_in, most_entries}
 use Rattle.mig_canon.proofs.frames.write_frames.Given as goal
 
 abbrev pub invariant-loop-k : goal.invariant-loop-k

@@ -1,5 +1,4 @@
-use Rattle.mig_canon.proofs.Common.{[], ◌∷◌, ◌++◌, sym, ap, subst, ◌∙◌, rules, code_number, Part, shape_of, parts_at, piece, IsShortPart, done_stop}
-use Rattle.mig_records_pages.proofs.ListSteps.{more_done, done_on}
+use Rattle.mig_canon.proofs.Common.{[], ◌∷◌, ◌++◌, sym, ap, subst, ◌∙◌, rules, code_number, Part, shape_of, parts_at, piece, IsShortPart, done_stop, more_done, done_on}
 use Rattle.mig_canon.proofs.Wholes.{next_part, holds_next, code_next, short_parts}
 use Rattle.std.specs.FinMap as maps
 use Rattle.mig_canon.proofs.parts.write_pieces.Goals as goal

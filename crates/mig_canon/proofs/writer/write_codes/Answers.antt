@@ -1,5 +1,4 @@
-use Rattle.mig_canon.proofs.Common.{take, ap, sym, ◌∙◌, ◌++◌, drop-cons, take-append-drop, records_of, text_of, P2mFrames, done_stop}
-use Rattle.std.proofs.Common.{get_or}
+use Rattle.mig_canon.proofs.Common.{take, ap, sym, ◌∙◌, ◌++◌, drop-cons, take-append-drop, records_of, text_of, P2mFrames, done_stop, get_or}
 use Rattle.mig_canon.proofs.writer.write_codes.Goals as goal
 
 pub returns-in_err-write_parts-clause-bytes : goal.returns-in_err-write_parts-clause-bytes

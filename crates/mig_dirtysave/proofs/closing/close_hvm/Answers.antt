@@ -1,7 +1,4 @@
-use Rattle.mig_dirtysave.proofs.Common.{refl, sym, ap, subst, ◌∙◌, GuestOf, IsFormed, is_setting, emulators_kept, kept_formed, nothing_stops}
-use Rattle.mig_dirtysave_parts.proofs.Codes.{no_pv}
-use Rattle.mig_dirtysave_parts.proofs.Rows.{hvm_judged}
-use Rattle.mig_dirtysave_parts.proofs.Closings.{hvm_closes}
+use Rattle.mig_dirtysave.proofs.Common.{refl, sym, ap, subst, ◌∙◌, GuestOf, IsFormed, is_setting, emulators_kept, kept_formed, nothing_stops, no_pv, hvm_judged, hvm_closes}
 use Rattle.mig_dirtysave.proofs.HvmTables.{no_table_fault}
 use Rattle.std.specs.FinMap as maps
 use Rattle.mig_dirtysave.proofs.closing.close_hvm.Goals as goal

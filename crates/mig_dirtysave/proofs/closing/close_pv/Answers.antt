@@ -1,5 +1,4 @@
-use Rattle.mig_dirtysave.proofs.Common.{sym, ap, ◌∙◌, GuestOf, view, emulators_kept, emulators_seen, nothing_stops, on_err}
-use Rattle.mig_dirtysave_parts.proofs.Closings.{pv_closes}
+use Rattle.mig_dirtysave.proofs.Common.{sym, ap, ◌∙◌, GuestOf, view, emulators_kept, emulators_seen, nothing_stops, on_err, pv_closes}
 use Rattle.mig_dirtysave.proofs.Looked.{min_reaches, types_below}
 use Rattle.std.specs.FinMap as maps
 use Rattle.mig_dirtysave.proofs.closing.close_pv.Goals as goal

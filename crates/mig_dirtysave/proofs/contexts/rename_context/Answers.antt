@@ -1,6 +1,4 @@
-use Rattle.mig_dirtysave.proofs.Common.{arith, ◌≡◌, Some, refl, sym, ap, subst, ◌∙◌, IfSome, is_some, option_and_then, HostOf, pfn_in, fits_field, types_seen, OnlyLooksUp}
-use Rattle.mig_pvtables.proofs.Walks.{misses_start, misses_end, field_fits, field_misses}
-use Rattle.mig_host_view.proofs.LocaliseContexts.{fields_start, fields_end, field_put, field_unused, same_says}
+use Rattle.mig_dirtysave.proofs.Common.{arith, ◌≡◌, Some, refl, sym, ap, subst, ◌∙◌, IfSome, is_some, option_and_then, HostOf, pfn_in, fits_field, types_seen, OnlyLooksUp, misses_start, misses_end, field_fits, field_misses, fields_start, fields_end, field_put, field_unused, same_says}
 use Rattle.mig_dirtysave.proofs.Looks.{looks_none, looks_on}
 use Rattle.mig_dirtysave.proofs.contexts.rename_context.Goals.{in-Some+in_ok-pfn+in-Some-2, in_default}
 use Rattle.mig_pvtables.proofs.Walks as walks

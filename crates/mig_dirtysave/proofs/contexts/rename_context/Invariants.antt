@@ -1,5 +1,4 @@
-use Rattle.mig_dirtysave.proofs.Common.{◌≡◌, option_and_then, pfn_in, is_used_somewhere, FieldsRenamed, types_seen, OnlyLooksUp}
-use Rattle.mig_pvtables.proofs.Walks.{NoneMisses}
+use Rattle.mig_dirtysave.proofs.Common.{◌≡◌, option_and_then, pfn_in, is_used_somewhere, FieldsRenamed, types_seen, OnlyLooksUp, NoneMisses}
 use Rattle.mig_dirtysave.proofs.contexts.rename_context.Given as goal
 
 abbrev pub invariant-loop-field : goal.invariant-loop-field

@@ -1,5 +1,4 @@
-use Rattle.mig_dirtysave.proofs.Common.{◌≡◌, ℕ, List, Some, Bool, refl, ap, subst, ◌∙◌, IfSome, find, option_map, VcpuFrame, GuestOf, HostOf, pfn_in, Part, parts_after, length_longs, field_numbers, first_some, is_used_somewhere, in_fields, contexts_start, renamed_context, names_ill, standing_seen}
-use Rattle.mig_pvtables.proofs.BlankCodes.{code_start, code_next, code_long, code_fewer, code_end}
+use Rattle.mig_dirtysave.proofs.Common.{◌≡◌, ℕ, List, Some, Bool, refl, ap, subst, ◌∙◌, IfSome, find, option_map, VcpuFrame, GuestOf, HostOf, pfn_in, Part, parts_after, length_longs, field_numbers, first_some, is_used_somewhere, in_fields, contexts_start, renamed_context, names_ill, standing_seen, code_start, code_next, code_long, code_fewer, code_end}
 use Rattle.mig_pvtables.proofs.BlankParts.{OnlyPart}
 use Rattle.mig_dirtysave.proofs.Looks.{looks_none, looks_on}
 use Rattle.mig_dirtysave.proofs.ContextSteps.{behind_stays, next_found, next_fine, found_in_next}

@@ -1,5 +1,4 @@
-use Rattle.mig_dirtysave.proofs.Common.{◌≡◌, length, pfn_in, parts_after, first_some, is_used_somewhere, in_fields, in_contexts, renamed_context, names_ill, standing_seen, OnlyLooksUp}
-use Rattle.mig_pvtables.proofs.BlankCodes.{ChangedUpTo}
+use Rattle.mig_dirtysave.proofs.Common.{◌≡◌, length, pfn_in, parts_after, first_some, is_used_somewhere, in_fields, in_contexts, renamed_context, names_ill, standing_seen, OnlyLooksUp, ChangedUpTo}
 use Rattle.std.specs.FinMap as maps
 use Rattle.mig_dirtysave.proofs.contexts.rename_contexts.Given as goal
 

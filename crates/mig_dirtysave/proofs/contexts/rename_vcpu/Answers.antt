@@ -1,6 +1,5 @@
-use Rattle.mig_dirtysave.proofs.Common.{ap, ◌∙◌, pfn_in, is_used_somewhere, renamed_context}
+use Rattle.mig_dirtysave.proofs.Common.{ap, ◌∙◌, pfn_in, is_used_somewhere, renamed_context, taken}
 use Rattle.mig_pvtables.proofs.BlankParts.{no_part}
-use Rattle.mig_pvtables.proofs.Walks.{taken}
 use Rattle.mig_host_view.proofs.LocaliseGuests.{part_put}
 use Rattle.mig_dirtysave.proofs.contexts.rename_vcpu.Goals as goal
 

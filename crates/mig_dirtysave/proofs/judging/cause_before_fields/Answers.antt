@@ -1,5 +1,4 @@
-use Rattle.mig_dirtysave.proofs.Common.{◌≡◌, ℕ, Some, sym, ap, ◌∙◌, option_map, HostOf, find_gdt}
-use Rattle.mig_headers.specs.declared.unsound.Unsound.TheVariants.{GdtEnts}
+use Rattle.mig_dirtysave.proofs.Common.{◌≡◌, ℕ, Some, sym, ap, ◌∙◌, option_map, HostOf, find_gdt, GdtEnts}
 use Rattle.mig_dirtysave.proofs.SeenRows.{behind_tables, same_gdt}
 use Rattle.mig_dirtysave.proofs.judging.cause_before_fields.Goals as goal
 

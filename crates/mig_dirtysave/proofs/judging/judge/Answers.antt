@@ -1,5 +1,4 @@
-use Rattle.mig_dirtysave.proofs.Common.{◌≡◌, ℕ, sym, ap, ◌∙◌, option_map, VcpuFrame, HostOf, names_ill, row_1, row_2, row_5, row_6, Standing, standing_seen}
-use Rattle.mig_dirtysave.specs.Paused.{standing_with}
+use Rattle.mig_dirtysave.proofs.Common.{◌≡◌, ℕ, sym, ap, ◌∙◌, option_map, VcpuFrame, HostOf, names_ill, row_1, row_2, row_5, row_6, Standing, standing_seen, standing_with}
 use Rattle.mig_dirtysave.proofs.SeenRows.{contexts_long, same_fields, ok_then, before_fields, in_fields_alone, first_is_unsoundness}
 use Rattle.mig_dirtysave.proofs.judging.judge.Goals as goal
 

@@ -1,5 +1,4 @@
-use Rattle.mig_dirtysave.proofs.Common.{arith, None, get_or_past, sym, ap, ◌+◌, ◌*◌, ◌∙◌, is_some, types_seen}
-use Rattle.mig_pvtables.proofs.P2mWalks.{none_has, one_has}
+use Rattle.mig_dirtysave.proofs.Common.{arith, None, get_or_past, sym, ap, ◌+◌, ◌*◌, ◌∙◌, is_some, types_seen, none_has, one_has}
 use Rattle.mig_dirtysave.proofs.listing.has_frame.Goals as goal
 
 pub returns-then-index-types : goal.returns-then-index-types

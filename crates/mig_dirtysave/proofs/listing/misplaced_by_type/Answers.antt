@@ -1,9 +1,4 @@
-use Rattle.mig_dirtysave.proofs.Common.{arith, ◌≡◌, ℕ, List, ◌<◌, length, Some, None, sym, ap, ◌∙◌, cond, long_at}
-use Rattle.std.proofs.Common.{◌/◌}
-use Rattle.std.proofs.lemmas.Bool.{lt-ltb, le-ltb}
-use Rattle.std.proofs.lemmas.List.{get_or-set_same, get_or-set_other}
-use Rattle.mig_pvtables.specs.P2mFrames.{listed_in}
-use Rattle.mig_pvtables.proofs.P2mWalks.{nothing_marked, nothing_ill, found_ill, more_fine, more_marked, is_typed, none_ill}
+use Rattle.mig_dirtysave.proofs.Common.{arith, ◌≡◌, ℕ, List, ◌<◌, length, Some, None, sym, ap, ◌∙◌, cond, long_at, ◌/◌, lt-ltb, le-ltb, get_or-set_same, get_or-set_other, listed_in, nothing_marked, nothing_ill, found_ill, more_fine, more_marked, is_typed, none_ill}
 use Rattle.mig_dirtysave.proofs.listing.misplaced_by_type.Goals as goal
 
 listed_here : (list : List ℕ) {k pfn : ℕ} → k < length list / 8 → pfn ≡ long_at list k → listed_in (Some list) k ≡ Some pfn

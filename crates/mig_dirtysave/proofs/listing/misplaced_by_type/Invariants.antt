@@ -1,5 +1,4 @@
-use Rattle.mig_dirtysave.proofs.Common.{Some, None, get_or, types_seen}
-use Rattle.mig_pvtables.proofs.P2mWalks.{AreMarked, IsFineTo}
+use Rattle.mig_dirtysave.proofs.Common.{Some, None, get_or, types_seen, AreMarked, IsFineTo}
 use Rattle.mig_dirtysave.proofs.listing.misplaced_by_type.Given as goal
 
 abbrev pub invariant-loop-index : goal.invariant-loop-index

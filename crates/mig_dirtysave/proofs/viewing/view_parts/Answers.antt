@@ -1,4 +1,4 @@
-use Rattle.mig_pvtables.proofs.Searches.{none_of}
+use Rattle.mig_dirtysave.proofs.Common.{none_of}
 use Rattle.mig_dirtysave.proofs.HeldParts.{contexts_there, page_there, all_seen}
 use Rattle.mig_dirtysave.proofs.viewing.view_parts.Goals as goal
 

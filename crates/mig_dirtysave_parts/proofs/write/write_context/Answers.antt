@@ -1,5 +1,4 @@
-use Rattle.mig_dirtysave_parts.proofs.Common.{refl, puts_then, puts_stop, puts_same}
-use Rattle.mig_canon.proofs.Spelling.{single_text}
+use Rattle.mig_dirtysave_parts.proofs.Common.{refl, puts_then, puts_stop, puts_same, single_text}
 use Rattle.mig_dirtysave_parts.proofs.write.write_context.Goals as goal
 
 pub returns-in_err-write_head-clause-bytes : goal.returns-in_err-write_head-clause-bytes

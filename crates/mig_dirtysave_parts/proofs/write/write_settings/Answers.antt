@@ -1,5 +1,4 @@
-use Rattle.mig_dirtysave_parts.proofs.Common.{puts_then, puts_stop, puts_same}
-use Rattle.mig_canon.proofs.Spelling.{pv_last_text}
+use Rattle.mig_dirtysave_parts.proofs.Common.{puts_then, puts_stop, puts_same, pv_last_text}
 use Rattle.mig_dirtysave_parts.proofs.write.write_settings.Goals as goal
 
 pub returns-in_err-write_codes-clause-bytes : goal.returns-in_err-write_codes-clause-bytes

@@ -1,5 +1,4 @@
-use Rattle.mig_dirtysave_rounds.proofs.Common.{◌≡◌, ℕ, sym, ap, subst, ◌∙◌, IsBehind, Pfns, joined, pfns_of_words, History, Since, notes_of, IsBelow, entries_read, SendsFront, IsWorst}
-use Rattle.mig_dirtysave_rounds.specs.Live.{SendsLast}
+use Rattle.mig_dirtysave_rounds.proofs.Common.{◌≡◌, ℕ, sym, ap, subst, ◌∙◌, IsBehind, Pfns, joined, pfns_of_words, History, Since, notes_of, IsBelow, entries_read, SendsFront, IsWorst, SendsLast}
 use Rattle.mig_dirtysave_rounds.proofs.Shapes.{stays_on, ran_stays}
 use Rattle.mig_dirtysave_rounds.proofs.Steps.{on_err}
 use Rattle.mig_dirtysave_rounds.proofs.Saves.{behind_unread, on_ok, if_both, if_three, err_on}

@@ -1,6 +1,5 @@
-use Rattle.mig_dirtysave_rounds.proofs.Common.{arith, ◌≡◌, ℕ, ◌+◌, ◌≤◌, ◌^◌, List, [], None, get_or, sym, ap, subst, ◌∙◌, FrameTold, IsSent, IsBehind, nothing_sent, size, pfns_of_words, IsBelow, size-le, entries_read, notes_of, FramesSaved, SavedSent}
+use Rattle.mig_dirtysave_rounds.proofs.Common.{arith, ◌≡◌, ℕ, ◌+◌, ◌≤◌, ◌^◌, List, [], None, get_or, sym, ap, subst, ◌∙◌, FrameTold, IsSent, IsBehind, nothing_sent, size, pfns_of_words, IsBelow, size-le, entries_read, notes_of, FramesSaved, SavedSent, with_items_is}
 use Rattle.std.specs.Vec.{with_items}
-use Rattle.std.proofs.lemmas.List.{with_items_is}
 use Rattle.mig_dirtysave_rounds.proofs.Steps.{on_err}
 use Rattle.mig_dirtysave_rounds.proofs.Totals.{unused_start, unused_below, unused_noted, sent_before, frames_saved}
 use Rattle.mig_dirtysave_rounds.proofs.save.send_frames.Given as given

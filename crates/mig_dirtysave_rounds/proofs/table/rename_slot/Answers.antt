@@ -1,5 +1,4 @@
-use Rattle.mig_dirtysave_rounds.proofs.Common.{arith, ap, MachineState, Looks}
-use Rattle.mig_guest.specs.MachineCalls.{LookedUp}
+use Rattle.mig_dirtysave_rounds.proofs.Common.{arith, ap, MachineState, Looks, LookedUp}
 use Rattle.mig_dirtysave_rounds.proofs.table.rename_slot.Goals as goal
 
 looked : (s t : MachineState) → LookedUp s t → Looks 1 s t

@@ -1,5 +1,4 @@
-use Rattle.mig_host.proofs.Common.{is_some-mapped, ℕ, List, refl, sym, ◌∙◌, option_copied, HostFrame, ap, nat_cmp_total, nat_cmp-IsAntisymmetric}
-use Rattle.std.proofs.Common.{Bor}
+use Rattle.mig_host.proofs.Common.{is_some-mapped, ℕ, List, refl, sym, ◌∙◌, option_copied, HostFrame, ap, nat_cmp_total, nat_cmp-IsAntisymmetric, Bor}
 use Rattle.mig_host.proofs.Copies.{copy_end}
 use Rattle.mig_host.proofs.SeenBytes.{frame_set_bytes}
 use Rattle.mig_host.proofs.SeenGuests.{frames_start, frame_paged, frames_next, bare, other_frames}

@@ -1,6 +1,5 @@
-use Rattle.mig_host.proofs.Common.{ℕ, List, refl, PartKey, ap, ◌∙◌, part_total, part_exact, part_seen}
+use Rattle.mig_host.proofs.Common.{ℕ, List, refl, PartKey, ap, ◌∙◌, part_total, part_exact, part_seen, seen_bytes}
 use Rattle.mig_host.proofs.Copies.{copy_start, copy_end}
-use Rattle.mig_host_view.proofs.ViewedBytes.{seen_bytes}
 use Rattle.mig_host.proofs.SeenBytes.{part_set_bytes}
 use Rattle.mig_host.proofs.SeenGuests.{context_sole, context_chain, parts_next, other_parts}
 use Rattle.mig_host.proofs.seeing.copy_parts.Goals as goal

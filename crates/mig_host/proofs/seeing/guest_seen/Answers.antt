@@ -1,5 +1,4 @@
-use Rattle.mig_host.proofs.Common.{sym, subst, ◌∙◌, GuestOf, pfn_in, IsOfBytes}
-use Rattle.mig_host_view.proofs.ViewedBytes.{normalised_bytes}
+use Rattle.mig_host.proofs.Common.{sym, subst, ◌∙◌, GuestOf, pfn_in, IsOfBytes, normalised_bytes}
 use Rattle.mig_host.proofs.SeenGuests.{contexts_long, page_long, page_sole, pfns_fit, hvm_seen, pv_seen}
 use Rattle.mig_host.proofs.seeing.guest_seen.Goals.{in-Pv, in-Hvm}
 use Rattle.mig_host.proofs.seeing.guest_seen.Goals as goal

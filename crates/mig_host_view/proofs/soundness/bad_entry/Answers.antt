@@ -1,5 +1,4 @@
-use Rattle.mig_host_view.proofs.Common.{is_superpage, is_unknown}
-use Rattle.mig_pvtables.proofs.Walks.{frames_start}
+use Rattle.mig_host_view.proofs.Common.{is_superpage, is_unknown, frames_start}
 use Rattle.mig_host_view.proofs.soundness.bad_entry.Goals as goal
 
 pub loop-pfn-init : goal.loop-pfn-init

@@ -1,6 +1,4 @@
-use Rattle.mig_host_view.proofs.Common.{length, is_superpage, is_unknown}
-use Rattle.mig_guest.specs.Frames.{entries_from}
-use Rattle.mig_pvtables.proofs.Walks.{IsSoFrom, IsKeptFrom}
+use Rattle.mig_host_view.proofs.Common.{length, is_superpage, is_unknown, entries_from, IsSoFrom, IsKeptFrom}
 use Rattle.std.specs.FinMap as maps
 use Rattle.mig_host_view.proofs.soundness.bad_entry.Given as goal
 

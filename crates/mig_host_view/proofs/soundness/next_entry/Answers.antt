@@ -1,4 +1,4 @@
-use Rattle.std.specs.Option.{option_copied}
+use Rattle.mig_host_view.proofs.Common.{option_copied}
 use Rattle.mig_guest.proofs.NextEntries.{next_entry}
 use Rattle.mig_host_view.proofs.soundness.next_entry.Goals as goal
 

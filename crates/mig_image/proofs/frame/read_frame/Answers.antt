@@ -1,5 +1,4 @@
-use Rattle.mig_image.proofs.Common.{◌≡◌, length, ◌∙◌, ◌+◌, Some, None, sym, ap, subst, rules, takes_more, type_has_data, ℕ, List, first_stops, frame_head_form}
-use Rattle.mig_image.specs.FrameEnds.{EndsAt}
+use Rattle.mig_image.proofs.Common.{◌≡◌, length, ◌∙◌, ◌+◌, Some, None, sym, ap, subst, rules, takes_more, type_has_data, ℕ, List, first_stops, frame_head_form, EndsAt}
 use Rattle.mig_image.proofs.Frames.{behind_frame_head}
 use Rattle.mig_image.proofs.Readers.{frame_reads, page_reads, page_stops, ends_more, is_unused, is_frame, said_is, sized, unsized}
 use Rattle.mig_image.proofs.frame.read_frame.Goals as goal

@@ -1,5 +1,4 @@
-use Rattle.mig_image.proofs.Common.{◌≡◌, ℕ, ◌∙◌, List, length, sym, ap, rules, Truncated, judged_as, first_named, page_causes}
-use Rattle.mig_bytes.proofs.Said.{said_read, said_refused}
+use Rattle.mig_image.proofs.Common.{◌≡◌, ℕ, ◌∙◌, List, length, sym, ap, rules, Truncated, judged_as, first_named, page_causes, said_read, said_refused}
 use Rattle.mig_image.proofs.frame.read_sent_page.Goals as goal
 
 pub returns-in-Some-clause-read : goal.returns-in-Some-clause-read

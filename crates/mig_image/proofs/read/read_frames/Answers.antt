@@ -1,6 +1,4 @@
-use Rattle.mig_image.proofs.Common.{◌≡◌, ◌∙◌, ◌+◌, ap, subst, rules, refl, Ok, AgreesWithJudging, takes_none, takes_more, told, one_more, one_stops, Frame, HostOf, judged_as, host_frame_form, steps_at, steps_read}
-use Rattle.mig_bytes.proofs.Placed.{known}
-use Rattle.mig_bytes.proofs.Steps.{begins}
+use Rattle.mig_image.proofs.Common.{◌≡◌, ◌∙◌, ◌+◌, ap, subst, rules, refl, Ok, AgreesWithJudging, takes_none, takes_more, told, one_more, one_stops, Frame, HostOf, judged_as, host_frame_form, steps_at, steps_read, known, begins}
 use Rattle.mig_image.proofs.Frames.{ends_at_none}
 use Rattle.mig_image.proofs.read.read_frames.Goals as goal
 

@@ -1,6 +1,5 @@
-use Rattle.mig_image.proofs.Common.{◌≡◌, length, Ok, TakesBytes, AgreesWithJudging, HostOf, Frame, host_frame_form, steps_at}
+use Rattle.mig_image.proofs.Common.{◌≡◌, length, Ok, TakesBytes, AgreesWithJudging, HostOf, Frame, host_frame_form, steps_at, EndsAt}
 use Rattle.std.specs.FinMap as maps
-use Rattle.mig_image.specs.FrameEnds.{EndsAt}
 use Rattle.mig_image.proofs.read.read_frames.Given as goal
 
 abbrev pub invariant-loop-i : goal.invariant-loop-i

@@ -1,5 +1,4 @@
-use Rattle.mig_image.proofs.Common.{◌≡◌, HostOf, OnOk, Option, List, ℕ, Result, Ok, Err, rules, takes_more, refl}
-use Rattle.mig_bytes.specs.Bytes.{TakesBytes}
+use Rattle.mig_image.proofs.Common.{◌≡◌, HostOf, OnOk, Option, List, ℕ, Result, Ok, Err, rules, takes_more, refl, TakesBytes}
 use Rattle.mig_image.proofs.Readers.{count_stops, frames_stop, parts_then}
 use Rattle.mig_image.proofs.read.take_behind.Goals as goal
 

@@ -1,5 +1,4 @@
-use Rattle.mig_image.proofs.Common.{◌≡◌, ◌∙◌, subst, rules, refl, Ok, AgreesWithJudging, takes_none, takes_more, told, one_more, one_stops, Part, HostOf, judged_as, host_part_form, steps_at, steps_read}
-use Rattle.mig_bytes.proofs.Steps.{begins}
+use Rattle.mig_image.proofs.Common.{◌≡◌, ◌∙◌, subst, rules, refl, Ok, AgreesWithJudging, takes_none, takes_more, told, one_more, one_stops, Part, HostOf, judged_as, host_part_form, steps_at, steps_read, begins}
 use Rattle.mig_image.proofs.Parts.{counts_none}
 use Rattle.mig_image.proofs.read_part.read_parts.Goals as goal
 

@@ -1,6 +1,5 @@
-use Rattle.mig_image.proofs.Common.{length, take, drop, sym, ap, subst, ◌∙◌, rules, arith, drop-drop, length-drop, flat_map, Appends, AppendsPart, puts_then, puts_stop, puts_same, flat_more, all_parted, frame_text, Two}
+use Rattle.mig_image.proofs.Common.{length, take, drop, sym, ap, subst, ◌∙◌, rules, arith, drop-drop, length-drop, flat_map, Appends, AppendsPart, puts_then, puts_stop, puts_same, flat_more, all_parted, frame_text, Two, Appends-trans}
 use Rattle.std.specs.FinMap as maps
-use Rattle.std.proofs.KnownBytes.{Appends-trans}
 use Rattle.mig_guest.proofs.NextEntries.{from_zero}
 use Rattle.mig_image.proofs.Writers.{walked}
 use Rattle.mig_image.proofs.write.write_frames.Goals as goal

@@ -1,5 +1,4 @@
-use Rattle.mig_bytes.proofs.Joins.{weakened}
-use Rattle.mig_legacy.proofs.Common.{◌≡◌, ◌∷◌, length, Some, rules, refl, sym, ap, subst, ◌∙◌, AreBytes, context_kept, judged_as, device_form, put_device}
+use Rattle.mig_legacy.proofs.Common.{◌≡◌, ◌∷◌, length, Some, rules, refl, sym, ap, subst, ◌∙◌, AreBytes, context_kept, judged_as, device_form, put_device, weakened}
 use Rattle.mig_legacy.proofs.Devices.{no_device, some_device, stops_so}
 use Rattle.mig_legacy.proofs.tail.take_device.Goals as goal
 

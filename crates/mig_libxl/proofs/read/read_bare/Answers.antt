@@ -1,6 +1,5 @@
-use Rattle.mig_libxl.proofs.Common.{◌++◌, sym, ◌∙◌, Passes, mapped, stopped, bare_at, Bare, image_behind}
+use Rattle.mig_libxl.proofs.Common.{◌++◌, sym, ◌∙◌, Passes, mapped, stopped, bare_at, Bare, image_behind, refused}
 use Rattle.mig_bytes.specs.Answers.{stop_of}
-use Rattle.mig_bytes.proofs.Joins.{refused}
 use Rattle.mig_libxl.proofs.Forms.{bare_is, bare_refused}
 use Rattle.mig_libxl.proofs.read.read_bare.Goals as goal
 

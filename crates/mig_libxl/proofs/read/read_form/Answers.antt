@@ -1,5 +1,4 @@
-use Rattle.mig_libxl.proofs.Common.{◌++◌, rules, sym, ◌∙◌, bare_at, wrapped_at}
-use Rattle.mig_libxl_form.proofs.Forms.{form_wrapped}
+use Rattle.mig_libxl.proofs.Common.{◌++◌, rules, sym, ◌∙◌, bare_at, wrapped_at, form_wrapped}
 use Rattle.mig_libxl.proofs.Forms.{form_reads, form_stops, form_bare}
 use Rattle.mig_libxl.proofs.read.read_form.Goals as goal
 

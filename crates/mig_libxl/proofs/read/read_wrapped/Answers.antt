@@ -1,5 +1,4 @@
-use Rattle.mig_libxl.proofs.Common.{refl, rules, ◌>>=◌, placed, Passes, judged_so, mapped, stopped, LibxlHeader, header_at, Wrapped, placed_then, placed_ends, wrapped_at, behind_header}
-use Rattle.mig_libxl_form.specs.Stream.{libxl_records_at}
+use Rattle.mig_libxl.proofs.Common.{refl, rules, ◌>>=◌, placed, Passes, judged_so, mapped, stopped, LibxlHeader, header_at, Wrapped, placed_then, placed_ends, wrapped_at, behind_header, libxl_records_at}
 use Rattle.mig_libxl.proofs.Forms.{wrapped_is}
 use Rattle.mig_libxl.proofs.read.read_wrapped.Goals as goal
 

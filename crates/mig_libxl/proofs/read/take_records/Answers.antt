@@ -1,7 +1,6 @@
-use Rattle.mig_libxl.proofs.Common.{arith, refl, rules, is_libxl_ended, IsLibxlSeen, FollowsLibxl, libxl_record_at, ended_more}
+use Rattle.mig_libxl.proofs.Common.{arith, refl, rules, is_libxl_ended, IsLibxlSeen, FollowsLibxl, libxl_record_at, ended_more, found}
 use Rattle.mig_bytes.proofs.Arrivals.{arrived_first, arrived_next, arrived_end, arrived_ends}
 use Rattle.mig_libxl.proofs.Arrivals.{is_last}
-use Rattle.mig_libxl_form.proofs.Records.{found}
 use Rattle.mig_libxl.proofs.read.take_records.Goals as goal
 
 pub loop-seen-init : goal.loop-seen-init

@@ -1,5 +1,4 @@
-use Rattle.mig_machine_script.proofs.Common.{◌≡◌, Ok, Err, sym, ap, ◌∙◌, rules, decimal}
-use Rattle.std.proofs.lemmas.Fmt.{parse-decimal}
+use Rattle.mig_machine_script.proofs.Common.{◌≡◌, Ok, Err, sym, ap, ◌∙◌, rules, decimal, parse-decimal}
 use Rattle.mig_machine_script.proofs.FieldsSaid.{apart, same}
 use Rattle.mig_machine_script.proofs.fields.number_of_text.Goals as goal
 

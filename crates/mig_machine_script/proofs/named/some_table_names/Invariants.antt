@@ -1,5 +1,4 @@
-use Rattle.mig_machine_script.proofs.Common.{◌≡◌, length, list_any, level_of, table_in, names_machine, table_names}
-use Rattle.mig_guest.specs.Frames.{entries_from}
+use Rattle.mig_machine_script.proofs.Common.{◌≡◌, length, list_any, level_of, table_in, names_machine, table_names, entries_from}
 use Rattle.std.specs.FinMap as maps
 use Rattle.mig_machine_script.proofs.named.some_table_names.Given as goal
 

@@ -1,5 +1,4 @@
-use Rattle.mig_pagestore.proofs.Common.{◌≤◌, ◌-◌}
-use Rattle.mig_pagestore.specs.FrameView.{LieInRun}
+use Rattle.mig_pagestore.proofs.Common.{◌≤◌, ◌-◌, LieInRun}
 use Rattle.mig_pagestore.proofs.frame_store.run_len.Given as goal
 
 abbrev pub invariant-loop-count : goal.invariant-loop-count

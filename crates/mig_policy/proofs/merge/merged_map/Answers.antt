@@ -1,5 +1,4 @@
-use Rattle.mig_policy.proofs.Common.{◌<◌, length, rules, arith}
-use Rattle.std.proofs.Common.{◌^◌}
+use Rattle.mig_policy.proofs.Common.{◌<◌, length, rules, arith, ◌^◌}
 use Rattle.mig_policy.proofs.PairTrees.{empty_len}
 use Rattle.mig_policy.proofs.merge.merged_map.Goals as goal
 

@@ -1,6 +1,4 @@
-use Rattle.std.proofs.Common.{length, replicate, refl}
-use Rattle.std.proofs.lemmas.List.{length-replicate}
-use Rattle.mig_bytes.specs.Bytes.{padding_len}
+use Rattle.mig_records.proofs.Common.{length, replicate, refl, length-replicate, padding_len}
 use Rattle.mig_records.specs.Records.{head_of, spelled}
 use Rattle.mig_records.proofs.HeadBytes.{type_in_head, len_in_head}
 use Rattle.mig_records.proofs.laws.spelled_is_record.Goals as goal

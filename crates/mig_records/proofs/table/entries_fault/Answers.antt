@@ -1,6 +1,5 @@
-use Rattle.mig_records.proofs.Common.{◌≡◌, ◌+◌, ◌-◌, length, None, ap, sym, ◌∙◌, arith, rules, entry_width, fault_of_entries}
+use Rattle.mig_records.proofs.Common.{◌≡◌, ◌+◌, ◌-◌, length, None, ap, sym, ◌∙◌, arith, rules, entry_width, fault_of_entries, fault_of_entry}
 use Rattle.std.specs.Prelude.{drop}
-use Rattle.mig_records.specs.Layouts.{fault_of_entry}
 use Rattle.mig_records.proofs.Reading.{shorter, fault_here, fault_next}
 use Rattle.mig_records.proofs.table.entries_fault.Goals as goal
 

@@ -1,5 +1,4 @@
-use Rattle.std.proofs.Common.{ℕ, replicate, sym, ap, ◌∙◌, arith}
-use Rattle.std.proofs.lemmas.List.{take-replicate}
+use Rattle.mig_records.proofs.Common.{ℕ, replicate, sym, ap, ◌∙◌, arith, take-replicate}
 use Rattle.mig_bytes.proofs.Texts.{puts_same}
 use Rattle.mig_records.proofs.write.write_padding.Goals as goal
 

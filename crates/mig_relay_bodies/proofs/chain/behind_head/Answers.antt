@@ -1,5 +1,4 @@
-use Rattle.mig_relay_bodies.proofs.Common.{sym, ◌∙◌, arith, eq-eqb, ne_eqb}
-use Rattle.mig_headers.proofs.Chains.{chain_more}
+use Rattle.mig_relay_bodies.proofs.Common.{sym, ◌∙◌, arith, eq-eqb, ne_eqb, chain_more}
 use Rattle.mig_relay_bodies.proofs.ContextChain.{faulty_here, ends_here, header_faulty, fine_end, short_entry, fine_entry}
 use Rattle.mig_relay_bodies.proofs.chain.behind_head.Goals as goal
 

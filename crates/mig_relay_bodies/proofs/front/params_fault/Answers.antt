@@ -1,5 +1,4 @@
-use Rattle.mig_relay_bodies.proofs.Common.{◌≡◌, ◌+◌, ◌-◌, None, drop, length, sym, ap, ◌∙◌, arith, length-drop, fault_of_entry, fault_of_entries, HvmParam, params}
-use Rattle.std.proofs.Common.{rules}
+use Rattle.mig_relay_bodies.proofs.Common.{◌≡◌, ◌+◌, ◌-◌, None, drop, length, sym, ap, ◌∙◌, arith, length-drop, fault_of_entry, fault_of_entries, HvmParam, params, rules}
 use Rattle.mig_records.proofs.Reading.{fault_here, fault_next}
 use Rattle.mig_relay_bodies.proofs.front.params_fault.Goals as goal
 

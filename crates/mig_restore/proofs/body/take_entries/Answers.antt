@@ -1,11 +1,7 @@
-use Rattle.mig_restore.proofs.Common.{◌≡◌, ◌≤◌, get_or, [], refl, rules, subst, sym, length, take, Ok, put_entries, done, each_step, each_ends, with_places, entry_at, IsGoodWord, AgreesWithJudging}
+use Rattle.mig_restore.proofs.Common.{◌≡◌, ◌≤◌, get_or, [], refl, rules, subst, sym, length, take, Ok, put_entries, done, each_step, each_ends, with_places, entry_at, IsGoodWord, AgreesWithJudging, take_all, grows_not, grows_on, one_more_entry, places_len, entry_here, place_within}
 use Rattle.std.proofs.lemmas.List.Elements.{All-get_or}
-use Rattle.std.proofs.lemmas.List.{take_all}
 use Rattle.mig_bytes.specs.Judged.{each}
 use Rattle.mig_restore.proofs.Begun.{none_set, one_more_set, set_so_far}
-use Rattle.mig_restore_form.proofs.Growth.{grows_not, grows_on}
-use Rattle.mig_restore_form.proofs.Meaning.{one_more_entry}
-use Rattle.mig_restore_form.proofs.Batches.{places_len, entry_here, place_within}
 use Rattle.mig_restore.proofs.body.take_entries.Goals as goal
 
 pub loop-place-init : goal.loop-place-init

@@ -1,6 +1,5 @@
-use Rattle.mig_restore.proofs.Common.{◌≡◌, take, Ok, AgreesWithJudging, put_entries, GrewByRecord, with_places, entry_at}
+use Rattle.mig_restore.proofs.Common.{◌≡◌, take, Ok, AgreesWithJudging, put_entries, GrewByRecord, with_places, entry_at, AreEntriesSet}
 use Rattle.mig_bytes.specs.Judged.{each}
-use Rattle.mig_restore.specs.Begun.{AreEntriesSet}
 use Rattle.mig_restore.proofs.body.take_entries.Given as goal
 
 abbrev pub invariant-loop-place : goal.invariant-loop-place

@@ -1,8 +1,5 @@
-use Rattle.mig_restore.proofs.Common.{◌<◌, pfn_limit, IsInside, None, sym, subst, ◌∙◌, rules, none-some}
+use Rattle.mig_restore.proofs.Common.{◌<◌, pfn_limit, IsInside, None, sym, subst, ◌∙◌, rules, none-some, word_inside, grows_frame, entry_set, carries}
 use Rattle.mig_restore.proofs.Begun.{one_set}
-use Rattle.mig_restore_form.proofs.Growth.{word_inside, grows_frame}
-use Rattle.mig_restore_form.proofs.Meaning.{entry_set}
-use Rattle.mig_restore_form.proofs.Batches.{carries}
 use Rattle.mig_restore.proofs.Entries.{no_page}
 use Rattle.mig_restore.proofs.Filled.{filled_read, filled_set, filled_grown, stops_so}
 use Rattle.mig_restore.proofs.body.take_entry.Goals as goal

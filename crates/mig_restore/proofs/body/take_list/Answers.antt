@@ -1,6 +1,4 @@
-use Rattle.mig_restore.proofs.Common.{◌≡◌, rules, Some, None, fault_of_count}
-use Rattle.mig_restore_form.specs.Judging.{fault_of_list}
-use Rattle.mig_restore_form.proofs.Batches.{list_refused}
+use Rattle.mig_restore.proofs.Common.{◌≡◌, rules, Some, None, fault_of_count, fault_of_list, list_refused}
 use Rattle.mig_restore.proofs.body.take_list.Goals as goal
 
 pub returns-in-Some-list_fault-clause-read : goal.returns-in-Some-list_fault-clause-read

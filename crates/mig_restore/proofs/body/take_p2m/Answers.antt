@@ -1,6 +1,4 @@
-use Rattle.mig_restore.proofs.Common.{◌≡◌, ◌∙◌, ◌≤◌, None, length, drop, ap, sym, subst, rules, AreBytes, put_content, lists_of, le32, fault_of_p2m, p2m_is_spelled, refl, Truncated}
-use Rattle.mig_restore_form.proofs.Growth.{grows_list}
-use Rattle.mig_bytes.proofs.Said.{said_read}
+use Rattle.mig_restore.proofs.Common.{◌≡◌, ◌∙◌, ◌≤◌, None, length, drop, ap, sym, subst, rules, AreBytes, put_content, lists_of, le32, fault_of_p2m, p2m_is_spelled, refl, Truncated, grows_list, said_read}
 use Rattle.mig_restore.proofs.body.take_p2m.Goals as goal
 
 pub returns-in-Ok-clause-read : goal.returns-in-Ok-clause-read

@@ -1,5 +1,4 @@
-use Rattle.mig_restore.proofs.Common.{◌≡◌, rules, put_entries, put_content}
-use Rattle.mig_restore_form.proofs.Batches.{pages_read, pages_stopped}
+use Rattle.mig_restore.proofs.Common.{◌≡◌, rules, put_entries, put_content, pages_read, pages_stopped}
 use Rattle.mig_restore.proofs.body.take_pages.Goals as goal
 
 pub returns-in_err-list-clause-read : goal.returns-in_err-list-clause-read

@@ -1,6 +1,4 @@
-use Rattle.mig_restore.proofs.Common.{◌≡◌, ◌∙◌, None, length, ap, sym, subst, rules, AreBytes, fault_of_body, parts_of_body, HasBodyLength, put_content, Sets, refl, Truncated}
-use Rattle.mig_restore_form.proofs.Growth.{grows_sets}
-use Rattle.mig_bytes.proofs.Said.{said_read}
+use Rattle.mig_restore.proofs.Common.{◌≡◌, ◌∙◌, None, length, ap, sym, subst, rules, AreBytes, fault_of_body, parts_of_body, HasBodyLength, put_content, Sets, refl, Truncated, grows_sets, said_read}
 use Rattle.mig_restore.proofs.body.take_sets.Goals as goal
 
 pub returns-in-Ok-clause-read : goal.returns-in-Ok-clause-read

@@ -1,6 +1,5 @@
-use Rattle.mig_restore.proofs.Common.{◌≡◌, ◌∙◌, List, ℕ, Option, Some, Result, ap, sym, subst, Judged, AgreesWithJudging, Stop, Cause, RecordType, code_of_number, PartCode, Content, code_of_type}
+use Rattle.mig_restore.proofs.Common.{◌≡◌, ◌∙◌, List, ℕ, Option, Some, Result, ap, sym, subst, Judged, AgreesWithJudging, Stop, Cause, RecordType, code_of_number, PartCode, Content, code_of_type, has_length, same_kinds, sets_no_emulator}
 use Rattle.mig_restore_form.proofs.Bodies.{coded_is, shaped_code}
-use Rattle.mig_restore_form.proofs.Growth.{has_length, same_kinds, sets_no_emulator}
 use Rattle.mig_restore.proofs.body.take_typed.Goals as goal
 
 found : (this : RecordType) (code : PartCode) (number : ℕ) (r : Option PartCode) → code_of_type this ≡ code_of_number number → r ≡ code_of_number number → r ≡ Some code → code_of_type this ≡ Some code

@@ -1,7 +1,5 @@
-use Rattle.mig_restore.proofs.Common.{◌≡◌, ◌+◌, ◌≤◌, ℕ, [], refl, rules, sym, subst, arith, length, take, cond, Ok, done, each_step, each_ends, with_places, entry_at, differing, AgreesWithJudging}
-use Rattle.std.proofs.lemmas.List.{take_all}
+use Rattle.mig_restore.proofs.Common.{◌≡◌, ◌+◌, ◌≤◌, ℕ, [], refl, rules, sym, subst, arith, length, take, cond, Ok, done, each_step, each_ends, with_places, entry_at, differing, AgreesWithJudging, take_all, places_len, entry_here, place_within}
 use Rattle.mig_bytes.specs.Judged.{each}
-use Rattle.mig_restore_form.proofs.Batches.{places_len, entry_here, place_within}
 use Rattle.mig_restore.proofs.Compared.{one_more_compared}
 use Rattle.mig_restore.proofs.check.check_entries.Goals as goal
 use Rattle.mig_restore.proofs.check.check_entries.Goals.{then-not-same, else-not-same}

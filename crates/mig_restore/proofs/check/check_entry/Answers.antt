@@ -1,5 +1,4 @@
-use Rattle.mig_restore.proofs.Common.{Some, None, ◌∙◌, rules}
-use Rattle.mig_restore_form.proofs.Batches.{carries}
+use Rattle.mig_restore.proofs.Common.{Some, None, ◌∙◌, rules, carries}
 use Rattle.mig_restore.proofs.Entries.{no_page, with_page, stopped_page, compared}
 use Rattle.mig_restore.proofs.check.check_entry.Goals as goal
 

@@ -1,5 +1,4 @@
-use Rattle.mig_restore.proofs.Common.{◌≡◌, true, rules, differing, checked_in, placed_content}
-use Rattle.mig_restore_form.proofs.Batches.{pages_read, pages_stopped}
+use Rattle.mig_restore.proofs.Common.{◌≡◌, true, rules, differing, checked_in, placed_content, pages_read, pages_stopped}
 use Rattle.mig_restore.proofs.check.check_pages.Goals as goal
 
 pub returns-in_err-list-clause-read : goal.returns-in_err-list-clause-read

@@ -1,5 +1,4 @@
-use Rattle.mig_restore.proofs.Common.{◌≡◌, ◌≢◌, true, false, sym, ◌∙◌, body_at}
-use Rattle.mig_restore_form.proofs.Compared.{body_said}
+use Rattle.mig_restore.proofs.Common.{◌≡◌, ◌≢◌, true, false, sym, ◌∙◌, body_at, body_said}
 use Rattle.mig_restore.proofs.Compared.{judged_too, put_anywhere}
 use Rattle.mig_restore.proofs.check.take_placed.Goals as goal
 use Rattle.mig_restore.proofs.check.take_placed.Goals.{else-verified-via-then-verified+else-head-eq-PAGE_DATA, else-verified-via-else-verified}

@@ -1,6 +1,4 @@
-use Rattle.mig_restore.proofs.Common.{refl, ap, ◌∙◌, placed, mapped, ImageHeader, DomainHeader, opening_of, version_at, kind_at}
-use Rattle.mig_bytes.proofs.Placed.{placed_fine, placed_then, placed_ends}
-use Rattle.mig_restore_form.proofs.Laws.{behind_version, behind_kind}
+use Rattle.mig_restore.proofs.Common.{refl, ap, ◌∙◌, placed, mapped, ImageHeader, DomainHeader, opening_of, version_at, kind_at, placed_fine, placed_then, placed_ends, behind_version, behind_kind}
 use Rattle.mig_restore.proofs.read.read_headers.Goals as goal
 
 pub returns-in-Err-clause-read : goal.returns-in-Err-clause-read

@@ -1,8 +1,5 @@
-use Rattle.mig_restore.proofs.Common.{◌≡◌, ℕ, List, [], ◌∷◌, ◌++◌, true, false, nat_eq, rules, ap, sym, subst, ◌∙◌, eq-eqb, ne_eqb, map-append, done, then_reads, stopped, refused, GuestOf, fault_of_guest, put_record, StreamRecord, types_of, Opening, before, IsSeen, RecordsSeen}
+use Rattle.mig_restore.proofs.Common.{◌≡◌, ℕ, List, [], ◌∷◌, ◌++◌, true, false, nat_eq, rules, ap, sym, subst, ◌∙◌, eq-eqb, ne_eqb, map-append, done, then_reads, stopped, refused, GuestOf, fault_of_guest, put_record, StreamRecord, types_of, Opening, before, IsSeen, RecordsSeen, record_at, next_at, asks, behind_record, not_last, last_fine, last_faulty, sent_kind, one_more_record}
 use Rattle.mig_restore_form.specs.Mean.{sent}
-use Rattle.mig_restore_form.specs.Judging.{record_at, next_at}
-use Rattle.mig_restore_form.proofs.Parts.{asks, behind_record, not_last, last_fine, last_faulty}
-use Rattle.mig_restore_form.proofs.Meaning.{sent_kind, one_more_record}
 use Rattle.mig_restore.proofs.read.read_next.Goals as goal
 
 seen_more : (seen : RecordsSeen) (o : Opening) (records : List StreamRecord) (r : StreamRecord) (type : ℕ) → type ≡ r.type → IsSeen seen o (types_of records ++ type ∷ []) → IsSeen seen o (types_of (records ++ r ∷ []))

@@ -1,5 +1,4 @@
-use Rattle.mig_restore.proofs.Common.{ImageHeader, marker_at}
-use Rattle.mig_bytes.proofs.Placed.{placed_then, placed_ends}
+use Rattle.mig_restore.proofs.Common.{ImageHeader, marker_at, placed_then, placed_ends}
 use Rattle.mig_restore_form.specs.Stream.{opening_at}
 use Rattle.mig_restore_form.proofs.Laws.{behind_marker}
 use Rattle.mig_restore.proofs.read.read_opening.Goals as goal

@@ -1,11 +1,9 @@
-use Rattle.mig_restore.proofs.Common.{refl, rules, subst, sym, ◌∙◌, Err, AgreesWithJudging, records_at, IsReading, opening_of, IsBegun}
+use Rattle.mig_restore.proofs.Common.{refl, rules, subst, sym, ◌∙◌, Err, AgreesWithJudging, records_at, IsReading, opening_of, IsBegun, Reading, empty_begun}
 use Rattle.mig_pvtables.specs.Whole.{IsStreamedBare}
-use Rattle.mig_restore.specs.declared.read.Reading.{Reading}
 use Rattle.mig_restore.proofs.Arrivals.{state, arrived_first, arrived_next, arrived_end, arrived_stopped}
 use Rattle.mig_pvtables.proofs.BlankAgain.{blank_again}
 use Rattle.mig_pvtables.proofs.BlankBytesKept.{blank_bytes}
 use Rattle.mig_pvtables.proofs.BlankWhole.{whole_blank, blank_plain}
-use Rattle.mig_restore_form.proofs.Growth.{empty_begun}
 use Rattle.mig_restore.proofs.read.read_records.Goals as goal
 
 pub records-init : goal.records-init

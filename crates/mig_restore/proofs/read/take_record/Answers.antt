@@ -1,7 +1,5 @@
-use Rattle.mig_restore.proofs.Common.{refl, rules, ◌∙◌, padding_len, part, Passes, is_verified, placed_content, mapped, then_reads, stopped, Truncated, head_at, body_at}
-use Rattle.mig_restore_form.specs.Judging.{record_at}
+use Rattle.mig_restore.proofs.Common.{refl, rules, ◌∙◌, padding_len, part, Passes, is_verified, placed_content, mapped, then_reads, stopped, Truncated, head_at, body_at, record_at, behind_body, behind_head, begins, goes_on, padded}
 use Rattle.mig_restore.proofs.Compared.{record_told}
-use Rattle.mig_restore_form.proofs.Parts.{behind_body, behind_head, begins, goes_on, padded}
 use Rattle.mig_restore.proofs.read.take_record.Goals as goal
 
 pub returns-in_err-head-clause-read : goal.returns-in_err-head-clause-read

@@ -1,5 +1,4 @@
-use Rattle.mig_restore_form.proofs.Common.{◌*◌, arith, rules, common_steps, le64}
-use Rattle.std.proofs.lemmas.List.FromFn.{map-range_with_len_more}
+use Rattle.mig_restore_form.proofs.Common.{◌*◌, arith, rules, common_steps, le64, map-range_with_len_more}
 use Rattle.mig_restore_form.proofs.word.words_of.Goals as goal
 
 pub loop-k-preserved : goal.loop-k-preserved

@@ -1,5 +1,4 @@
-use Rattle.mig_restore_form.proofs.Common.{◌≡◌, words}
-use Rattle.std.proofs.Common.{vec_len}
+use Rattle.mig_restore_form.proofs.Common.{◌≡◌, words, vec_len}
 use Rattle.mig_restore_form.proofs.word.words_of.Given as goal
 
 abbrev pub invariant-loop-k : goal.invariant-loop-k

@@ -1,8 +1,6 @@
-use Rattle.mig_show.proofs.Common.{◌≡◌, ◌∙◌, ap, false, ◌++◌, codes, string_bytes, List, ℕ, boolean, has_float, compact_text, records_text, kind_tree, refused_tree, version_tree}
+use Rattle.mig_show.proofs.Common.{◌≡◌, ◌∙◌, ap, false, ◌++◌, codes, string_bytes, List, ℕ, boolean, has_float, compact_text, records_text, kind_tree, refused_tree, version_tree, SeenState, front_tree, tree_line}
 use Rattle.mig_show.proofs.Floats.{of_kind, of_refused, of_version}
 use Rattle.mig_show.proofs.Texts.{pieces, text_on, value_on}
-use Rattle.mig_show.specs.Seeing.{SeenState}
-use Rattle.mig_show.specs.Shows.{front_tree, tree_line}
 use Rattle.mig_show.proofs.line.stream_line.Goals as goal
 
 pub returns : goal.returns

@@ -1,5 +1,4 @@
-use Rattle.mig_show.proofs.Common.{◌≡◌, map, take, record_tree}
-use Rattle.serde_json.specs.View.{view}
+use Rattle.mig_show.proofs.Common.{◌≡◌, map, take, record_tree, view}
 use Rattle.mig_show.proofs.tree.records_array.Given as goal
 
 abbrev pub invariant-loop-record : goal.invariant-loop-record

@@ -1,5 +1,4 @@
-use Rattle.mig_show.proofs.Common.{refl, sym, subst, ◌∙◌, ◌≡◌, None, Ok, IfOk, Cause, Place, StepSays, Shows, RisesOnShow, front_tree, Step}
-use Rattle.std.proofs.Common.{rules}
+use Rattle.mig_show.proofs.Common.{refl, sym, subst, ◌∙◌, ◌≡◌, None, Ok, IfOk, Cause, Place, StepSays, Shows, RisesOnShow, front_tree, Step, rules}
 use Rattle.std.specs.Prelude.{Option, Result}
 use Rattle.mig_show.specs.declared.viewer.ShowAnswer.{ShowAnswer}
 use Rattle.mig_show.proofs.Sights.{looks_first, looks_on, shows_whole, shows_ended, rises_ended}

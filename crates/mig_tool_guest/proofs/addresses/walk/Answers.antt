@@ -1,5 +1,4 @@
-use Rattle.mig_tool_guest.proofs.Common.{FrameInStream, StreamHasFrame, HasWalkRefusal, Effects, effects, input_effect, sink_effect, unreached, untouched_sink}
-use Rattle.mig_tool_guest.specs.Promises.{HasFront}
+use Rattle.mig_tool_guest.proofs.Common.{FrameInStream, StreamHasFrame, HasWalkRefusal, Effects, effects, input_effect, sink_effect, unreached, untouched_sink, HasFront}
 use Rattle.mig_tool_guest.proofs.Walking.{found_carried}
 use Rattle.mig_tool_guest.proofs.addresses.walk.Goals as goal
 

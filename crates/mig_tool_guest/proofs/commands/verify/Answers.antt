@@ -1,8 +1,5 @@
-use Rattle.mig_tool_guest.proofs.Common.{Reading, Ok, Err, refl, ◌∙◌, rules, inl, inr, HasStreamRefusal, AcceptedStream, effects, finished, input_effect, line_put, never_failed, no_line, sink_effect, unreached, untouched_sink, unwritten, verify_promise, Effects}
+use Rattle.mig_tool_guest.proofs.Common.{Reading, Ok, Err, refl, ◌∙◌, rules, inl, inr, HasStreamRefusal, AcceptedStream, effects, finished, input_effect, line_put, never_failed, no_line, sink_effect, unreached, untouched_sink, unwritten, verify_promise, Effects, Verified, HasFront, ok_line}
 use Rattle.mig_tool_guest.proofs.Reporting.{not_read, not_read_count, not_written, verified}
-use Rattle.mig_tool_guest.specs.Fronts.{Verified}
-use Rattle.mig_tool_guest.specs.Promises.{HasFront}
-use Rattle.mig_tool_report.specs.Report.{ok_line}
 use Rattle.std.specs.FinMap as maps
 use Rattle.mig_tool_guest.proofs.commands.verify.Goals as goal
 

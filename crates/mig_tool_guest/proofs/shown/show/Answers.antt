@@ -1,5 +1,4 @@
-use Rattle.mig_tool_guest.proofs.Common.{ComesTo, finished, text_rose, show_promise, effects, input_effect, sink_effect, Effects, subst, sym}
-use Rattle.mig_tool_guest.specs.Shown.{IsShown}
+use Rattle.mig_tool_guest.proofs.Common.{ComesTo, finished, text_rose, show_promise, effects, input_effect, sink_effect, Effects, subst, sym, IsShown}
 use Rattle.mig_tool_guest.proofs.shown.show.Goals as goal
 
 pub returns : goal.returns

@@ -1,5 +1,4 @@
-use Rattle.mig_tool_report.proofs.Common.{◌≡◌, sym, subst, ◌∙◌, arith, rules, IsBase}
-use Rattle.std.proofs.lemmas.Fmt.{decimal_injective}
+use Rattle.mig_tool_report.proofs.Common.{◌≡◌, sym, subst, ◌∙◌, arith, rules, IsBase, decimal_injective}
 use Rattle.mig_tool_report.proofs.command.base_in.Goals as goal
 
 pub returns-else-is_base-clause-none : goal.returns-else-is_base-clause-none

@@ -1,5 +1,4 @@
-use Rattle.mig_tool_report.proofs.Common.{◌≡◌, sym, subst, ◌∙◌, arith, rules, IsFrameNumber}
-use Rattle.std.proofs.lemmas.Fmt.{decimal_injective}
+use Rattle.mig_tool_report.proofs.Common.{◌≡◌, sym, subst, ◌∙◌, arith, rules, IsFrameNumber, decimal_injective}
 use Rattle.mig_tool_report.proofs.command.frames_in.Goals as goal
 
 pub returns-else-is_frame_number-clause-none : goal.returns-else-is_frame_number-clause-none

@@ -1,5 +1,4 @@
-use Rattle.std.proofs.Common.{◌≡◌, ◌<◌, ◌^◌, drop}
-use Rattle.mig_tool_report.specs.Words.{hex_behind}
+use Rattle.mig_tool_report.proofs.Common.{◌≡◌, ◌<◌, ◌^◌, drop, hex_behind}
 use Rattle.mig_tool_report.proofs.command.hex_number.Given as goal
 
 abbrev pub invariant-loop-letter : goal.invariant-loop-letter

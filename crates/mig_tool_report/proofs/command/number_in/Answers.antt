@@ -1,5 +1,4 @@
-use Rattle.mig_tool_report.proofs.Common.{◌≡◌, ℕ, Result, Ok, Err, sym, ap, ◌∙◌, rules, decimal}
-use Rattle.std.proofs.lemmas.Fmt.{parse-decimal}
+use Rattle.mig_tool_report.proofs.Common.{◌≡◌, ℕ, Result, Ok, Err, sym, ap, ◌∙◌, rules, decimal, parse-decimal}
 use Rattle.mig_tool_report.proofs.command.number_in.Goals as goal
 
 apart : {E : Type 0} (e : E) (n : ℕ) → ◌≡◌ {A = Result ℕ E} (Err e) (Ok n) → ⊥

@@ -1,5 +1,4 @@
-use Rattle.mig_tool_report.proofs.Common.{◌≡◌, sym, ◌∙◌, arith}
-use Rattle.std.proofs.lemmas.Fmt.{decimal_injective}
+use Rattle.mig_tool_report.proofs.Common.{◌≡◌, sym, ◌∙◌, arith, decimal_injective}
 use Rattle.mig_tool_report.proofs.command.vcpu_in.Goals as goal
 
 pub returns-else-id-from-clause-none : goal.returns-else-id-from-clause-none

@@ -1,5 +1,4 @@
-use Rattle.mig_tool_report.proofs.Common.{ap, puts_same}
-use Rattle.mig_tool_report.specs.Report.{text_of_walk_end}
+use Rattle.mig_tool_report.proofs.Common.{ap, puts_same, text_of_walk_end}
 use Rattle.mig_tool_report.proofs.outcome.put_walk_end.Goals as goal
 
 pub returns-in-NotCanonical-clause-bytes : goal.returns-in-NotCanonical-clause-bytes

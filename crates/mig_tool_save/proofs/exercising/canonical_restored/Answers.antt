@@ -1,5 +1,4 @@
-use Rattle.mig_tool_save.proofs.Common.{◌≡◌, ap, subst, ◌∙◌, GuestOf, HostOf, unsoundness, view, canon_any}
-use Rattle.std.specs.Prelude.{OnOk}
+use Rattle.mig_tool_save.proofs.Common.{◌≡◌, ap, subst, ◌∙◌, GuestOf, HostOf, unsoundness, view, canon_any, OnOk}
 use Rattle.mig_host.specs.Hosted.{IsBaseOutside}
 use Rattle.mig_tool_save.proofs.exercising.canonical_restored.Goals as goal
 

@@ -1,5 +1,4 @@
-use Rattle.mig_tool_save.proofs.Common.{Err, ap, refl}
-use Rattle.mig_tool_report.specs.Promises.{Effects, effects, input_effect, sink_effect}
+use Rattle.mig_tool_save.proofs.Common.{Err, ap, refl, Effects, effects, input_effect, sink_effect}
 use Rattle.mig_tool_save.proofs.SaveOutcomes.{stopped_carried, unsaved_carried, saved_carried}
 use Rattle.mig_tool_save.proofs.saving.save.Goals as goal
 

@@ -1,5 +1,4 @@
-use Rattle.mig_tool_save.proofs.Common.{Err, ap, ◌≡◌, ℕ, List, refl, subst, ◌≤◌, most_saved_width, LineOf, history_of, SaveAnswer, ComesToNone}
-use Rattle.std.proofs.Common.{rules}
+use Rattle.mig_tool_save.proofs.Common.{Err, ap, ◌≡◌, ℕ, List, refl, subst, ◌≤◌, most_saved_width, LineOf, history_of, SaveAnswer, ComesToNone, rules}
 use Rattle.mig_dirtysave.specs.declared.answer.SaveReport.{SaveReport}
 use Rattle.mig_tool_save.proofs.SaveOutcomes.{nothing_written}
 use Rattle.mig_tool_save.proofs.Lives.{wrote_live, wrote_live_to, tight_of, never_fails, pauses_so, left_no_stream, ends, had_memory, no_write}

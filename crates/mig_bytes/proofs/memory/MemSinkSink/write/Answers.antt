@@ -1,5 +1,4 @@
-use Rattle.mig_bytes.proofs.Common.{rules, inl}
-use Rattle.mig_bytes.specs.Memory.{IsListed}
+use Rattle.mig_bytes.proofs.Common.{rules, inl, IsListed}
 use Rattle.mig_bytes.proofs.memory.MemSinkSink.write.Goals as goal
 
 pub returns-then-is_listed-clause-failed : goal.returns-then-is_listed-clause-failed

@@ -1,5 +1,4 @@
-use Rattle.mig_dirtysave.proofs.Common.{ℕ, List, length, refl, sym, ap, subst, ◌∙◌, option_map, IsFormed, GuestOf, HoldsParts, is_early, is_setting, kept_formed}
-use Rattle.mig_dirtysave_parts.proofs.Codes.{holds_kept}
+use Rattle.mig_dirtysave.proofs.Common.{ℕ, List, length, refl, sym, ap, subst, ◌∙◌, option_map, IsFormed, GuestOf, HoldsParts, is_early, is_setting, kept_formed, holds_kept}
 use Rattle.mig_dirtysave_parts.proofs.Walks.{kept_same}
 use Rattle.mig_dirtysave.proofs.Streams.{held_there}
 use Rattle.mig_dirtysave.proofs.saver.Saver.prepare.Goals as goal

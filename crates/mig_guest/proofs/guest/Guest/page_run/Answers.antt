@@ -1,5 +1,4 @@
-use Rattle.mig_guest.proofs.Common.{◌≡◌, ◌+◌, ap, ◌∙◌, entries_from}
-use Rattle.std.proofs.Common.{rules}
+use Rattle.mig_guest.proofs.Common.{◌≡◌, ◌+◌, ap, ◌∙◌, entries_from, rules}
 use Rattle.std.specs.FinMap as maps
 use Rattle.mig_guest.proofs.PageRuns.{bytes_from, behind_from}
 use Rattle.mig_guest.proofs.guest.Guest.page_run.Goals as goal

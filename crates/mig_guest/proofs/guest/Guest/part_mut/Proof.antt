@@ -1,5 +1,5 @@
 -- `part_mut` lends the bytes of the part that `lend_part` lends.
-use Rattle.mig_guest.proofs.Common.{◌≡◌, ℕ, List, [], ◌∷◌, ◌++◌, length, take, Option, Some, None, MutBor, refl, sym, ap, ◌∙◌, inl, inr, lit<, arith, option_map, option_copied_mut, PartKey, GuestOf}
+use Rattle.mig_guest.proofs.Common.{◌≡◌, ℕ, List, [], ◌∷◌, ◌++◌, length, take, Option, Some, None, MutBor, refl, sym, ap, ◌∙◌, inl, inr, lit<, arith, option_map, option_copied_mut, PartKey, GuestOf, with_items}
 use Rattle.std.proofs.Common.{drop as list_drop}
 use Rattle.std.proofs.raw_atomic.Walks.{proved}
 use Rattle.std.proofs.VecSteps.Element.{Some-of, none_of}
@@ -31,7 +31,6 @@ use denote.Triple.Clauses.{lasts}
 use denote.Triple.Spec.{triple_of}
 use denote.Triple.Walked.{Stays, walk_of, says, stay_dropped, Goes-dropped, Goes-spent_ref, ends_at}
 use denote.Triple.Table.{framed}
-use Rattle.std.specs.Vec.{with_items}
 use Rattle.std.specs.FinMap as maps
 use Rattle.std.specs.contracts.option.Option as option
 use Rattle.mig_guest.specs.Lending.{Bytes, part_row, LendsGuestPart, LendsBytes, rewritten, with_part}

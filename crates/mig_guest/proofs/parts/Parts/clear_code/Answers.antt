@@ -1,6 +1,5 @@
-use Rattle.mig_guest.proofs.Common.{◌≡◌, ℕ, not, refl, sym, ap, ◌∙◌, PartKey, PartMap, parts_seen}
+use Rattle.mig_guest.proofs.Common.{◌≡◌, ℕ, not, refl, sym, ap, ◌∙◌, PartKey, PartMap, parts_seen, filter_from_retain_pairs}
 use Rattle.std.proofs.Common.{◌==◌}
-use Rattle.std.proofs.lemmas.Map.Entries.{filter_from_retain_pairs}
 use Rattle.std.specs.FinMap as maps
 use Rattle.mig_guest.proofs.PartOrder.{part_total, part_exact}
 use Rattle.mig_guest.proofs.KeyedMaps.{seen_filter}

@@ -1,5 +1,4 @@
-use Rattle.mig_guest.proofs.Common.{ℕ, Global, Some, sym, ap, ◌∙◌, option_map}
-use Rattle.std.specs.declared.vec.Vec.{Vec}
+use Rattle.mig_guest.proofs.Common.{ℕ, Global, Some, sym, ap, ◌∙◌, option_map, Vec}
 use Rattle.mig_guest.proofs.PartMaps.{got}
 use Rattle.mig_guest.proofs.parts.Parts.get.Goals as goal
 

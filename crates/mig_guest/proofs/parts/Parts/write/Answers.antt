@@ -1,6 +1,4 @@
-use Rattle.mig_guest.proofs.Common.{◌≡◌, ◌+◌, ◌≤◌, length, Some, is_some, sym, ap, ◌∙◌, arith, option_map, option_copied_mut, PartMap}
-use Rattle.std.specs.Vec.{with_items}
-use Rattle.std.proofs.lemmas.List.{with_items_is}
+use Rattle.mig_guest.proofs.Common.{◌≡◌, ◌+◌, ◌≤◌, length, Some, is_some, sym, ap, ◌∙◌, arith, option_map, option_copied_mut, PartMap, with_items, with_items_is}
 use Rattle.std.specs.FinMap as maps
 use Rattle.mig_pagestore.specs.Pages.{spliced}
 use Rattle.mig_guest.proofs.KeyedMaps.{is_some-mapped}

@@ -1,4 +1,4 @@
-use Rattle.std.proofs.Common.{rules}
+use Rattle.mig_guest.proofs.Common.{rules}
 use Rattle.mig_guest.proofs.Fills.{filled_more, all_filled}
 use Rattle.mig_guest.proofs.pfn_set.make.fill.Goals as goal
 

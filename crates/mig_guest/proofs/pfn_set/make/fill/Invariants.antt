@@ -1,5 +1,5 @@
+use Rattle.mig_guest.proofs.Common.{pfns_of_words}
 use Rattle.std.proofs.Common.{◌≡◌, ℕ, ◌*◌, ◌<◌, nat_lt}
-use Rattle.mig_guest.specs.Pfns.{pfns_of_words}
 use Rattle.mig_guest.proofs.pfn_set.make.fill.Given as goal
 
 abbrev pub invariant-loop-index : goal.invariant-loop-index

@@ -1,4 +1,4 @@
-use Rattle.std.proofs.Common.{arith}
+use Rattle.mig_guest.proofs.Common.{arith}
 use Rattle.mig_guest.proofs.Scans.{no_bit_from, bit_set, bit_inside, bits_before}
 use Rattle.mig_guest.proofs.pfn_set.scan.bit_from.Goals as goal
 

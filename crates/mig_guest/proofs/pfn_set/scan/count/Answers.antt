@@ -1,6 +1,4 @@
-use Rattle.std.proofs.Common.{arith, ◌≡◌, ◌*◌, ◌∙◌, ap, get_or, length}
-use Rattle.std.proofs.lemmas.Nat.{ones-le}
-use Rattle.mig_guest.specs.Pfns.{pfns_of_words, size}
+use Rattle.mig_guest.proofs.Common.{arith, ◌≡◌, ◌*◌, ◌∙◌, ap, get_or, length, ones-le, pfns_of_words, size}
 use Rattle.mig_guest.proofs.Sizes.{size-le, same_width}
 use Rattle.mig_guest.proofs.MemberCounts.{word_counted}
 use Rattle.mig_guest.proofs.Scans.{words_below}

@@ -1,5 +1,4 @@
-use Rattle.std.proofs.Common.{◌≡◌, ◌*◌}
-use Rattle.mig_guest.specs.Pfns.{pfns_of_words, size}
+use Rattle.mig_guest.proofs.Common.{◌≡◌, ◌*◌, pfns_of_words, size}
 use Rattle.mig_guest.proofs.pfn_set.scan.count.Given as goal
 
 abbrev pub invariant-loop-index : goal.invariant-loop-index

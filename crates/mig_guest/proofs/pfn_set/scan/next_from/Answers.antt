@@ -1,4 +1,4 @@
-use Rattle.std.proofs.Common.{arith}
+use Rattle.mig_guest.proofs.Common.{arith}
 use Rattle.mig_guest.proofs.Scans.{none_yet}
 use Rattle.mig_guest.proofs.pfn_set.scan.next_from.Goals as goal
 

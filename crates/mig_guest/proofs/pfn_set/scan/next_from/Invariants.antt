@@ -1,4 +1,4 @@
-use Rattle.std.proofs.Common.{◌+◌, ◌*◌, ◌≤◌, ◌<◌}
+use Rattle.mig_guest.proofs.Common.{◌+◌, ◌*◌, ◌≤◌, ◌<◌}
 use Rattle.mig_guest.proofs.Scans.{NoneBetween}
 use Rattle.mig_guest.proofs.pfn_set.scan.next_from.Given as goal
 

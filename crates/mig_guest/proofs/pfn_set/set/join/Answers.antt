@@ -1,4 +1,4 @@
-use Rattle.std.proofs.Common.{arith, rules}
+use Rattle.mig_guest.proofs.Common.{arith, rules}
 use Rattle.mig_guest.proofs.Changed.{both_joined}
 use Rattle.mig_guest.proofs.pfn_set.set.join.Goals as goal
 

@@ -1,4 +1,4 @@
-use Rattle.std.proofs.Common.{◌≡◌, ℕ, ◌<◌, ◌≤◌, get_or, bit_or}
+use Rattle.mig_guest.proofs.Common.{◌≡◌, ℕ, ◌<◌, ◌≤◌, get_or, bit_or}
 use Rattle.mig_guest.proofs.pfn_set.set.join.Given as goal
 
 abbrev pub invariant-loop-index : goal.invariant-loop-index

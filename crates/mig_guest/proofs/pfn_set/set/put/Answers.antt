@@ -1,6 +1,4 @@
-use Rattle.std.proofs.Common.{◌∙◌, sym, ap}
-use Rattle.mig_guest.specs.Pfns.{pfns_of_words}
-use Rattle.mig_guest.specs.Changes.{put_pfn}
+use Rattle.mig_guest.proofs.Common.{◌∙◌, sym, ap, pfns_of_words, put_pfn}
 use Rattle.mig_guest.proofs.Changed.{put_is_with}
 use Rattle.mig_guest.proofs.pfn_set.set.put.Goals as goal
 

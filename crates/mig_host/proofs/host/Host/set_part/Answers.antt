@@ -1,5 +1,4 @@
-use Rattle.mig_host.proofs.Common.{◌≡◌, Result, Ok, Err, sym, subst, IsHostPart, FitsPolicy, HostAndSpare, IsMade}
-use Rattle.std.proofs.Common.{OnOk, OnErr}
+use Rattle.mig_host.proofs.Common.{◌≡◌, Result, Ok, Err, sym, subst, IsHostPart, FitsPolicy, HostAndSpare, IsMade, OnOk, OnErr}
 use Rattle.mig_host.proofs.HostsMade.{made_part}
 use Rattle.std.specs.FinMap as maps
 use Rattle.mig_host.proofs.host.Host.set_part.Goals as goal

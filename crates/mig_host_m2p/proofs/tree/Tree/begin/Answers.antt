@@ -1,5 +1,4 @@
-use Rattle.std.proofs.Common.{rules}
-use Rattle.mig_host_m2p.proofs.Common.{◌≡◌, length, refl, arith, free_cell}
+use Rattle.mig_host_m2p.proofs.Common.{◌≡◌, length, refl, arith, free_cell, rules}
 use Rattle.mig_host_m2p.proofs.Standing.{root_now}
 use Rattle.mig_host_m2p.proofs.tree.Tree.begin.Goals as goal
 

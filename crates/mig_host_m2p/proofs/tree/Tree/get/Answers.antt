@@ -1,5 +1,4 @@
-use Rattle.std.proofs.Common.{rules}
-use Rattle.mig_host_m2p.proofs.Common.{◌≡◌, length, sym, ap, ◌∙◌, arith, Some, Cell}
+use Rattle.mig_host_m2p.proofs.Common.{◌≡◌, length, sym, ap, ◌∙◌, arith, Some, Cell, rules}
 use Rattle.mig_host_m2p.proofs.Standing.{get_empty, get_outside, get_nothing, get_found}
 use Rattle.mig_host_m2p.proofs.tree.Tree.get.Goals as goal
 

@@ -1,5 +1,4 @@
-use Rattle.std.proofs.Common.{rules}
-use Rattle.mig_host_m2p.proofs.Common.{arith}
+use Rattle.mig_host_m2p.proofs.Common.{arith, rules}
 use Rattle.mig_host_m2p.proofs.Standing.{within, lifted_now}
 use Rattle.mig_host_m2p.proofs.tree.Tree.lift.Goals as goal
 

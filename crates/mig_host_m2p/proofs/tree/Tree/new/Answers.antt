@@ -1,4 +1,4 @@
-use Rattle.std.proofs.Common.{rules}
+use Rattle.mig_host_m2p.proofs.Common.{rules}
 use Rattle.mig_host_m2p.proofs.Standing.{new_standing, new_kept}
 use Rattle.mig_host_m2p.proofs.tree.Tree.new.Goals as goal
 

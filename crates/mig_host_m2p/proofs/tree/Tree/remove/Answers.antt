@@ -1,7 +1,5 @@
-use Rattle.std.proofs.Common.{rules}
 use Rattle.std.specs.FinMap as maps
-use Rattle.mig_pagestore_index.proofs.Counted.{nothing_out}
-use Rattle.mig_host_m2p.proofs.Common.{◌≡◌, IsSome, None, ap, ◌∙◌, kept}
+use Rattle.mig_host_m2p.proofs.Common.{◌≡◌, IsSome, None, ap, ◌∙◌, kept, rules, nothing_out}
 use Rattle.mig_host_m2p.proofs.Standing.{found_there, some_begun, some_small, found_some}
 use Rattle.mig_host_m2p.proofs.tree.Tree.remove.Goals as goal
 

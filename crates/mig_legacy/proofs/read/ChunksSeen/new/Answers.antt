@@ -1,7 +1,5 @@
-use Rattle.mig_legacy.proofs.Common.{refl, sym, ap, subst, Hvm, GuestOf, sent, emulators_of, AreEmulators}
+use Rattle.mig_legacy.proofs.Common.{refl, sym, ap, subst, Hvm, GuestOf, sent, emulators_of, AreEmulators, empty_begun, none_yet}
 use Rattle.mig_restore_form.specs.Mean.{IsBegun as IsGuestBegun}
-use Rattle.mig_restore_form.proofs.Growth.{empty_begun}
-use Rattle.mig_libxl_form.proofs.Formed.{none_yet}
 use Rattle.mig_legacy.proofs.read.ChunksSeen.new.Goals as goal
 
 pub returns-clause-seen : goal.returns-clause-seen

@@ -1,6 +1,5 @@
-use Rattle.mig_libxl.proofs.Common.{ap, GuestOf}
+use Rattle.mig_libxl.proofs.Common.{ap, GuestOf, guest_done}
 use Rattle.mig_libxl.proofs.Images.{reading_whole}
-use Rattle.mig_libxl_form.proofs.EmulatorGuests.{guest_done}
 use Rattle.mig_libxl.proofs.image.ReadingKeptImage.finish.Goals as goal
 
 pub returns-clause-stream : goal.returns-clause-stream

@@ -1,5 +1,4 @@
-use Rattle.mig_libxl.proofs.Common.{sym, subst, AreEmulators}
-use Rattle.mig_libxl_form.proofs.Formed.{none_yet}
+use Rattle.mig_libxl.proofs.Common.{sym, subst, AreEmulators, none_yet}
 use Rattle.mig_libxl.proofs.read.WrapperSeen.new.Goals as goal
 
 pub returns-clause-begun : goal.returns-clause-begun

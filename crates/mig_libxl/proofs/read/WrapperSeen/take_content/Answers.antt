@@ -1,5 +1,4 @@
-use Rattle.mig_libxl.proofs.Common.{◌∙◌, placed, judged_so, body_of_type, libxl_content_at, ne_eqb}
-use Rattle.mig_bytes.proofs.Placed.{placed_stops}
+use Rattle.mig_libxl.proofs.Common.{◌∙◌, placed, judged_so, body_of_type, libxl_content_at, ne_eqb, placed_stops}
 use Rattle.mig_headers.specs.declared.fault.Place.TheVariants.{LibxlRecord as AtRecord}
 use Rattle.mig_libxl.proofs.Recorded.{body_is}
 use Rattle.mig_libxl.proofs.read.WrapperSeen.take_content.Goals as goal

@@ -1,7 +1,6 @@
-use Rattle.mig_libxl.proofs.Common.{◌≡◌, ◌≤◌, ◌<◌, length, drop, rules, refl, sym, ap, subst, ◌∙◌, AreBytes, Context, emulator_key, Truncated, le32, said_read, said_refused, most_body}
+use Rattle.mig_libxl.proofs.Common.{◌≡◌, ◌≤◌, ◌<◌, length, drop, rules, refl, sym, ap, subst, ◌∙◌, AreBytes, Context, emulator_key, Truncated, le32, said_read, said_refused, most_body, fine_context}
 use Rattle.mig_libxl_form.specs.Judging.{fault_of_context}
 use Rattle.mig_libxl.proofs.Begun.{context_begun}
-use Rattle.mig_libxl_form.proofs.Bodies.{fine_context}
 use Rattle.mig_libxl.proofs.Taking.{are_read, read_in, context_bad_id, context_bad_index, context_put, takes_of, behind_front}
 use Rattle.mig_libxl.proofs.read.WrapperSeen.take_context.Goals as goal
 

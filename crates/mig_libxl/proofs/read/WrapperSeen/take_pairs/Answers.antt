@@ -1,6 +1,5 @@
-use Rattle.mig_libxl.proofs.Common.{◌≡◌, ◌<◌, drop, rules, refl, sym, subst, ◌∙◌, All-drop, AreBytes, Pairs, emulator_key, Truncated, pairs_in, said_read, said_refused}
+use Rattle.mig_libxl.proofs.Common.{◌≡◌, ◌<◌, drop, rules, refl, sym, subst, ◌∙◌, All-drop, AreBytes, Pairs, emulator_key, Truncated, pairs_in, said_read, said_refused, store_small}
 use Rattle.mig_libxl_form.specs.Judging.{fault_of_pairs}
-use Rattle.mig_libxl_form.proofs.Formed.{store_small}
 use Rattle.mig_libxl.proofs.Begun.{pairs_begun}
 use Rattle.mig_libxl.proofs.Taking.{are_read, read_in, pairs_bad, pairs_bad_id, pairs_too_many, pairs_bad_index, pairs_fine, pairs_put, takes_of, behind_front}
 use Rattle.mig_libxl.proofs.read.WrapperSeen.take_pairs.Goals as goal

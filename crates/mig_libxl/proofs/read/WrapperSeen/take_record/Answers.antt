@@ -1,6 +1,4 @@
-use Rattle.mig_libxl.proofs.Common.{length, rules, refl, ap, ◌∙◌, padding_len, ◌>>=◌, part, placed, Passes, judged_so, mapped, stopped, Truncated, libxl_head_at, libxl_content_at, stop_at, placed_then, placed_ends, libxl_record_at, behind_content, behind_head}
-use Rattle.mig_bytes.proofs.Joins.{then_reads}
-use Rattle.mig_bytes.proofs.Placed.{placed_fine}
+use Rattle.mig_libxl.proofs.Common.{length, rules, refl, ap, ◌∙◌, padding_len, ◌>>=◌, part, placed, Passes, judged_so, mapped, stopped, Truncated, libxl_head_at, libxl_content_at, stop_at, placed_then, placed_ends, libxl_record_at, behind_content, behind_head, then_reads, placed_fine}
 use Rattle.mig_headers.specs.declared.fault.Place.TheVariants.{LibxlRecord as AtRecord}
 use Rattle.mig_libxl.proofs.Recorded.{begins, goes_behind, padded, seen_more}
 use Rattle.mig_libxl.proofs.read.WrapperSeen.take_record.Goals as goal

@@ -1,9 +1,6 @@
-use Rattle.mig_libxl_form.proofs.Common.{◌≡◌, ◌<◌, ◌≤◌, length, Some, None, List, [], ℕ, sym, ap, subst, ◌∙◌, arith, is_some, nat_eq, false, cond, Result, Ok, Err, common_steps, eqb-true, pairs_fault, PairMap, put_pairs, text_of_map, some_bytes_are_some_pairs, part_cmp, PartKey, add_pairs, store_at, nil_from_length, is_at, on_err_weaker, pairs_in, stores_seen, most_pairs}
-use Rattle.std.specs.Prelude.{OnOk, IsErrAnd, IsErrOf}
+use Rattle.mig_libxl_form.proofs.Common.{◌≡◌, ◌<◌, ◌≤◌, length, Some, None, List, [], ℕ, sym, ap, subst, ◌∙◌, arith, is_some, nat_eq, false, cond, Result, Ok, Err, common_steps, eqb-true, pairs_fault, PairMap, put_pairs, text_of_map, some_bytes_are_some_pairs, part_cmp, PartKey, add_pairs, store_at, nil_from_length, is_at, on_err_weaker, pairs_in, stores_seen, most_pairs, OnOk, IsErrAnd, IsErrOf, option_copied_mut, on_ok_weaker}
 use Rattle.std.specs.declared.alloc.Global.{Global}
 use Rattle.std.specs.declared.collections.btree_map.BTreeMap.{BTreeMap}
-use Rattle.std.specs.Option.{option_copied_mut}
-use Rattle.std.proofs.lemmas.Result.{on_ok_weaker}
 use Rattle.mig_policy.proofs.PairTrees.{empty_len}
 use Rattle.mig_policy.specs.declared.pair_map.PairsAnswer.TheVariants.{TooMany}
 use Rattle.mig_libxl_form.proofs.Begun.{after_error, none_added, store_begun}

@@ -1,5 +1,4 @@
-use Rattle.mig_libxl_form.proofs.Common.{ap, subst, Some, EmulatorsOf, PartMap}
-use Rattle.mig_guest.specs.Parts.{NextBehind}
+use Rattle.mig_libxl_form.proofs.Common.{ap, subst, Some, EmulatorsOf, PartMap, NextBehind}
 use Rattle.mig_libxl_form.proofs.Begun.{one_more, still_leads}
 use Rattle.std.specs.FinMap as maps
 use Rattle.mig_libxl_form.proofs.emulators.Emulators.put_contexts.Goals as goal

@@ -1,5 +1,4 @@
-use Rattle.mig_libxl_form.proofs.Common.{◌≡◌, length, put_parts, ArePartsBefore}
-use Rattle.mig_guest.specs.Parts.{parts_behind}
+use Rattle.mig_libxl_form.proofs.Common.{◌≡◌, length, put_parts, ArePartsBefore, parts_behind}
 use Rattle.std.specs.FinMap as maps
 use Rattle.mig_libxl_form.proofs.emulators.Emulators.put_contexts.Given as goal
 

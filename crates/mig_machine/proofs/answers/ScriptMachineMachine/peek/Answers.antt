@@ -1,5 +1,4 @@
-use Rattle.mig_machine.proofs.Common.{◌≡◌, refl, ap, subst, sym, ◌∙◌, MachineSeen, HistoryNoted, history_of, history_told, machine_seen, noted_in, RunsOn}
-use Rattle.mig_guest.specs.History.{after_peek, and_read}
+use Rattle.mig_machine.proofs.Common.{◌≡◌, refl, ap, subst, sym, ◌∙◌, MachineSeen, HistoryNoted, history_of, history_told, machine_seen, noted_in, RunsOn, after_peek, and_read}
 use Rattle.mig_machine.proofs.Exactly.{later_by_call}
 use Rattle.mig_machine.proofs.answers.ScriptMachineMachine.peek.Goals as goal
 

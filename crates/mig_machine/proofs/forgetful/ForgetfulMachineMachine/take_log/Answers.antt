@@ -1,5 +1,4 @@
-use Rattle.mig_machine.proofs.Common.{List, ℕ, ap, subst, ◌∙◌, machine_state, LogTaken, pfns_of_words, forgetting, without_pfns, rules}
-use Rattle.mig_machine.specs.Forgetful.{ForgetfulSeen, forgetful_state, TakesMore}
+use Rattle.mig_machine.proofs.Common.{List, ℕ, ap, subst, ◌∙◌, machine_state, LogTaken, pfns_of_words, forgetting, without_pfns, rules, ForgetfulSeen, forgetful_state, TakesMore}
 use Rattle.mig_machine.proofs.Forgetting.{forgetting_took}
 use Rattle.mig_machine.proofs.forgetful.ForgetfulMachineMachine.take_log.Goals as goal
 

@@ -1,5 +1,4 @@
-use Rattle.mig_machine.proofs.Common.{rules, subst, ◌≡◌, ◌≤◌, ◌+◌, ◌/◌, length, refl, sym, ap, ◌∙◌, HostOf, most_saved_width, Pfns}
-use Rattle.mig_machine_script.specs.HostLines.{room_for}
+use Rattle.mig_machine.proofs.Common.{rules, subst, ◌≡◌, ◌≤◌, ◌+◌, ◌/◌, length, refl, sym, ap, ◌∙◌, HostOf, most_saved_width, Pfns, room_for}
 use Rattle.mig_machine.proofs.machine.ScriptMachine.new.Goals as goal
 
 pub invariant_of-result : goal.invariant_of-result

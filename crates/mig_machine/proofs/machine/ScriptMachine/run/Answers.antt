@@ -1,7 +1,4 @@
-use Rattle.mig_machine.proofs.Common.{rules, arith, ◌≡◌, ◌≤◌, ◌-◌, ◌^◌, false, is_some, length, drop, refl, sym, ap, subst, ◌∙◌, ◌+◌, ◌/◌, most_saved_width, Ran, pfns_of_words, after, logged_after, MachineSeen, log_of, machine_state, course_of, RunsOn, machine_seen}
-use Rattle.mig_machine_script.specs.Groups.{first_group, first_length}
-use Rattle.mig_machine_script.proofs.CoursesRun.{IsNextCount, next_place, later_now, logged_next, group_ran}
-use Rattle.mig_machine_script.proofs.LinesLogged.{regular}
+use Rattle.mig_machine.proofs.Common.{rules, arith, ◌≡◌, ◌≤◌, ◌-◌, ◌^◌, false, is_some, length, drop, refl, sym, ap, subst, ◌∙◌, ◌+◌, ◌/◌, most_saved_width, Ran, pfns_of_words, after, logged_after, MachineSeen, log_of, machine_state, course_of, RunsOn, machine_seen, first_group, first_length, IsNextCount, next_place, later_now, logged_next, group_ran, regular}
 use Rattle.mig_machine.proofs.MachinesRun.{ran_lines}
 use Rattle.mig_machine.proofs.Exactly.{runs_group}
 use Rattle.mig_machine.proofs.machine.ScriptMachine.run.Goals as goal

@@ -1,5 +1,4 @@
-use Rattle.mig_pagestore.proofs.Common.{◌<◌, ◌-◌, [], take, drop, refl, subst, arith, Framed}
-use Rattle.mig_pagestore.specs.Frames.{IsRun}
+use Rattle.mig_pagestore.proofs.Common.{◌<◌, ◌-◌, [], take, drop, refl, subst, arith, Framed, IsRun}
 use Rattle.mig_pagestore.proofs.Led.{place_in_range}
 use Rattle.mig_pagestore.proofs.Runs.{run_length, run_seen, run_fits}
 use Rattle.mig_pagestore.proofs.frame_store.FrameStore.page_run.Goals as goal

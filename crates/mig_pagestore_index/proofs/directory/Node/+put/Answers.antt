@@ -1,5 +1,4 @@
-use Rattle.mig_pagestore_index.proofs.Common.{arith, subst}
-use Rattle.mig_pagestore_index.specs.Directories.{IsSearched}
+use Rattle.mig_pagestore_index.proofs.Common.{arith, subst, IsSearched}
 use Rattle.mig_pagestore_index.proofs.Directories.{fork_within}
 use Rattle.mig_pagestore_index.proofs.directory.Node.+put.Goals as goal
 

@@ -1,5 +1,4 @@
-use Rattle.mig_pagestore_index.proofs.Common.{◌≡◌}
-use Rattle.mig_pagestore_index.specs.Directories.{leaf_at}
+use Rattle.mig_pagestore_index.proofs.Common.{◌≡◌, leaf_at}
 use Rattle.mig_pagestore_index.proofs.directory.Node.get.Given as goal
 
 abbrev pub invariant-loop-at : goal.invariant-loop-at

@@ -1,5 +1,4 @@
-use Rattle.mig_pagestore_index.proofs.Common.{◌≡◌, arith, leaf}
-use Rattle.mig_pagestore_index.specs.Directories.{lead}
+use Rattle.mig_pagestore_index.proofs.Common.{◌≡◌, arith, leaf, lead}
 use Rattle.mig_pagestore_index.proofs.Fans.{leaf_same}
 use Rattle.mig_pagestore_index.proofs.tree.Tree.leaf_for.Goals as goal
 

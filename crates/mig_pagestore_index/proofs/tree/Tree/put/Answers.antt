@@ -1,6 +1,5 @@
-use Rattle.mig_pagestore_index.proofs.Common.{◌+◌, ◌-◌, ◌*◌, ◌/◌, ◌%◌, ◌<◌, List, ℕ, length, set, ap, ◌∙◌, arith, length-set, under, leaf}
+use Rattle.mig_pagestore_index.proofs.Common.{◌+◌, ◌-◌, ◌*◌, ◌/◌, ◌%◌, ◌<◌, List, ℕ, length, set, ap, ◌∙◌, arith, length-set, under, leaf, Tree}
 use Rattle.mig_pagestore_index.proofs.Fans.{none_under, way_to, written}
-use Rattle.mig_pagestore_index.specs.declared.tree.Tree.{Tree}
 use Rattle.mig_pagestore_index.proofs.tree.Tree.put.Goals as goal
 
 pub leaf_for-node-requires-clause-room : goal.leaf_for-node-requires-clause-room

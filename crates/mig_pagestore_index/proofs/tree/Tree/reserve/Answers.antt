@@ -1,5 +1,4 @@
-use Rattle.mig_pagestore_index.proofs.Common.{◌/◌, ◌%◌, ap, ◌∙◌}
-use Rattle.mig_pagestore_index.specs.Directories.{lead}
+use Rattle.mig_pagestore_index.proofs.Common.{◌/◌, ◌%◌, ap, ◌∙◌, lead}
 use Rattle.mig_pagestore_index.specs.Leaves.{step}
 use Rattle.mig_pagestore_index.proofs.Directories.{lead_same}
 use Rattle.mig_pagestore_index.proofs.Fans.{same_step}

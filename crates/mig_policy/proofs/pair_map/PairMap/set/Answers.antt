@@ -1,5 +1,4 @@
-use Rattle.mig_policy.proofs.Common.{◌≡◌, ◌+◌, length, sym, ap, ◌∙◌, arith, PairMap, pairs_seen, text_of_map}
-use Rattle.std.proofs.Common.{is_some}
+use Rattle.mig_policy.proofs.Common.{◌≡◌, ◌+◌, length, sym, ap, ◌∙◌, arith, PairMap, pairs_seen, text_of_map, is_some}
 use Rattle.mig_policy.proofs.PairTrees.{insert_order, insert_seen, set_new, set_old}
 use Rattle.std.specs.FinMap as maps
 use Rattle.mig_policy.proofs.pair_map.PairMap.set.Goals as goal

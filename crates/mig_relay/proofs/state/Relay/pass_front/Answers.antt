@@ -1,5 +1,4 @@
-use Rattle.mig_relay.proofs.Common.{arith, refl, sym, subst, [], ap, ◌∙◌, Record, fault_of_count, ComesNext, AtFront, AtWords, InImage, spot, answer_of, Refused, Relay}
-use Rattle.mig_relay.specs.Following.{count}
+use Rattle.mig_relay.proofs.Common.{arith, refl, sym, subst, [], ap, ◌∙◌, Record, fault_of_count, ComesNext, AtFront, AtWords, InImage, spot, answer_of, Refused, Relay, count}
 use Rattle.mig_relay.proofs.Moves.{not_taken, not_allowed, not_written, went}
 use Rattle.mig_relay.proofs.Kept.{this_number}
 use Rattle.mig_relay.proofs.Paging.{IsKept, front_is, in_count, outer_stays, records_stay}

@@ -1,6 +1,5 @@
-use Rattle.mig_relay.proofs.Common.{arith, refl, sym, ap, [], le32, fault_of_domain, kind_of_number, opening_of, AtHead, InImage, carry, spot}
+use Rattle.mig_relay.proofs.Common.{arith, refl, sym, ap, [], le32, fault_of_domain, kind_of_number, opening_of, AtHead, InImage, carry, spot, kind}
 use Rattle.mig_headers.specs.declared.header.DomainHeader.{DomainHeader}
-use Rattle.mig_relay.specs.Following.{kind}
 use Rattle.mig_relay.proofs.Openings.{no_records}
 use Rattle.mig_relay.proofs.Kept.{outer_same}
 use Rattle.mig_relay.proofs.Unrolls.{kind_is}

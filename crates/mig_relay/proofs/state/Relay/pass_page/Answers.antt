@@ -1,5 +1,4 @@
-use Rattle.mig_relay.proofs.Common.{◌≡◌, ◌≤◌, ◌+◌, ◌^◌, ◌∷◌, ◌++◌, Some, length, length-append, arith, refl, sym, [], ap, ◌∙◌, Record, before, type_in_word, type_in_guest, AtPages, entry_of_word, InImage, spot, answer_of, Refused, Relay}
-use Rattle.std.proofs.lemmas.List.{get_or_read}
+use Rattle.mig_relay.proofs.Common.{◌≡◌, ◌≤◌, ◌+◌, ◌^◌, ◌∷◌, ◌++◌, Some, length, length-append, arith, refl, sym, [], ap, ◌∙◌, Record, before, type_in_word, type_in_guest, AtPages, entry_of_word, InImage, spot, answer_of, Refused, Relay, get_or_read}
 use Rattle.mig_relay.proofs.Moves.{not_taken, not_allowed, not_written, went}
 use Rattle.mig_relay.proofs.Kept.{this_number}
 use Rattle.mig_relay.proofs.Paging.{IsKept, next_word, others, page_is, outer_stays, records_stay, turned, turning_keeps, same_page_fault, page_left}

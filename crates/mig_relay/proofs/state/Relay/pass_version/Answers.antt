@@ -1,6 +1,5 @@
-use Rattle.mig_relay.proofs.Common.{arith, refl, sym, ap, [], be32, fault_of_image, AtKind, InImage, carry, spot}
+use Rattle.mig_relay.proofs.Common.{arith, refl, sym, ap, [], be32, fault_of_image, AtKind, InImage, carry, spot, version}
 use Rattle.mig_headers.specs.declared.header.ImageHeader.{ImageHeader}
-use Rattle.mig_relay.specs.Following.{version}
 use Rattle.mig_relay.proofs.Kept.{outer_same}
 use Rattle.mig_relay.proofs.Unrolls.{version_is}
 use Rattle.mig_relay.proofs.SpotParts.{lifted}

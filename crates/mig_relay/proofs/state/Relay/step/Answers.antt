@@ -1,6 +1,5 @@
-use Rattle.mig_relay.proofs.Common.{rules, refl, ap, Ok, ◌≡◌}
+use Rattle.mig_relay.proofs.Common.{rules, refl, ap, Ok, ◌≡◌, Done}
 use Rattle.mig_relay.specs.Standing.{goes_on}
-use Rattle.mig_relay.specs.declared.answer.Step.TheVariants.{Done}
 use Rattle.mig_relay.proofs.Steps.{says_of, says_over, over_there, stands_behind}
 use Rattle.mig_relay.specs.declared.state.Coming.TheVariants as comes
 use Rattle.mig_relay.proofs.state.Relay.step.Goals as goal

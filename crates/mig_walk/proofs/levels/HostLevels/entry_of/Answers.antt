@@ -1,5 +1,4 @@
-use Rattle.mig_walk.proofs.Common.{◌≡◌, Option, Some, IfSome, subst, ◌∙◌, option_and_then, level_of, PageType}
-use Rattle.std.proofs.Common.{IfNone}
+use Rattle.mig_walk.proofs.Common.{◌≡◌, Option, Some, IfSome, subst, ◌∙◌, option_and_then, level_of, PageType, IfNone}
 use Rattle.mig_walk.proofs.HostFrames.{bare, bare_type, bare_page, entry_said}
 use Rattle.mig_walk.proofs.levels.HostLevels.entry_of.Goals as goal
 
