@@ -9,15 +9,12 @@ ghost use Rattle.mig_restore_form.specs.Spelled.{IsGoodWord};
 
 use mig_bytes::{Source, Stop};
 use mig_guest::Guest;
-use mig_headers::{Cause, Kind};
+use mig_headers::{Cause, Kind, PAGE_DATA};
 use mig_pagetypes::PageType;
 use mig_records::RecordHead;
 use mig_restore::{skip_body, take_entry, take_list, take_placed};
 use mig_restore_form::{pfn_in, type_in, type_in_guest};
 use std::alloc::Global;
-
-/// The type of the records that carry frames.
-const PAGE_DATA: u32 = 1;
 
 /// How many bytes a page has.
 const PAGE: u32 = 4096;

@@ -8,18 +8,12 @@ use crate::body::outline_body;
 use crate::whole::outline_fault;
 use mig_bytes::{Source, Stop, answer_for};
 use mig_guest::Guest;
-use mig_headers::{Cause, Kind, Place};
+use mig_headers::{Cause, END, Kind, Place, VERIFY};
 use mig_pvtables::WholeAnswer;
 use mig_records::take_padding;
 use mig_restore::{StreamAnswer, read_head, read_headers, read_opening};
 use mig_restore_form::RecordsSeen;
 use std::alloc::Global;
-
-/// The type of the record that ends an image.
-const END: u32 = 0;
-
-/// The type of the record behind which frames are compared.
-const VERIFY: u32 = 0xD;
 
 /// What an accepted image comes to.
 #[derive(Clone, Copy, Debug, PartialEq, Eq)]
