@@ -1,9 +1,8 @@
 -- Names that many proofs of this crate use.
-pub use Rattle.std.proofs.Common.{List, None, Option, Some, arith, refl, subst, sym, ℕ, ◌≡◌}
+pub use Rattle.std.proofs.Common.{List, Some, arith, refl, subst, sym, ℕ, ◌≡◌}
 pub use Rattle.std.specs.Prelude.{◌⊎◌}
-pub use Rattle.mig_tool_report.specs.Statuses.{InputRises, StatusSays}
 pub use Rattle.mig_tool_report.specs.declared.command.Command.{Command}
 pub use Rattle.mig_tool_report.specs.declared.command.Command.TheVariants.{Convert, Exercise, Normalise, Restore, Save, Verify, Walk, WalkImage, Relay, Show}
 pub use Rattle.mig_tool_report.specs.declared.outcome.Refusal.{Refusal}
-pub use Rattle.mig_tool_guest.specs.Refusals.{HasOpenRefusal, HasStreamRefusal, HasWalkImageRefusal, HasWalkRefusal}
-pub use Rattle.mig_tool_report.specs.Promises.{CarriedOut, Effects, IsOfInput, KeepsPromise, Promise, effects, input_effect, sink_effect}
+pub use Rattle.mig_tool_guest.specs.Refusals.{HasLegacyRefusal, HasOpenRefusal, HasStreamRefusal, HasWalkImageRefusal, HasWalkRefusal}
+pub use Rattle.mig_tool_report.specs.Promises.{CarriedOut, Effects, IsOfInput, effects, input_effect, sink_effect}

@@ -14,35 +14,16 @@ mod run;
 
 use crate::run::run;
 use mig_bytes::{InSource, OutSink};
-use mig_tool_report::{Outcome, Status, put_line};
+use mig_tool_report::{INPUT_BUFFER, Outcome, Status, put_line, words_of};
 pub use mig_tool_save::{Exercised, exercise};
 use std::alloc::Global;
-use std::io::{BufReader, ErrorKind};
+use std::env;
+use std::io::BufReader;
 use std::process::ExitCode;
-use std::{env, io};
-
-/// How much of standard input is read at once.
-const INPUT_BUFFER: usize = 131072;
 
 /// A block of this size, let go at once, makes the C library's allocator give blocks of up to this size out of one heap:
 /// slabs of pages then lie one behind another, and none is rounded up to whole pages of its own.
 const HEAP_BLOCK: usize = 16 << 20;
-
-/// The words behind the program's name; None where there is no memory. Words that aren't UTF-8 name no command, as no
-/// words do.
-fn words_of(alloc: Global, args: io::Result<env::Args>) -> Option<Vec<String>> {
-    let mut words = Vec::new(alloc);
-    match args {
-        Ok(args) => {
-            for word in args.skip(1) {
-                words.push(word).ok()?;
-            }
-            Some(words)
-        }
-        Err(error) if error.kind() == ErrorKind::OutOfMemory => None,
-        Err(_) => Some(words),
-    }
-}
 
 fn main(rt: HostRuntime) -> ExitCode {
     let alloc = rt.alloc();

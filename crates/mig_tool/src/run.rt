@@ -1,4 +1,5 @@
 ghost use Rattle.mig_tool_report.specs.Promises.{KeepsPromise, TellsUsage, effects, input_effect, sink_effect};
+ghost use Rattle.mig_tool_report.specs.Report.{usage_line};
 ghost use Rattle.mig_tool_report.specs.Words.{texts_of, Names};
 ghost use Rattle.mig_tool_report.specs.declared.command.Command.{Command};
 ghost use Rattle.mig_tool.specs.Promises.{promise_of};
@@ -33,7 +34,7 @@ pub fn run<S: Source, K: Sink, R: Sink>(
 ) -> Status
     // Words that name no command are told the usage: nothing is read or written.
     ensures usage { ((command : Command) → Names (texts_of words.now) command → ⊥)
-        → TellsUsage (effects (input_effect S.left S.faults input.old input.new) (sink_effect K.written K.faults out.old out.new) (sink_effect R.written R.faults report.old report.new)) result }
+        → TellsUsage usage_line (effects (input_effect S.left S.faults input.old input.new) (sink_effect K.written K.faults out.old out.new) (sink_effect R.written R.faults report.old report.new)) result }
 
     // Of words that name a command the promise of the command is kept.
     ensures kept { (command : Command) → Names (texts_of words.now) command

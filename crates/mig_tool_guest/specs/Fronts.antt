@@ -6,7 +6,9 @@ use Rattle.mig_host.specs.Hosted.{hosted}
 use Rattle.mig_image.specs.declared.version.GuestImageVersion.TheVariants.{Two}
 use Rattle.mig_image.specs.GuestImage.{guest_image}
 use Rattle.mig_libxl_form.specs.Carried.{IsCarried}
+use Rattle.mig_legacy.specs.Spelled.{AcceptedLegacy}
 use Rattle.mig_restore_form.specs.Mean.{differs_of}
+use Rattle.mig_tool_report.specs.Report.{checked_legacy_line, checked_line, uncompared}
 use Rattle.mig_tool_report.specs.declared.outcome.Summary.{Summary}
 
 -- that a front of an input is accepted with this guest, and what follows it
@@ -57,10 +59,25 @@ abbrev pub summary_of : {input : List ℕ} {guest : GuestOf} {rest : List ℕ} �
 summary_of {input} {guest} {rest} a =
     record { version = a.image.opening.version; kind = a.image.opening.kind; frames = length (maps.entries guest.frames); records = length a.image.records; differs = differs_of a.image.opening.kind a.image.records }
 
--- a front of the input is an accepted stream, the rest is left, and the line of it was reported
-pub record Verified (Reported : List ℕ → Type 0) (input : List ℕ) (left : Option (List ℕ)) : Type 0 where
+-- a front of the input is an accepted stream, the rest is left, and a line of what is said of it was reported
+pub record StreamReported (line_of : Summary → List ℕ) (Reported : List ℕ → Type 0) (input : List ℕ) (left : Option (List ℕ)) : Type 0 where
   pub guest : GuestOf
   pub rest : List ℕ
   pub accepted : AcceptedStream input guest rest
   pub left_is : left ≡ Some rest
-  pub reported : Reported (ok_line (summary_of accepted))
+  pub reported : Reported (line_of (summary_of accepted))
+
+abbrev pub Verified : (Reported : List ℕ → Type 0) → List ℕ → (left : Option (List ℕ)) → Type 0
+Verified = StreamReported ok_line
+
+-- the same line, but that nothing was compared behind a VERIFY
+abbrev pub Checked : (Reported : List ℕ → Type 0) → List ℕ → (left : Option (List ℕ)) → Type 0
+Checked = StreamReported (λ s. checked_line (uncompared s))
+
+-- a front of the input is an accepted legacy stream, the rest is left, and the number of its guest's frames was reported
+pub record LegacyChecked (Reported : List ℕ → Type 0) (input : List ℕ) (left : Option (List ℕ)) : Type 0 where
+  pub guest : GuestOf
+  pub rest : List ℕ
+  pub accepted : AcceptedLegacy input guest rest
+  pub left_is : left ≡ Some rest
+  pub reported : Reported (checked_legacy_line (maps.len guest.frames))

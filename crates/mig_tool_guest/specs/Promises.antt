@@ -2,9 +2,10 @@
 use Rattle.std.specs.Prelude.{◌≡◌, ◌⊎◌, ℕ, List, ⊤, Some}
 use Rattle.mig_tool_guest.specs.Common.{Appends, AppendsPart, Rose, GuestOf, canon_any, AcceptedStream, PassedPart, IsDoneOrStarved, Promise, reports_line, writes_text, ok_line, relayed_line, walked_line, EndsWithOwnLine, PutsLineOrFault}
 use Rattle.mig_legacy.specs.Spelled.{AcceptedLegacy}
+use Rattle.mig_tool_report.specs.Report.{checked_legacy_line, checked_line}
 use Rattle.mig_tool_report.specs.declared.status.Status.TheVariants as statuses
 use Rattle.mig_tool_guest.specs.Addresses.{AddressReported, FrameInHost, FrameInStream, HostHasFrame, StreamHasFrame}
-use Rattle.mig_tool_guest.specs.Fronts.{Accepting, Normalised, PartWritten, Restored, Verified, restored_text}
+use Rattle.mig_tool_guest.specs.Fronts.{Accepting, Checked, LegacyChecked, Normalised, PartWritten, Restored, Verified, restored_text}
 use Rattle.mig_tool_guest.specs.Refusals.{HasLegacyRefusal, HasOpenRefusal, HasStreamRefusal, HasWalkImageRefusal, HasWalkRefusal}
 use Rattle.mig_tool_guest.specs.Relays.{FrontRelayed, PassableFront, Relays}
 use Rattle.mig_tool_guest.specs.Shown.{FrontShown, IsShown, PartShown}
@@ -35,6 +36,14 @@ restore_promise base = writes_text (HasFront AcceptedStream) HasStreamRefusal (R
 -- `verify` takes an accepted stream, and reports what it is
 abbrev pub verify_promise : Promise
 verify_promise = reports_line ok_line (HasFront AcceptedStream) HasStreamRefusal Verified
+
+-- `mig_check` takes an accepted stream, and reports what it is, but that it compares nothing
+abbrev pub check_promise : Promise
+check_promise = reports_line checked_line (HasFront AcceptedStream) HasStreamRefusal Checked
+
+-- `mig_check legacy` takes an accepted legacy stream, and reports how many frames its guest has
+abbrev pub check_legacy_promise : Promise
+check_legacy_promise = reports_line checked_legacy_line (HasFront AcceptedLegacy) HasLegacyRefusal LegacyChecked
 
 -- `walk` takes an accepted stream in whose guest the address means a frame to the vCPU, and reports which
 abbrev pub walk_promise : ℕ → ℕ → Promise

@@ -29,7 +29,7 @@ pub(crate) fn unread(answer: StreamAnswer) -> Outcome
 }
 
 /// The outcome where no legacy stream is read.
-fn unconverted(answer: LegacyAnswer) -> Outcome
+pub(crate) fn unconverted(answer: LegacyAnswer) -> Outcome
     ensures { result ≡ outcome_of refusals.Legacy answer }
 {
     match answer {

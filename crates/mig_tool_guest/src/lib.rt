@@ -1,5 +1,5 @@
 //! The commands that save nothing live: `normalise`, `convert`, `restore`, `verify`, `walk`, `walkimage`, `relay` and
-//! `show`.
+//! `show`; and what `mig_check` does, which judges and keeps no page that no judgement needs.
 //!
 //! Responsible for: each of them as one function that answers the status, writes of its input what is its own and puts its
 //! line on the report, and what a status says of each. Left to others: which command the words name, and the lines
@@ -14,11 +14,13 @@
 #![tactic(auto)]
 
 mod addresses;
+mod checks;
 mod commands;
 mod passing;
 mod shown;
 
 pub use addresses::{walk, walk_image};
+pub use checks::{check, check_legacy};
 pub use commands::{convert, normalise, restore, verify};
 pub use passing::relay;
 pub use shown::show;

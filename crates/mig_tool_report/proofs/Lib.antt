@@ -3,3 +3,4 @@ pub mod Reports
 pub mod Naming
 pub mod Statuses
 pub mod Promises
+pub mod Settled

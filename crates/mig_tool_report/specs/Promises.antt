@@ -8,7 +8,7 @@ use Rattle.mig_tool_report.specs.declared.outcome.Refusal.TheVariants as refusal
 use Rattle.mig_tool_report.specs.declared.status.Status.{Status}
 use Rattle.mig_tool_report.specs.declared.status.Status.TheVariants as statuses
 use Rattle.mig_tool_report.specs.Outcome.{status_of}
-use Rattle.mig_tool_report.specs.Report.{Reports, usage_line}
+use Rattle.mig_tool_report.specs.Report.{Reports}
 use Rattle.mig_tool_report.specs.Statuses.{EndsWithOwnLine, InputRises, NoneFailed, OutcomeSays, OutputRises, PutsLineOf, Refusing, ReportsStatus, StatusSays}
 
 -- ---- effects: what a call found and left
@@ -150,12 +150,12 @@ pub record KeepsPromise (p : Promise) (e : Effects) (status : Status) : Type 0 w
   pub refused : (input : List ℕ) (refusal : Refusal) (rest : List ℕ) → e.input.told ≡ Some input → p.Refuses input refusal rest → IsOfInput refusal
       → (Rose e.input.failed e.input.failed_now → ⊥) → (p.WritesRefused → Rose e.out.failed e.out.failed_now → ⊥) → (status ≡ statuses.Refused) ⊎ (status ≡ statuses.Memory)
 
--- words that name no command: nothing is read or written, and the report got the line that tells the usage
-pub record TellsUsage (e : Effects) (status : Status) : Type 0 where
+-- words that name nothing: nothing is read or written, and the report got the line that tells the usage
+pub record TellsUsage (line : List ℕ) (e : Effects) (status : Status) : Type 0 where
   pub status_is : status ≡ statuses.Usage
   pub unread : e.input.Unread
   pub untouched : e.out.Untouched
   pub read : e.input.failed_now ≡ e.input.failed
   pub out_faults : e.out.failed_now ≡ e.out.failed
   pub report_faults : NoneFailed status e.report.failed e.report.failed_now
-  pub usage_line : Reports usage_line e.report.old e.report.new e.report.failed e.report.failed_now
+  pub usage_line : Reports line e.report.old e.report.new e.report.failed e.report.failed_now

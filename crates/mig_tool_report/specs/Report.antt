@@ -1,5 +1,5 @@
 -- The lines that the program puts on its report.
-use Rattle.std.specs.Prelude.{◌≡◌, ◌≤◌, ◌⊎◌, ℕ, List, [], ◌++◌, codes, decimal, Option, Some, None}
+use Rattle.std.specs.Prelude.{◌≡◌, ◌≤◌, ◌⊎◌, ℕ, List, [], ◌++◌, codes, decimal, Bool, true, false, Option, Some, None, is_some}
 use Rattle.mig_tool_report.specs.Common.{Appends, AppendsPart, Rose}
 use Rattle.mig_headers.specs.declared.kind.Kind.{Kind}
 use Rattle.mig_headers.specs.declared.kind.Kind.TheVariants.{Pv, Hvm}
@@ -7,6 +7,7 @@ use Rattle.mig_headers_text.specs.ImageTexts.{text_of_image_place, text_of_image
 use Rattle.mig_headers_text.specs.LegacyTexts.{text_of_legacy_place, text_of_legacy_cause}
 use Rattle.mig_headers_text.specs.Texts.{text_of_place, text_of_cause}
 use Rattle.mig_headers_text.specs.UnsoundTexts.{text_of_unsound}
+use Rattle.mig_tool_report.specs.declared.outcome.CheckSummary.{CheckSummary}
 use Rattle.mig_tool_report.specs.declared.outcome.ExerciseSummary.{ExerciseSummary}
 use Rattle.mig_tool_report.specs.declared.outcome.Refusal.{Refusal}
 use Rattle.mig_tool_report.specs.declared.outcome.Refusal.TheVariants.{Stream, Legacy, Image, BadLine, TooLong, Pause, Host, Walk}
@@ -52,6 +53,10 @@ refusal_line refusal = codes "refused: " ++ (refusal_place refusal ++ (codes ": 
 abbrev pub usage_line : List ℕ
 usage_line = codes "usage: restore [BASE] | verify | normalise | convert | save | exercise SEED FRAMES | walk VCPU ADDRESS | walkimage VCPU ADDRESS | relay | show\n"
 
+-- of the program that checks
+abbrev pub check_usage_line : List ℕ
+check_usage_line = codes "usage: mig_check [legacy]\n"
+
 abbrev pub read_fault_line : List ℕ
 read_fault_line = codes "fault: read\n"
 
@@ -70,11 +75,31 @@ abbrev pub differs_text : Option ℕ → List ℕ
 differs_text None = []
 differs_text (Some n) = codes " differs " ++ decimal n
 
--- `ok version V kind K frames N records R`, and ` differs D` where the stream has a VERIFY
+-- `ok version V kind K frames N records R` of an accepted stream
+abbrev pub stream_text : ℕ → Kind → ℕ → ℕ → List ℕ
+stream_text version kind frames records =
+    (codes "ok version " ++ decimal version) ++ (codes " kind " ++ (kind_name kind ++ ((codes " frames " ++ decimal frames) ++ (codes " records " ++ decimal records))))
+
+-- that text, and ` differs D` where the stream has a VERIFY
 abbrev pub ok_line : Summary → List ℕ
-ok_line s =
-    (codes "ok version " ++ decimal s.version) ++ (codes " kind " ++ (kind_name s.kind
-    ++ ((codes " frames " ++ decimal s.frames) ++ ((codes " records " ++ decimal s.records) ++ (differs_text s.differs ++ codes "\n")))))
+ok_line s = stream_text s.version s.kind s.frames s.records ++ (differs_text s.differs ++ codes "\n")
+
+-- ` differs unknown` of a stream with a VERIFY, behind which nothing was compared
+abbrev pub unknown_text : Bool → List ℕ
+unknown_text true = codes " differs unknown"
+unknown_text false = []
+
+-- that text, and ` differs unknown` where the stream has a VERIFY
+abbrev pub checked_line : CheckSummary → List ℕ
+checked_line s = stream_text s.version s.kind s.frames s.records ++ (unknown_text s.verified ++ codes "\n")
+
+-- what is left of a summary where nothing was compared
+abbrev pub uncompared : Summary → CheckSummary
+uncompared s = record { version = s.version; kind = s.kind; frames = s.frames; records = s.records; verified = is_some s.differs }
+
+-- `ok legacy frames N`
+abbrev pub checked_legacy_line : ℕ → List ℕ
+checked_legacy_line frames = (codes "ok legacy frames " ++ decimal frames) ++ codes "\n"
 
 -- `ok rounds R entries N`
 abbrev pub saved_line : SaveSummary → List ℕ

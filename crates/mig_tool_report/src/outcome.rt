@@ -1,7 +1,7 @@
 ghost use Rattle.std.specs.Prelude.{◌≡◌, ◌≤◌, ◌++◌, codes, decimal};
 ghost use Rattle.mig_tool_report.specs.Common.{Puts, FaultHasCause};
 ghost use Rattle.mig_tool_report.specs.Outcome.{status_of, line_of};
-ghost use Rattle.mig_tool_report.specs.Report.{Reports, refusal_line, refusal_place, refusal_cause, text_of_walk_end, kind_name, differs_text, ok_line, saved_line, exercised_line, walked_line, relayed_line};
+ghost use Rattle.mig_tool_report.specs.Report.{Reports, refusal_line, refusal_place, refusal_cause, text_of_walk_end, kind_name, differs_text, unknown_text, stream_text, ok_line, checked_line, checked_legacy_line, saved_line, exercised_line, walked_line, relayed_line};
 ghost use Rattle.mig_tool_report.specs.declared.outcome.Outcome.TheVariants as outcomes;
 ghost use Rattle.mig_tool_report.specs.declared.outcome.Refusal.TheVariants as refusals;
 
@@ -69,6 +69,19 @@ pub struct Summary {
     pub records: u64,
     /// The entries behind a VERIFY record that differ from the frames before it; none where there is no such record.
     pub differs: Option<u64>,
+}
+
+/// What is said of an accepted stream that was checked, in which nothing was compared.
+#[derive(Clone, Copy, Debug, PartialEq, Eq)]
+pub struct CheckSummary {
+    pub version: u64,
+    pub kind: Kind,
+    /// The frames of its guest.
+    pub frames: u64,
+    /// Its records, with END and the optional ones.
+    pub records: u64,
+    /// Whether it has a VERIFY record.
+    pub verified: bool,
 }
 
 /// What is said of a host that was saved live.
@@ -243,17 +256,74 @@ fn put_differs<R: Sink>(report: &mut R, differs: Option<u64>) -> Result<(), Writ
     }
 }
 
+/// Puts that a stream has a VERIFY, and nothing was compared behind it, where it is so.
+fn put_unknown<R: Sink>(report: &mut R, verified: bool) -> Result<(), WriteFailed>
+    ensures bytes { Puts (unknown_text verified) (R.written report.old) (R.written report.new) result }
+    ensures cause { FaultHasCause (R.faults report.old) (R.faults report.new) result }
+{
+    if verified {
+        put_all(report, b" differs unknown")
+    } else {
+        put_all(report, b"")
+    }
+}
+
+/// Puts what is said of each accepted stream.
+fn put_stream<R: Sink>(
+    report: &mut R,
+    version: u64,
+    kind: Kind,
+    frames: u64,
+    records: u64,
+) -> Result<(), WriteFailed>
+    ensures bytes { Puts (stream_text version kind frames records) (R.written report.old) (R.written report.new) result }
+    ensures cause { FaultHasCause (R.faults report.old) (R.faults report.new) result }
+{
+    put_field(report, b"ok version ", version)?;
+    put_all(report, b" kind ")?;
+    put_kind(report, kind)?;
+    put_field(report, b" frames ", frames)?;
+    put_field(report, b" records ", records)
+}
+
 /// Puts what an accepted stream is on the report.
 pub fn put_ok<R: Sink>(report: &mut R, summary: Summary) -> Result<(), WriteFailed>
     ensures bytes { Puts (ok_line summary) (R.written report.old) (R.written report.new) result }
     ensures cause { FaultHasCause (R.faults report.old) (R.faults report.new) result }
 {
-    put_field(report, b"ok version ", summary.version)?;
-    put_all(report, b" kind ")?;
-    put_kind(report, summary.kind)?;
-    put_field(report, b" frames ", summary.frames)?;
-    put_field(report, b" records ", summary.records)?;
+    put_stream(
+        report,
+        summary.version,
+        summary.kind,
+        summary.frames,
+        summary.records,
+    )?;
     put_differs(report, summary.differs)?;
+    put_all(report, b"\n")
+}
+
+/// Puts what an accepted stream is that was checked on the report.
+pub fn put_checked<R: Sink>(report: &mut R, summary: CheckSummary) -> Result<(), WriteFailed>
+    ensures bytes { Puts (checked_line summary) (R.written report.old) (R.written report.new) result }
+    ensures cause { FaultHasCause (R.faults report.old) (R.faults report.new) result }
+{
+    put_stream(
+        report,
+        summary.version,
+        summary.kind,
+        summary.frames,
+        summary.records,
+    )?;
+    put_unknown(report, summary.verified)?;
+    put_all(report, b"\n")
+}
+
+/// Puts how many frames the guest of a legacy stream has on the report.
+pub fn put_checked_legacy<R: Sink>(report: &mut R, frames: u64) -> Result<(), WriteFailed>
+    ensures bytes { Puts (checked_legacy_line frames) (R.written report.old) (R.written report.new) result }
+    ensures cause { FaultHasCause (R.faults report.old) (R.faults report.new) result }
+{
+    put_field(report, b"ok legacy frames ", frames)?;
     put_all(report, b"\n")
 }
 

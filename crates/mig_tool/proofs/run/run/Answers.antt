@@ -1,6 +1,6 @@
 use Rattle.mig_tool.proofs.Common.{arith, refl, Effects, effects, input_effect, sink_effect}
 use Rattle.mig_tool_report.proofs.Naming.{same_command}
-use Rattle.mig_tool.proofs.Reporting.{keeps, of_same}
+use Rattle.mig_tool.proofs.Reporting.{keeps_command, of_same}
 use Rattle.mig_tool.proofs.run.run.Goals as goal
 
 pub returns-in-Some-clause-usage : goal.returns-in-Some-clause-usage
@@ -10,7 +10,7 @@ pub returns-in-Some-clause-kept : goal.returns-in-Some-clause-kept
 returns-in-Some-clause-kept g c = λ command is.
     let e : Effects = effects (input_effect g.S.Source.left g.S.Source.faults c.args.input.now c.carry_out.new.input) (sink_effect g.K.Sink.written g.K.Sink.faults c.args.out.now c.carry_out.new.out)
     (sink_effect g.R.Sink.written g.R.Sink.faults c.args.report.now c.carry_out.new.report) in
-    keeps command e c.carry_out.result (of_same c.in-Some.command command e c.carry_out.result (same_command _ c.in-Some.command command c.in-Some.ensures.some is) c.carry_out.ensures)
+    keeps_command command e c.carry_out.result (of_same c.in-Some.command command e c.carry_out.result (same_command _ c.in-Some.command command c.in-Some.ensures.some is) c.carry_out.ensures)
 
 pub returns-in-None-clause-usage : goal.returns-in-None-clause-usage
 returns-in-None-clause-usage g c = λ none. record {

@@ -1,37 +1,15 @@
 use Rattle.mig_tool_report.proofs.Common.{puts_then, puts_stop}
 use Rattle.mig_tool_report.proofs.outcome.put_ok.Goals as goal
 
-pub returns-in_err-put_field-clause-bytes : goal.returns-in_err-put_field-clause-bytes
-returns-in_err-put_field-clause-bytes g c =
-    let r = c.from_residual.result in
-    puts_stop _ _ _ _ _ _ r c.from_residual.ensures.1 c.in_err-put_field.ensures.bytes
-
-pub returns-in_err-put_all-clause-bytes : goal.returns-in_err-put_all-clause-bytes
-returns-in_err-put_all-clause-bytes g c =
-    let r = c.from_residual-in_err-put_all.result in
-    puts_then _ _ _ _ _ r c.in_ok-put_field.ensures.bytes (puts_stop _ _ _ _ _ _ r c.from_residual-in_err-put_all.ensures.1 c.in_err-put_all.ensures.bytes)
-
-pub returns-in_err-put_kind-clause-bytes : goal.returns-in_err-put_kind-clause-bytes
-returns-in_err-put_kind-clause-bytes g c =
-    let r = c.from_residual-in_err-put_kind.result in
-    puts_then _ _ _ _ _ r c.in_ok-put_field.ensures.bytes (puts_then _ _ _ _ _ r c.in_ok-put_all.ensures.bytes (puts_stop _ _ _ _ _ _ r c.from_residual-in_err-put_kind.ensures.1 c.in_err-put_kind.ensures.bytes))
-
-pub returns-in_err-put_field-2-clause-bytes : goal.returns-in_err-put_field-2-clause-bytes
-returns-in_err-put_field-2-clause-bytes g c =
-    let r = c.from_residual-in_err-put_field-2.result in
-    puts_then _ _ _ _ _ r c.in_ok-put_field.ensures.bytes (puts_then _ _ _ _ _ r c.in_ok-put_all.ensures.bytes (puts_then _ _ _ _ _ r c.in_ok-put_kind.ensures.bytes (puts_stop _ _ _ _ _ _ r c.from_residual-in_err-put_field-2.ensures.1 c.in_err-put_field-2.ensures.bytes)))
-
-pub returns-in_err-put_field-3-clause-bytes : goal.returns-in_err-put_field-3-clause-bytes
-returns-in_err-put_field-3-clause-bytes g c =
-    let r = c.from_residual-in_err-put_field-3.result in
-    puts_then _ _ _ _ _ r c.in_ok-put_field.ensures.bytes (puts_then _ _ _ _ _ r c.in_ok-put_all.ensures.bytes (puts_then _ _ _ _ _ r c.in_ok-put_kind.ensures.bytes (puts_then _ _ _ _ _ r c.in_ok-put_field-2.ensures.bytes (puts_stop _ _ _ _ _ _ r c.from_residual-in_err-put_field-3.ensures.1 c.in_err-put_field-3.ensures.bytes))))
+pub returns-in_err-put_stream-clause-bytes : goal.returns-in_err-put_stream-clause-bytes
+returns-in_err-put_stream-clause-bytes g c = puts_stop _ _ _ _ _ _ c.from_residual.result c.from_residual.ensures.1 c.in_err-put_stream.ensures.bytes
 
 pub returns-in_err-put_differs-clause-bytes : goal.returns-in_err-put_differs-clause-bytes
 returns-in_err-put_differs-clause-bytes g c =
     let r = c.from_residual-in_err-put_differs.result in
-    puts_then _ _ _ _ _ r c.in_ok-put_field.ensures.bytes (puts_then _ _ _ _ _ r c.in_ok-put_all.ensures.bytes (puts_then _ _ _ _ _ r c.in_ok-put_kind.ensures.bytes (puts_then _ _ _ _ _ r c.in_ok-put_field-2.ensures.bytes (puts_then _ _ _ _ _ r c.in_ok-put_field-3.ensures.bytes (puts_stop _ _ _ _ _ _ r c.from_residual-in_err-put_differs.ensures.1 c.in_err-put_differs.ensures.bytes)))))
+    puts_then _ _ _ _ _ r c.in_ok-put_stream.ensures.bytes (puts_stop _ _ _ _ _ _ r c.from_residual-in_err-put_differs.ensures.1 c.in_err-put_differs.ensures.bytes)
 
 pub returns-clause-bytes : goal.returns-clause-bytes
 returns-clause-bytes g c =
-    let r = c.put_all-2.result in
-    puts_then _ _ _ _ _ r c.in_ok-put_field.ensures.bytes (puts_then _ _ _ _ _ r c.in_ok-put_all.ensures.bytes (puts_then _ _ _ _ _ r c.in_ok-put_kind.ensures.bytes (puts_then _ _ _ _ _ r c.in_ok-put_field-2.ensures.bytes (puts_then _ _ _ _ _ r c.in_ok-put_field-3.ensures.bytes (puts_then _ _ _ _ _ r c.in_ok-put_differs.ensures.bytes c.put_all-2.ensures.bytes)))))
+    let r = c.put_all.result in
+    puts_then _ _ _ _ _ r c.in_ok-put_stream.ensures.bytes (puts_then _ _ _ _ _ r c.in_ok-put_differs.ensures.bytes c.put_all.ensures.bytes)
