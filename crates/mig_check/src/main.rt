@@ -7,13 +7,14 @@
 //! refuses exactly what `mig_tool verify` and `mig_tool convert` do, with the same place and cause.
 #![tactic(auto)]
 
+mod law;
 mod run;
 mod words;
 
+pub use crate::law::checked_as_verified;
 use crate::run::run;
 use mig_bytes::{InSource, OutSink};
 use mig_tool_report::{INPUT_BUFFER, Outcome, Status, put_line, words_of};
-use std::alloc::Global;
 use std::env;
 use std::io::BufReader;
 use std::process::ExitCode;

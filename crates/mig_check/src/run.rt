@@ -1,10 +1,9 @@
-ghost use Rattle.std.specs.Prelude.{◌≡◌, ◌≤◌, ◌↔◌, ℕ, List, None, length};
+ghost use Rattle.std.specs.Prelude.{◌≡◌, ◌≤◌};
 ghost use Rattle.mig_check.specs.Checks.{NamesCheck, promise_of_check};
 ghost use Rattle.mig_check.specs.declared.words.Check.{Check};
-ghost use Rattle.mig_tool_report.specs.Promises.{CarriedOut, KeepsPromise, TellsUsage, effects, input_effect, sink_effect, unreached};
-ghost use Rattle.mig_tool_report.specs.Report.{Reports, check_usage_line, checked_line, ok_line, uncompared};
+ghost use Rattle.mig_tool_report.specs.Promises.{KeepsPromise, TellsUsage, effects, input_effect, sink_effect, unreached};
+ghost use Rattle.mig_tool_report.specs.Report.{Reports, check_usage_line};
 ghost use Rattle.mig_tool_report.specs.Words.{texts_of};
-ghost use Rattle.mig_tool_report.specs.declared.outcome.Summary.{Summary};
 ghost use Rattle.mig_tool_report.specs.declared.status.Status.TheVariants as statuses;
 
 use crate::words::{Check, check_in};
@@ -51,8 +50,3 @@ pub fn run<S: Source, R: Sink>(
         None => tell_usage(report),
     }
 }
-
-/// Where nothing is to be compared, the line of a check is that of `mig_tool verify`.
-pub fn checked_as_verified()
-    ensures { (s : Summary) → s.differs ≡ None → checked_line (uncompared s) ≡ ok_line s }
-{}

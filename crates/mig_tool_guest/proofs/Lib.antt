@@ -6,4 +6,4 @@ pub mod Walking
 pub mod Once
 pub mod Relaying
 pub mod Showing
-pub mod Checks
+pub mod Tallied

@@ -68,7 +68,7 @@ not_read_count {P} {C} X told answer outcome before now is rises = subst (λ o. 
 pub accepted_front : (input rest : List ℕ) (stream : StreamOf) (reading : Reading) → stream_at input ≡ Passes stream rest → IsStreamReading reading stream → AcceptedStream input reading.guest rest
 accepted_front input rest stream reading accepts is = record { stream = stream; image = is.image; spelled = accepted_is_stream input stream rest accepts; image_is = is.is; means = is.guest }
 
-accepted_legacy : (input rest : List ℕ) (stream : LegacyStream) (guest : GuestOf) → legacy_at input ≡ Passes stream rest → guest ≡ mean_legacy stream → AcceptedLegacy input guest rest
+pub accepted_legacy : (input rest : List ℕ) (stream : LegacyStream) (guest : GuestOf) → legacy_at input ≡ Passes stream rest → guest ≡ mean_legacy stream → AcceptedLegacy input guest rest
 accepted_legacy input rest stream guest accepts is = record { stream = stream; spelled = accepted_is_legacy input stream rest accepts; means = is }
 
 -- what was written of a guest that was read from an accepted front

@@ -1,6 +1,6 @@
 -- What an outcome or a status says of each command, by the parts of it that the lemmas speak of.
-use Rattle.mig_tool_guest.proofs.Common.{Appends, AppendsPart, AcceptedLegacy, canon_any, AcceptedStream, Effects, Promise, SinkEffect, effects, OutcomeSays, StatusSays, Outcome, Status, Normalised, PartWritten, Restored, Verified, restored_text, relay_promise, HasLegacyRefusal, HasOpenRefusal, HasStreamRefusal, FrontShown, PartShown}
-use Rattle.std.specs.Prelude.{◌⊎◌, ℕ, List, Some, Option}
+use Rattle.mig_tool_guest.proofs.Common.{Appends, AppendsPart, AcceptedLegacy, canon_any, AcceptedStream, Effects, OutcomeSays, StatusSays, Outcome, Status, Normalised, PartWritten, Restored, Verified, restored_text, relay_promise, HasLegacyRefusal, HasOpenRefusal, HasStreamRefusal, FrontShown, PartShown}
+use Rattle.std.specs.Prelude.{ℕ, List, Some, Option}
 
 abbrev pub NormaliseComes : (told left old new : Option (List ℕ)) → Outcome → Type 0
 NormaliseComes told left old new outcome = OutcomeSays (λ input. Normalised AcceptedStream input left old new) (λ input. PartWritten AcceptedStream canon_any input left old new) HasStreamRefusal told left outcome

@@ -1,5 +1,5 @@
 -- What a walk comes to, says and reports.
-use Rattle.mig_tool_guest.proofs.Common.{inl, inr, Appends, AppendsPart, Passes, HostOf, ReadsStream, Reading, Outcome, WalkSummary, Status, in_stream, in_host, MeansFrame, any_host_at, line_reported, says_of, ◌≡◌, ℕ, List, Option, Some, None, Result, Ok, Err, sym, ap, subst, ◌∙◌, OutcomeSays, InputRises, CarriedOut, Effects, IsUnwritten, finished, line_put, never_failed, no_line, status_of, unwritten, ◌⊎◌, ◌≤◌, IfOk, IfErr, OnOk, most_width, IsSound, Rose, IsUntouched, Promise, reports_line, walked_line, PutsLineOf, Refusing, StatusSays, AddressReported}
+use Rattle.mig_tool_guest.proofs.Common.{inl, inr, Appends, AppendsPart, Passes, HostOf, ReadsStream, Reading, Outcome, WalkSummary, Status, in_stream, in_host, MeansFrame, any_host_at, says_of, ◌≡◌, ℕ, List, Option, Some, None, Result, Ok, Err, sym, ap, subst, ◌∙◌, OutcomeSays, InputRises, CarriedOut, Effects, IsUnwritten, finished, line_put, never_failed, no_line, status_of, unwritten, ◌⊎◌, ◌≤◌, IfOk, IfErr, OnOk, most_width, IsSound, Rose, IsUntouched, Promise, reports_line, walked_line, PutsLineOf, Refusing, StatusSays, AddressReported}
 use Rattle.mig_host.specs.HostView.{HostAndSpare}
 use Rattle.mig_image.specs.Answer.{ReadsHost}
 use Rattle.mig_tool_report.specs.declared.status.Status.TheVariants as statuses

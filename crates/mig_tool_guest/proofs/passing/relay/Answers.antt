@@ -1,5 +1,5 @@
 use Rattle.mig_tool_report.specs.declared.status.Status.TheVariants as statuses
-use Rattle.mig_tool_guest.proofs.Common.{◌≡◌, inr, Effects, effects, input_effect, input_same, never_usage, own_line_alone, relay_promise, sink_effect, unchanged, ReportStopped}
+use Rattle.mig_tool_guest.proofs.Common.{◌≡◌, inr, Effects, effects, input_effect, input_same, never_usage, own_line_alone, sink_effect, unchanged, ReportStopped}
 use Rattle.mig_tool_guest.proofs.Relaying.{passed_says, passed_relayed, passed_breaks, passed_line, unpassed_carried}
 use Rattle.mig_tool_guest.proofs.passing.relay.Goals as goal
 

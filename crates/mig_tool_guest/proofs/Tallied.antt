@@ -1,12 +1,10 @@
 -- What a check answers.
-use Rattle.mig_tool_guest.proofs.Common.{Appends, AppendsPart, Passes, Cause, Place, AcceptedLegacy, StreamOf, Status, Outcome, OutcomeSays, StatusSays, ◌≡◌, ◌∙◌, ℕ, List, length, Option, Some, None, Result, Ok, Err, refl, sym, ap, subst, GuestOf, AcceptedStream, HasStreamRefusal, HasLegacyRefusal, summary_of, outcome_of, Puts, accepted_is_stream, stream_at}
+use Rattle.mig_tool_guest.proofs.Common.{Appends, AppendsPart, Passes, Cause, Place, StreamOf, Status, Outcome, OutcomeSays, StatusSays, ◌≡◌, ◌∙◌, ℕ, List, length, Option, Some, None, Result, Ok, Err, refl, sym, subst, GuestOf, AcceptedStream, HasStreamRefusal, HasLegacyRefusal, summary_of, outcome_of, Puts, accepted_is_stream, stream_at}
 use Rattle.mig_tool_guest.proofs.Reporting.{accepted_legacy, reported}
-use Rattle.mig_bytes.specs.Answers.{or_stop}
 use Rattle.mig_bytes.specs.declared.answer.Answer.{Answer}
 use Rattle.mig_bytes.specs.declared.answer.Answer.TheVariants as answers
 use Rattle.mig_bytes.specs.declared.failure.WriteFailed.{WriteFailed}
-use Rattle.mig_legacy.specs.Legacy.{LegacyStream, mean_legacy}
-use Rattle.mig_legacy.specs.Stream.{ReadsLegacy, legacy_at}
+use Rattle.mig_legacy.specs.Stream.{ReadsLegacy}
 use Rattle.mig_libxl.specs.Reads.{IsStreamTally, JudgesStream}
 use Rattle.mig_libxl_form.specs.Stream.{guest_of}
 use Rattle.mig_outline.specs.declared.judge.Tally.{Tally}
