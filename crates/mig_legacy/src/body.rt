@@ -16,7 +16,7 @@ use mig_guest::{EMULATOR_PAIRS, Guest, PartKey};
 use mig_headers::{Cause, LegacyCause, MOST_BODY, VCPU_LIMIT};
 use mig_libxl_form::Emulators;
 use mig_policy::PairsAnswer;
-use mig_restore::{are_bytes, take_entries};
+use mig_restore::{AllFrames, are_bytes, take_entries};
 use mig_restore_form::words_of;
 use std::alloc::Global;
 
@@ -116,7 +116,7 @@ pub(crate) fn take_batch<S: Source>(
     let Ok(list) = page_data_words(alloc, &words) else {
         return Err(Stop::Memory);
     };
-    match take_entries(src, &list, guest) {
+    match take_entries::<S, AllFrames>(src, &list, guest) {
         Ok(()) => Ok(()),
         Err(stop) => Err(truncated(stop)),
     }

@@ -1,18 +1,17 @@
 -- The entry of a word, as a judge takes it that puts it into an outline.
-use Rattle.mig_restore.proofs.Common.{◌≡◌, ◌≢◌, ◌<◌, ℕ, List, [], ◌∷◌, ◌++◌, Option, Some, None, Result, Ok, Err, true, false, Bool, refl, sym, ap, subst, ◌∙◌, is_some, none-some, part, AgreesWithJudging, Passes, Stop, Cause, Truncated, Kind, GuestOf, PageType, level_of, pfn_limit, IsInside, entry, word_pfn, word_has_data, FrameEntry, Content, Nothing, Frames, Sets, Lists, Checks, type_in_word, fault_of_level, fault_of_page, type_in_guest, entry_at, put_entry, put_content, GrewByRecord, IsGoodWord, placed_content}
+use Rattle.mig_restore.proofs.Common.{◌≡◌, ◌<◌, ℕ, List, [], ◌∷◌, Option, Some, None, Result, Ok, Err, true, false, refl, sym, ap, subst, ◌∙◌, is_some, none-some, part, AgreesWithJudging, Passes, Stop, Cause, Truncated, Kind, GuestOf, PageType, level_of, pfn_limit, IsInside, entry, word_pfn, word_has_data, FrameEntry, Nothing, type_in_word, fault_of_level, fault_of_page, type_in_guest, entry_at, put_entry, GrewByRecord, IsGoodWord, OnOk, AreEntriesSet}
 use Rattle.std.specs.Prelude.{⊤}
-use Rattle.std.proofs.lemmas.List.Sums.{fold-append}
 use Rattle.mig_bytes.specs.Judged.{plain_at}
 use Rattle.mig_bytes.specs.Judged.Judged.{Faulty}
 use Rattle.mig_bytes.specs.declared.stop.Stop.TheVariants.{Refused, ReadFault, Memory}
 use Rattle.mig_bytes.proofs.Joins.{any_stop, both_pass, same_passes, only_first}
 use Rattle.mig_guest.specs.Frames.{FrameMap, framed}
 use Rattle.mig_headers.specs.declared.kind.Kind.TheVariants.{Pv, Hvm}
-use Rattle.mig_outline.specs.Outline.{outline_type, outline_page, outline_framed, put_outline_entry, put_outline_entries, put_outline_content}
+use Rattle.mig_outline.specs.Outline.{outline_type, outline_page, outline_framed, put_outline_entry}
 use Rattle.mig_pagetypes.specs.PageTypes.{type_has_data}
 use Rattle.mig_pagetypes.specs.declared.page_type.PageType.TheVariants.{Notab, Broken, Xalloc, Xtab}
+use Rattle.mig_restore.proofs.Begun.{one_set, only_entry}
 use Rattle.mig_restore.proofs.Compared.{judged_too}
-use Rattle.mig_restore_form.proofs.Compared.{IsSaid}
 use Rattle.mig_restore_form.proofs.Growth.{word_inside, grows_frame}
 use Rattle.mig_restore_form.specs.Judging.{page_at}
 
@@ -76,6 +75,12 @@ entry_type kind top place w i e rest h =
     let a = both_pass (page_at kind top (place, w) i) (λ page. Passes (entry_of w page.0) page.1) e rest h in
     sym (ap (λ (x : FrameEntry). x.type) (same_passes _ _ _ _ a.second).0)
 
+-- what is set of a table's word
+pub table_named : (g n : GuestOf) (w : ℕ) (meant : PageType) (r : Result (Unit {0}) (Stop Cause)) → meant ≡ type_in_guest g.kind (type_in_word w) → is_some (level_of meant) ≡ true
+    → OnOk r (AreEntriesSet put_entry g n (w ∷ [])) → OnOk r (AreEntriesSet put_outline_entry g n (w ∷ []))
+table_named g n w meant (Ok u) means some set = let (page, now) = only_entry put_entry g n w set in one_set put_outline_entry g n w page (table_set g n w meant (entry_of w page) refl means some now)
+table_named g n w meant (Err e) means some set = tt
+
 pub tabled : (g n : GuestOf) (a b : Option (List ℕ)) (place w : ℕ) (meant : PageType) (r : Result (Unit {0}) (Stop Cause)) → meant ≡ type_in_guest g.kind (type_in_word w) → is_some (level_of meant) ≡ true
     → AgreesWithJudging (λ _ e. n ≡ record g { frames = put_entry g.kind g.frames e }) a b (entry_at g.kind g.top (place, w)) r → AgreesWithJudging (λ _ e. n ≡ record g { frames = put_outline_entry g.kind g.frames e }) a b (entry_at g.kind g.top (place, w)) r
 tabled g n a b place w meant (Ok u) means some h = judged_too _ _ a b (entry_at g.kind g.top (place, w)) u u (λ i rest e judged is. table_set g n w meant e (entry_type g.kind g.top place w i e rest judged) means some is) h
@@ -103,22 +108,3 @@ outline_grows g n w pfn meant in_stream type good at means shown bare now =
       all = λ bytes e. absurd (none-some bytes e);
       entries = λ level page lev has. absurd (none-some page has);
     }) now
-
--- ---- one more entry
-
-pub one_more_outlined : (g h k : GuestOf) (es : List FrameEntry) (e : FrameEntry) → h ≡ record g { frames = put_outline_entries g.kind g.frames es } → k ≡ record h { frames = put_outline_entry h.kind h.frames e }
-    → k ≡ record g { frames = put_outline_entries g.kind g.frames (es ++ e ∷ []) }
-one_more_outlined g h k es e before now =
-    now ∙ ap (λ (w : GuestOf). record w { frames = put_outline_entry w.kind w.frames e }) before
-    ∙ ap (λ (f : FrameMap). record g { frames = f }) (sym (fold-append (put_outline_entry g.kind) g.frames es (e ∷ [])))
-
--- ---- the body of a record
-
--- what sends no frames is put into an outline as into a guest
-pub put_alike : (verified : Bool) (type : ℕ) (g n : GuestOf) (c : Content) → (verified ≡ false → type ≢ 1) → IsSaid type c → n ≡ put_content g (placed_content verified c) → n ≡ put_outline_content g (placed_content verified c)
-put_alike true type g n (Frames es) other said now = now
-put_alike false type g n (Frames es) other said now = let no : Checks es ≡ Frames es = said.anywhere (other refl) true in absurd (cc)
-put_alike verified type g n Nothing other said now = now
-put_alike verified type g n (Sets code ps) other said now = now
-put_alike verified type g n (Lists last frames) other said now = now
-put_alike verified type g n (Checks es) other said now = now

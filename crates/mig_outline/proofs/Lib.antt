@@ -3,4 +3,3 @@ pub mod Faults
 pub mod Forgotten
 pub mod Outline
 pub mod Entries
-pub mod Arrivals

@@ -1,10 +1,10 @@
 -- The outline of a guest: its page tables, and of all other frames whether they are NOTAB. It is a guest again, in which XALLOC
 -- stands for NOTAB and BROKEN for all other types without a table, so that those frames have no pages.
-use Rattle.std.specs.Prelude.{ℕ, List, Option, Some, None, fold}
-use Rattle.mig_outline.specs.Common.{Kind, level_of, FrameMap, FrameOf, framed, GuestOf, each_value, type_in_guest, put_content, FrameEntry, Content}
+use Rattle.std.specs.Prelude.{ℕ, List, Option, Some, None}
+use Rattle.mig_outline.specs.Common.{Kind, level_of, FrameMap, FrameOf, framed, GuestOf, each_value, type_in_guest, put_content_by, FrameEntry, Content}
 use Rattle.mig_pagetypes.specs.declared.page_type.PageType.{PageType}
 use Rattle.mig_pagetypes.specs.declared.page_type.PageType.TheVariants.{Notab, Broken, Xalloc}
-use Rattle.mig_restore_form.specs.Record.Content.{Nothing, Frames, Sets, Lists, Checks}
+use Rattle.mig_restore.specs.Kept.{kept_guest}
 
 abbrev pub outline_type : PageType → PageType
 outline_type Notab = Xalloc
@@ -22,7 +22,7 @@ abbrev pub outline_frames : FrameMap → FrameMap
 outline_frames frames = each_value (λ _ frame. outline_frame frame) frames
 
 abbrev pub outline : GuestOf → GuestOf
-outline g = record { kind = g.kind; top = g.top; frames = outline_frames g.frames; parts = g.parts }
+outline g = kept_guest outline_frames g
 
 -- ---- what an outline says of the guest: what XALLOC stands for is NOTAB
 
@@ -45,12 +45,5 @@ outline_framed frames pfn type page = framed frames pfn (outline_type type) (out
 abbrev pub put_outline_entry : Kind → FrameMap → FrameEntry → FrameMap
 put_outline_entry kind frames e = outline_framed frames e.pfn (type_in_guest kind e.type) e.page
 
-abbrev pub put_outline_entries : Kind → FrameMap → List FrameEntry → FrameMap
-put_outline_entries kind frames es = fold (put_outline_entry kind) frames es
-
 abbrev pub put_outline_content : GuestOf → Content → GuestOf
-put_outline_content g (Frames es) = record { kind = g.kind; top = g.top; frames = put_outline_entries g.kind g.frames es; parts = g.parts }
-put_outline_content g Nothing = g
-put_outline_content g (Sets code ps) = put_content g (Sets code ps)
-put_outline_content g (Lists last frames) = put_content g (Lists last frames)
-put_outline_content g (Checks es) = g
+put_outline_content g c = put_content_by put_outline_entry g c

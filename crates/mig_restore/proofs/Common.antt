@@ -20,7 +20,7 @@ pub use Rattle.mig_guest.specs.declared.part_code.PartCode.{PartCode}
 pub use Rattle.mig_headers.specs.declared.kind.Kind.{Kind}
 pub use Rattle.mig_headers.specs.declared.record_type.RecordType.{RecordType}
 pub use Rattle.mig_restore_form.specs.Judging.{Opening, before, body_at, code_of_type, entry_at, fault_of_level, fault_of_list, fault_of_page, head_at, lists_of, next_at, opening_of, record_at, type_in_word, with_places}
-pub use Rattle.mig_restore_form.specs.Mean.{GrewByRecord, IsBegun, agrees, checked_in, checked_of, differing, empty_guest, entries_in, is_same_frame, put_content, put_entries, put_entry, put_record, some_frame, type_in_guest}
+pub use Rattle.mig_restore_form.specs.Mean.{GrewByRecord, IsBegun, agrees, checked_in, checked_of, differing, empty_guest, entries_in, is_same_frame, put_content, put_content_by, put_entries_by, put_entry, put_record, some_frame, type_in_guest}
 pub use Rattle.mig_restore_form.specs.Record.{Content, FrameEntry, StreamRecord, is_ended, is_verified, placed_content, types_of}
 pub use Rattle.mig_restore_form.specs.Record.Content.{Checks, Frames, Lists, Nothing, Sets}
 pub use Rattle.mig_restore_form.specs.Seen.{IsSeen}
@@ -34,7 +34,8 @@ pub use Rattle.mig_pagetypes.specs.declared.page_type.PageType.{PageType}
 pub use Rattle.mig_pvtables.specs.Faults.{fault_of_guest}
 pub use Rattle.mig_records.specs.Faults.{fault_of_count}
 pub use Rattle.mig_restore.specs.Compared.{IsPut, IsWithinRecords, differs_behind, differs_with}
-pub use Rattle.mig_restore.specs.Reads.{IsReading}
+pub use Rattle.mig_restore.specs.Kept.{EntryStep, kept_guest}
+pub use Rattle.mig_restore.specs.Reads.{IsReading, IsTaken}
 pub use Rattle.std.proofs.Common.{Bool, Err, List, None, Ok, Option, Result, Some, [], ap, arith, cond, drop, false, get_or, inl, inr, is_some, length, nat_eq, not, refl, rules, subst, sym, take, true, ℕ, ◌++◌, ◌+◌, ◌-◌, ◌<◌, ◌^◌, ◌∙◌, ◌∷◌, ◌≡◌, ◌≢◌, ◌≤◌, ◌⊎◌}
 pub use Rattle.std.proofs.lemmas.Bool.{eq-eqb, ne_eqb}
 pub use Rattle.std.proofs.lemmas.List.{length-map, map-append, take-append-drop, take_all, take_more}
@@ -46,6 +47,7 @@ pub use Rattle.mig_bytes.specs.declared.stop.Stop.TheVariants.{Memory, Refused}
 pub use Rattle.mig_guest.specs.Frames.{FrameMap, framed}
 pub use Rattle.mig_restore.specs.Begun.{AreEntriesBegun, AreEntriesSet, entry_name, word_name}
 pub use Rattle.mig_restore.specs.declared.read.Reading.{Reading}
+pub use Rattle.mig_restore.specs.declared.read.TakenImage.{TakenImage}
 pub use Rattle.mig_restore_form.proofs.Batches.{carries, entry_here, level_within, list_refused, pages_read, pages_stopped, place_within, places_len}
 pub use Rattle.mig_restore_form.proofs.Compared.{IsPlaced, IsSaid, IsUnchecked, body_said, checked_more, differing_join, next_placed, some_differs, unchecked_more, verified_more}
 pub use Rattle.mig_restore_form.proofs.Growth.{empty_begun, grows_frame, grows_list, grows_not, grows_on, grows_sets, has_length, same_kinds, sets_no_emulator, word_inside}

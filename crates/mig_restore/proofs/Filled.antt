@@ -35,8 +35,8 @@ module _ (g h : GuestOf) (place w pfn : ℕ) (in_stream type : PageType) (told :
     filled_read (Err e) some fills (inl (page, reads)) = bad_page _ g.kind g.top place w type kind_is some a b page e reads.read
     filled_read (Err e) some fills (inr (is, left, faults)) = out_of_memory _ a b (entry_at g.kind g.top (place, w)) e (let same : e ≡ Memory = cc in same)
 
-    pub filled_set : (r : Result (Unit {0}) (Stop Cause)) → Fills r → OnOk r (AreEntriesSet g h (w ∷ []))
-    filled_set (Ok u) (page, reads, now) = one_set g h w (Some page) (entry_put page now)
+    pub filled_set : (r : Result (Unit {0}) (Stop Cause)) → Fills r → OnOk r (AreEntriesSet put_entry g h (w ∷ []))
+    filled_set (Ok u) (page, reads, now) = one_set put_entry g h w (Some page) (entry_put page now)
     filled_set (Err e) fills = tt
 
     pub filled_grown : (r : Result (Unit {0}) (Stop Cause)) → IsGoodWord g.kind g.top w → type_has_data type ≡ true → Fills r → OnOk r (GrewByRecord g h)

@@ -5,3 +5,4 @@ pub mod Filled
 pub mod Behind
 pub mod Begun
 pub mod Compared
+pub mod Kept

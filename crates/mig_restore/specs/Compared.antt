@@ -1,10 +1,11 @@
 -- What the reader makes of a record where frames are compared: of the guest, and of the number of entries that differ.
 use Rattle.std.specs.Prelude.{◌≡◌, ◌≤◌, ℕ, ◌+◌, ◌*◌, ◌^◌, ⊤, Bool, Option, Some, None, ◌==◌, if◌then◌else◌}
-use Rattle.mig_restore.specs.Common.{GuestOf, put_content, differing, checked_in, StreamRecord, Content, placed_content}
+use Rattle.mig_restore.specs.Common.{GuestOf, put_content_by, differing, checked_in, StreamRecord, Content, placed_content}
+use Rattle.mig_restore.specs.Kept.{EntryStep}
 
 -- what a body says was kept, behind a VERIFY or before it, and so many of its entries differ
-pub record IsPut (verified : Bool) (before after : GuestOf) (n : ℕ) (said : Content) : Type 0 where
-  pub guest : after ≡ put_content before (placed_content verified said)
+pub record IsPut (put : EntryStep) (verified : Bool) (before after : GuestOf) (n : ℕ) (said : Content) : Type 0 where
+  pub guest : after ≡ put_content_by put before (placed_content verified said)
   pub differ : n ≡ differing before.kind before.frames (checked_in (placed_content verified said))
 
 -- VERIFY begins the number, and behind it the entries of a record that differ are added

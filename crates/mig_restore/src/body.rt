@@ -1,16 +1,18 @@
-ghost use Rattle.std.specs.Prelude.{◌≡◌, ◌≤◌, ◌^◌, ◌*◌, IfOk, OnOk, OnErr, [], ◌∷◌, IsErrOf, length, vec_len, true, false, None, Some};
+ghost use Rattle.std.specs.Prelude.{◌≡◌, ◌≤◌, ◌^◌, ◌*◌, IfOk, OnOk, OnErr, IsErrOf, length, vec_len, true, false, None, Some};
 ghost use Rattle.std.specs.List.{All, AllByRecursion};
-ghost use Rattle.mig_restore.specs.Common.{RisesOnReadFault, AgreesWithJudging, each, plain_at, Truncated, Memory, record_row_of, type_of_number, most_body, RecordType, fault_of_length, put_entry, put_entries, put_content, GrewByRecord, sets_at, info_at, p2m_at, words_at, with_places, entry_at, list_at, pages_at, typed_at, body_at};
+ghost use Rattle.mig_restore.specs.Common.{RisesOnReadFault, AgreesWithJudging, each, plain_at, Truncated, Memory, record_row_of, type_of_number, most_body, RecordType, fault_of_length, put_entries_by, put_content_by, GrewByRecord, sets_at, info_at, p2m_at, words_at, with_places, entry_at, list_at, pages_at, typed_at, body_at};
 ghost use Rattle.mig_guest.specs.PartCodes.{row_of, code_number};
 ghost use Rattle.mig_guest.specs.Formed.{is_emulator_code};
 ghost use Rattle.mig_records.specs.Layouts.{IsSmallKey};
 ghost use Rattle.mig_records.specs.Shapes.{fault_of_body, parts_of_body, set_parts, HasBodyLength};
 ghost use Rattle.mig_headers.specs.declared.kind.Kind.TheVariants.{Pv};
-ghost use Rattle.mig_restore.specs.Begun.{AreEntriesBegun, AreEntriesSet};
+ghost use Rattle.mig_restore.specs.Begun.{AreEntriesBegun};
+ghost use Rattle.mig_restore.specs.Kept.{EntryStep};
 ghost use Rattle.mig_restore_form.specs.Record.Content.{Nothing};
 ghost use Rattle.mig_restore_form.specs.Spelled.{IsGoodWord};
 
-use crate::page::{EntryPage, are_bytes};
+use crate::keeps::KeepsFrames;
+use crate::page::are_bytes;
 use mig_bytes::{ReadFailed, Source, Stop, skip, take_long, take_part, u32_le};
 use mig_guest::{Guest, PartCode};
 use mig_headers::{Cause, Kind, RecordType, is_optional};
@@ -18,7 +20,7 @@ use mig_hvm::{read_context, scan_context};
 use mig_records::{
     RecordHead, body_fault, count_fault, p2m_fault, pv_info_fault, read_body, read_p2m,
 };
-use mig_restore_form::{list_fault, pfn_in, type_in, type_in_guest, words_of};
+use mig_restore_form::{list_fault, words_of};
 use std::alloc::Global;
 
 // ---- parts
@@ -60,7 +62,7 @@ fn take_sets<S: Source>(
     requires allowed { HasBodyLength code len }
     requires of_kind { (row_of code).of_kind guest.old.kind ≡ true }
     requires no_emulator { is_emulator_code (code_number code) ≡ false }
-    ensures read { AgreesWithJudging (λ _ c. guest.new ≡ put_content guest.old c) (S.left src.old) (S.left src.new) (sets_at code len) result }
+    ensures read { (put : EntryStep) → AgreesWithJudging (λ _ c. guest.new ≡ put_content_by put guest.old c) (S.left src.old) (S.left src.new) (sets_at code len) result }
     ensures grown { OnOk result (GrewByRecord guest.old guest.new) }
     ensures faults { RisesOnReadFault (S.faults src.old) (S.faults src.new) result }
 {
@@ -100,7 +102,7 @@ fn take_p2m<S: Source>(
     requires small { len ≤ most_body }
     requires front { 8 ≤ len }
     requires kind { guest.old.kind ≡ Pv }
-    ensures read { AgreesWithJudging (λ _ c. guest.new ≡ put_content guest.old c) (S.left src.old) (S.left src.new) (p2m_at len) result }
+    ensures read { (put : EntryStep) → AgreesWithJudging (λ _ c. guest.new ≡ put_content_by put guest.old c) (S.left src.old) (S.left src.new) (p2m_at len) result }
     ensures grown { OnOk result (GrewByRecord guest.old guest.new) }
     ensures faults { RisesOnReadFault (S.faults src.old) (S.faults src.new) result }
 {
@@ -144,57 +146,24 @@ fn take_words<S: Source>(alloc: Global, src: &mut S, count: u32) -> Result<Vec<u
     }
 }
 
-/// Takes the page that goes with the word at this place of its record, where its type has data, and sets the frame. A
-/// table of a PV guest is judged before.
-pub fn take_entry<S: Source>(
-    src: &mut S,
-    place: u32,
-    word: u64,
-    guest: &mut Guest,
-) -> Result<(), Stop<Cause>>
-    requires { IsGoodWord guest.old.kind guest.old.top word }
-    ensures read { AgreesWithJudging (λ _ e. guest.new ≡ record guest.old { frames = put_entry guest.old.kind guest.old.frames e })
-        (S.left src.old) (S.left src.new) (entry_at guest.old.kind guest.old.top (place, word)) result }
-    ensures grown { OnOk result (GrewByRecord guest.old guest.new) }
-    ensures top { OnOk result (guest.new.top ≡ guest.old.top) }
-    ensures faults { RisesOnReadFault (S.faults src.old) (S.faults src.new) result }
-    ensures set { OnOk result (AreEntriesSet guest.old guest.new (word ∷ [])) }
-    ensures err { OnErr result (guest.new ≡ guest.old) }
-{
-    let in_stream = type_in(word);
-    let kind = type_in_guest(guest.kind(), in_stream);
-    if !in_stream.has_data() {
-        return match guest.set_frame(pfn_in(word), kind, None) {
-            Ok(()) => Ok(()),
-            Err(_) => Err(Stop::Memory),
-        };
-    }
-    let page = EntryPage {
-        kind,
-        place,
-        top: guest.top(),
-    };
-    guest.set_filled(pfn_in(word), kind, src, &page)
-}
-
 /// Takes the pages of a PAGE_DATA whose words these are, one for each word of a type with data, and sets the frame of each
-/// word as its page comes. A table of a PV guest is judged before it is set. Behind an error the frames of the first words
-/// are set, and all else is as it was.
-pub fn take_entries<S: Source>(
+/// word as its page comes: what is kept of it. A table of a PV guest is judged before it is set. Behind an error the frames
+/// of the first words are set, and all else is as it was.
+pub fn take_entries<S: Source, F: KeepsFrames>(
     src: &mut S,
     list: &[u64],
     guest: &mut Guest,
 ) -> Result<(), Stop<Cause>>
     requires good { All (IsGoodWord guest.old.kind guest.old.top) list.now }
     requires few { length list.now ≤ 2 ^ 24 }
-    ensures read { AgreesWithJudging (λ _ es. guest.new ≡ record guest.old { frames = put_entries guest.old.kind guest.old.frames es })
+    ensures read { AgreesWithJudging (λ _ es. guest.new ≡ record guest.old { frames = put_entries_by F.put guest.old.kind guest.old.frames es })
         (S.left src.old) (S.left src.new) (each (entry_at guest.old.kind guest.old.top) (with_places 0 list.now)) result }
     ensures grown { OnOk result (GrewByRecord guest.old guest.new) }
     ensures faults { RisesOnReadFault (S.faults src.old) (S.faults src.new) result }
-    ensures err { OnErr result (AreEntriesBegun guest.old guest.new list.now) }
+    ensures err { OnErr result (AreEntriesBegun F.put guest.old guest.new list.now) }
 {
     for place in 0..list.len() {
-        take_entry(src, place as u32, list[place], guest)?;
+        F::take_entry(src, place as u32, list[place], guest)?;
     }
     Ok(())
 }
@@ -227,25 +196,25 @@ pub fn take_list<S: Source>(
 }
 
 /// Takes the body of a PAGE_DATA record.
-fn take_pages<S: Source>(
+fn take_pages<S: Source, F: KeepsFrames>(
     alloc: Global,
     src: &mut S,
     len: u32,
     guest: &mut Guest,
 ) -> Result<(), Stop<Cause>>
     requires { len ≤ most_body }
-    ensures read { AgreesWithJudging (λ _ c. guest.new ≡ put_content guest.old c) (S.left src.old) (S.left src.new) (pages_at guest.old.kind guest.old.top len) result }
+    ensures read { AgreesWithJudging (λ _ c. guest.new ≡ put_content_by F.put guest.old c) (S.left src.old) (S.left src.new) (pages_at guest.old.kind guest.old.top len) result }
     ensures grown { OnOk result (GrewByRecord guest.old guest.new) }
     ensures faults { RisesOnReadFault (S.faults src.old) (S.faults src.new) result }
 {
     let list = take_list(alloc, src, len, guest.kind(), guest.top())?;
-    take_entries(src, &list, guest)
+    take_entries::<S, F>(src, &list, guest)
 }
 
 // ---- records
 
 /// Takes the body of a record of a known type.
-fn take_typed<S: Source>(
+fn take_typed<S: Source, F: KeepsFrames>(
     alloc: Global,
     src: &mut S,
     this: RecordType,
@@ -255,12 +224,12 @@ fn take_typed<S: Source>(
     requires small { len ≤ most_body }
     requires allowed { (record_row_of this).allows len ≡ true }
     requires of_kind { (record_row_of this).of_kind guest.old.kind ≡ true }
-    ensures read { AgreesWithJudging (λ _ c. guest.new ≡ put_content guest.old c) (S.left src.old) (S.left src.new) (typed_at guest.old.kind guest.old.top (Some this) len) result }
+    ensures read { AgreesWithJudging (λ _ c. guest.new ≡ put_content_by F.put guest.old c) (S.left src.old) (S.left src.new) (typed_at guest.old.kind guest.old.top (Some this) len) result }
     ensures grown { OnOk result (GrewByRecord guest.old guest.new) }
     ensures faults { RisesOnReadFault (S.faults src.old) (S.faults src.new) result }
 {
     match this {
-        RecordType::PageData => take_pages(alloc, src, len, guest),
+        RecordType::PageData => take_pages::<S, F>(alloc, src, len, guest),
         RecordType::X86PvInfo => take_info(src, len),
         RecordType::X86PvP2mFrames => take_p2m(alloc, src, len, guest),
         _ => match PartCode::from_number(this.number()) {
@@ -271,7 +240,7 @@ fn take_typed<S: Source>(
 }
 
 /// Takes a record's body, and keeps what it says.
-pub(crate) fn take_body<S: Source>(
+pub(crate) fn take_body<S: Source, F: KeepsFrames>(
     alloc: Global,
     src: &mut S,
     head: RecordHead,
@@ -280,7 +249,7 @@ pub(crate) fn take_body<S: Source>(
     requires small { head.len ≤ most_body }
     requires allowed { fault_of_length head.kind head.len ≡ None }
     requires of_kind { (this : RecordType) → type_of_number head.kind ≡ Some this → (record_row_of this).of_kind guest.old.kind ≡ true }
-    ensures read { AgreesWithJudging (λ _ c. guest.new ≡ put_content guest.old c) (S.left src.old) (S.left src.new) (body_at guest.old.kind guest.old.top head.kind head.len) result }
+    ensures read { AgreesWithJudging (λ _ c. guest.new ≡ put_content_by F.put guest.old c) (S.left src.old) (S.left src.new) (body_at guest.old.kind guest.old.top head.kind head.len) result }
     ensures grown { OnOk result (GrewByRecord guest.old guest.new) }
     ensures faults { RisesOnReadFault (S.faults src.old) (S.faults src.new) result }
 {
@@ -288,7 +257,7 @@ pub(crate) fn take_body<S: Source>(
         return skip_body(src, head.len);
     }
     match RecordType::from_number(head.kind) {
-        Some(this) => take_typed(alloc, src, this, head.len, guest),
+        Some(this) => take_typed::<S, F>(alloc, src, this, head.len, guest),
         None => Ok(()),
     }
 }

@@ -6,6 +6,7 @@ ghost use Rattle.mig_restore.specs.Compared.{IsPut, differs_with};
 ghost use Rattle.mig_restore_form.specs.Mean.{some_frame, is_same_page as same_page, is_same_frame as same_frame, agrees, differing, checked_in, GrewByRecord};
 
 use crate::body::{take_body, take_list};
+use crate::keeps::KeepsFrames;
 use crate::page::EntryPage;
 use mig_bytes::{Source, Stop};
 use mig_guest::{Fill, Guest};
@@ -101,9 +102,9 @@ fn check_pages<S: Source>(
     check_entries(src, &list, guest)
 }
 
-/// Takes a record's body, and keeps what it says; behind a VERIFY it keeps no frames, but compares them. Says how many
-/// entries differ.
-pub fn take_placed<S: Source>(
+/// Takes a record's body, and keeps what it says; behind a VERIFY it keeps no frames, but compares them with those that are
+/// kept. Says how many entries differ.
+pub fn take_placed<S: Source, F: KeepsFrames>(
     alloc: Global,
     src: &mut S,
     head: RecordHead,
@@ -113,7 +114,7 @@ pub fn take_placed<S: Source>(
     requires small { head.len ≤ most_body }
     requires allowed { fault_of_length head.kind head.len ≡ None }
     requires of_kind { (this : RecordType) → type_of_number head.kind ≡ Some this → (record_row_of this).of_kind guest.old.kind ≡ true }
-    ensures read { AgreesWithJudging (IsPut verified guest.old guest.new) (S.left src.old) (S.left src.new) (body_at guest.old.kind guest.old.top head.kind head.len) result }
+    ensures read { AgreesWithJudging (IsPut F.put verified guest.old guest.new) (S.left src.old) (S.left src.new) (body_at guest.old.kind guest.old.top head.kind head.len) result }
     ensures few { IfOk result (λ n. n ≤ 2 ^ 24) }
     ensures grown { OnOk result (GrewByRecord guest.old guest.new) }
     ensures faults { RisesOnReadFault (S.faults src.old) (S.faults src.new) result }
@@ -121,7 +122,7 @@ pub fn take_placed<S: Source>(
     if verified && head.kind == PAGE_DATA {
         return check_pages(alloc, src, head.len, guest);
     }
-    take_body(alloc, src, head, guest)?;
+    take_body::<S, F>(alloc, src, head, guest)?;
     Ok(0)
 }
 

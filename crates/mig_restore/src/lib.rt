@@ -1,24 +1,29 @@
 //! Reads the image of a guest from a stream (libxc migration stream).
 //!
-//! Responsible for: taking the headers and the records of an image, one after another, and the guest that they mean. Left to
-//! others: what an image is and means (mig_restore_form), bytes and fields (mig_bytes), headers (mig_headers), record heads,
-//! PAGE_DATA words and what bodies say (mig_records, mig_hvm), frames and parts (mig_guest), whole guests and blank forms
-//! (mig_pvtables).
+//! Responsible for: taking the headers and the records of an image, one after another, and the guest that they mean, of whose
+//! frames as much is kept as the caller says (`KeepsFrames`). Left to others: what an image is and means (mig_restore_form),
+//! bytes and fields (mig_bytes), headers (mig_headers), record heads, PAGE_DATA words and what bodies say (mig_records,
+//! mig_hvm), frames and parts (mig_guest), whole guests and blank forms (mig_pvtables).
 //!
 //! What the layers above rely on: `read_image` answers the guest that the accepted front of the input means, or the first
 //! fault with its place, and has taken just the accepted front, or all up to the end of the faulty part; behind a VERIFY it
-//! compares frames with those of the guest, and answers how many entries differ; `take_entries` takes the pages of a batch
-//! of words, in a legacy stream too.
+//! compares frames with those of the guest, and answers how many entries differ; `take_image` does the same with whatever is
+//! kept of the frames; `take_entries` takes the pages of a batch of words, in a legacy stream too.
 #![tactic(auto)]
 
 mod answer;
 mod body;
 mod check;
+mod keeps;
 mod page;
 mod read;
 
 pub use answer::StreamAnswer;
-pub use body::{skip_body, take_entries, take_entry, take_list};
+pub use body::{skip_body, take_entries, take_list};
 pub use check::take_placed;
+pub use keeps::{AllFrames, KeepsFrames};
 pub use page::are_bytes;
-pub use read::{Reading, read_head, read_headers, read_image, read_image_rest, read_opening};
+pub use read::{
+    Reading, TakenImage, read_head, read_headers, read_image, read_image_rest, read_opening,
+    take_image, take_image_rest,
+};

@@ -1,21 +1,36 @@
-ghost use Rattle.std.specs.Prelude.{◌≡◌, ℕ, ◌≤◌, ◌<◌, ◌+◌, ◌==◌, ◌∷◌, [], ◌++◌, List, ⊤, true, None, Some, is_some, IfOk, OnOk, IsErrOf};
-ghost use Rattle.mig_restore.specs.Common.{or_stop, RisesOnReadFault, AgreesWithJudging, Memory, record_row_of, type_of_number, most_body, RecordType, fault_of_length, sent, put_record, IsBegun, GrewByRecord, StreamRecord, types_of, is_verified, Opening, Before, most_records, opening_of, head_at, record_at, next_at, image_at, image_behind, records_at, opening_at, opening_behind, marker_at, version_at, kind_at};
+ghost use Rattle.std.specs.Prelude.{◌≡◌, ℕ, ◌≤◌, ◌<◌, ◌+◌, ◌==◌, ◌∷◌, [], ◌++◌, List, Option, ⊤, true, None, Some, is_some, IfOk, OnOk, IsErrOf};
+ghost use Rattle.mig_restore.specs.Common.{or_stop, RisesOnReadFault, AgreesWithJudging, Memory, record_row_of, type_of_number, most_body, RecordType, fault_of_length, ImageOf, sent, put_content_by, IsBegun, GrewByRecord, StreamRecord, types_of, is_verified, Opening, Before, most_records, opening_of, head_at, record_at, next_at, image_at, image_behind, records_at, opening_at, opening_behind, marker_at, version_at, kind_at};
 ghost use Rattle.mig_records.specs.Heads.{head_in};
-ghost use Rattle.mig_pvtables.specs.Faults.{fault_of_guest};
 ghost use Rattle.mig_pvtables.specs.Whole.{IsStreamedBare};
 ghost use Rattle.mig_restore.specs.Compared.{differs_behind, IsWithinRecords};
 ghost use Rattle.mig_restore_form.specs.Seen.{IsSeen};
-ghost use Rattle.mig_restore.specs.Reads.{ReadsImage, ReadsRest, IsReading};
+ghost use Rattle.mig_restore.specs.Kept.{IsOfFaultless, kept_guest};
+ghost use Rattle.mig_restore.specs.Reads.{ReadsImage, ReadsRest, IsTaken, IsReading};
+ghost use Rattle.mig_bytes.specs.Judged.{Judged};
 
 use crate::answer::StreamAnswer;
 use crate::check::{counted, take_placed};
+use crate::keeps::{AllFrames, KeepsFrames};
 use mig_bytes::{Source, Stop, answer_for, take_part};
 use mig_guest::Guest;
 use mig_headers::{Cause, DomainHeader, END, ImageHeader, Kind, Place};
-use mig_pvtables::{WholeAnswer, blank, whole};
+use mig_pvtables::{WholeAnswer, blank};
 use mig_records::{RecordHead, take_head, take_padding};
 use mig_restore_form::RecordsSeen;
 use std::alloc::Global;
+
+/// What was taken of an image.
+#[derive(Drop)]
+pub struct TakenImage {
+    /// Of the guest that the records send, what is kept.
+    pub guest: Guest,
+    /// The version in the image header.
+    pub version: u32,
+    /// How many records the image has, with END and optional ones.
+    pub records: u32,
+    /// How many of the entries behind VERIFY differ from the frames that are kept; none without a VERIFY.
+    pub differs: Option<u64>,
+}
 
 /// What was read of an image.
 #[derive(Drop)]
@@ -51,7 +66,7 @@ pub fn read_head<S: Source>(src: &mut S, seen: &mut RecordsSeen) -> Result<Recor
 }
 
 /// Takes a record, and keeps what it says; behind a VERIFY it counts the entries that differ. Answers its type.
-fn take_record<S: Source>(
+fn take_record<S: Source, F: KeepsFrames>(
     alloc: Global,
     src: &mut S,
     seen: &mut RecordsSeen,
@@ -61,7 +76,7 @@ fn take_record<S: Source>(
     requires kind { seen.old.kind ≡ guest.old.kind }
     requires few { IsWithinRecords seen.old.records differs.old }
     ensures read { (b : Before) → IsSeen seen.old b.opening b.types → guest.old.kind ≡ b.opening.kind → guest.old.top ≡ b.top → is_some differs.old ≡ is_verified b.types →
-        AgreesWithJudging (λ type r. (guest.new ≡ put_record guest.old r) × (type ≡ r.type) × (differs.new ≡ differs_behind guest.old differs.old r)) (S.left src.old) (S.left src.new) (record_at b) result }
+        AgreesWithJudging (λ type r. (guest.new ≡ put_content_by F.put guest.old r.content) × (type ≡ r.type) × (differs.new ≡ differs_behind guest.old differs.old r)) (S.left src.old) (S.left src.new) (record_at b) result }
     ensures few { OnOk result (IsWithinRecords seen.new.records differs.new) }
     ensures seen { IfOk result (λ type. (o : Opening) (types : List ℕ) → IsSeen seen.old o types → IsSeen seen.new o (types ++ type ∷ [])) }
     ensures grown { OnOk result (GrewByRecord guest.old guest.new) }
@@ -70,14 +85,14 @@ fn take_record<S: Source>(
     ensures faults { RisesOnReadFault (S.faults src.old) (S.faults src.new) result }
 {
     let head = read_head(src, seen)?;
-    let differ = take_placed(alloc, src, head, differs.is_some(), guest)?;
+    let differ = take_placed::<S, F>(alloc, src, head, differs.is_some(), guest)?;
     take_padding(src, head.len)?;
     *differs = counted(*differs, head.kind, differ);
     Ok(head.kind)
 }
 
 /// Takes the next record, and judges the whole guest where it ends the image. Says whether it does.
-pub(crate) fn read_next<S: Source>(
+pub(crate) fn read_next<S: Source, F: KeepsFrames>(
     alloc: Global,
     src: &mut S,
     seen: &mut RecordsSeen,
@@ -87,51 +102,52 @@ pub(crate) fn read_next<S: Source>(
     requires kind { seen.old.kind ≡ guest.old.kind }
     requires begun { IsBegun guest.old }
     requires few { IsWithinRecords seen.old.records differs.old }
-    ensures read { (o : Opening) (records : List StreamRecord) → IsSeen seen.old o (types_of records) → guest.old ≡ sent o.kind records → is_some differs.old ≡ is_verified (types_of records) →
-        AgreesWithJudging (λ over r. (guest.new ≡ put_record guest.old r) × IsSeen seen.new o (types_of (records ++ r ∷ [])) × (over ≡ (r.type == 0)) × (differs.new ≡ differs_behind guest.old differs.old r))
+    ensures read { (o : Opening) (records : List StreamRecord) → IsSeen seen.old o (types_of records) → guest.old ≡ kept_guest F.kept (sent o.kind records) → is_some differs.old ≡ is_verified (types_of records) →
+        AgreesWithJudging (λ over r. (guest.new ≡ kept_guest F.kept (sent o.kind (records ++ r ∷ []))) × IsSeen seen.new o (types_of (records ++ r ∷ [])) × (over ≡ (r.type == 0)) × (differs.new ≡ differs_behind guest.old differs.old r))
         (S.left src.old) (S.left src.new) (next_at o records) result }
     ensures few { OnOk result (IsWithinRecords seen.new.records differs.new) }
     ensures grown { OnOk result (GrewByRecord guest.old guest.new) }
-    ensures faultless { IfOk result (λ over. over ≡ true → fault_of_guest guest.new ≡ None) }
+    ensures faultless { IfOk result (λ over. over ≡ true → IsOfFaultless F.kept guest.new) }
     ensures counted { OnOk result ((seen.new.records ≡ seen.old.records + 1) × (seen.old.records < most_records)) }
     ensures kind { seen.new.kind ≡ seen.old.kind }
     ensures faults { RisesOnReadFault (S.faults src.old) (S.faults src.new) result }
 {
-    if take_record(alloc, src, seen, guest, differs)? != END {
+    F::goes_on();
+    if take_record::<S, F>(alloc, src, seen, guest, differs)? != END {
         return Ok(false);
     }
-    match whole(alloc, guest) {
+    match F::fault_at_end(alloc, guest) {
         Ok(()) => Ok(true),
         Err(WholeAnswer::Fault(cause)) => Err(Stop::Refused(cause)),
         Err(WholeAnswer::Memory) => Err(Stop::Memory),
     }
 }
 
-/// Reads records up to the one that ends the image.
-fn read_records<S: Source>(
+/// Takes records up to the one that ends the image.
+fn take_records<S: Source, F: KeepsFrames>(
     alloc: Global,
     src: &mut S,
     version: u32,
     kind: Kind,
-) -> Result<Reading, Stop<(Place, Cause)>>
-    ensures read { AgreesWithJudging IsReading (S.left src.old) (S.left src.new) (records_at (opening_of version kind)) result }
-    ensures streamed { IfOk result (λ reading. IsStreamedBare reading.guest) }
+) -> Result<TakenImage, Stop<(Place, Cause)>>
+    ensures read { AgreesWithJudging (IsTaken F.kept) (S.left src.old) (S.left src.new) (records_at (opening_of version kind)) result }
+    ensures begun { IfOk result (λ taken. IsBegun taken.guest) }
+    ensures faultless { IfOk result (λ taken. IsOfFaultless F.kept taken.guest) }
     ensures faults { RisesOnReadFault (S.faults src.old) (S.faults src.new) result }
 {
+    F::goes_on();
     let mut seen = RecordsSeen::new(version, kind);
     let mut guest = Guest::new(alloc, kind);
     let mut differs = None;
     'records: loop {
         let number = seen.records;
-        match read_next(alloc, src, &mut seen, &mut guest, &mut differs) {
+        match read_next::<S, F>(alloc, src, &mut seen, &mut guest, &mut differs) {
             Ok(over) => {
                 if over {
-                    blank(&mut guest);
-                    let records = seen.records;
-                    return Ok(Reading {
+                    return Ok(TakenImage {
                         guest,
                         version,
-                        records,
+                        records: seen.records,
                         differs,
                     });
                 }
@@ -211,24 +227,57 @@ pub fn read_opening<S: Source>(src: &mut S) -> Result<(u32, Kind), Stop<(Place, 
     read_headers(src)
 }
 
-/// Takes the headers and the records.
-fn read_parts<S: Source>(alloc: Global, src: &mut S) -> Result<Reading, Stop<(Place, Cause)>>
-    ensures read { AgreesWithJudging IsReading (S.left src.old) (S.left src.new) image_at result }
-    ensures streamed { IfOk result (λ reading. IsStreamedBare reading.guest) }
+/// Takes an image from its marker to its END record, and leaves what follows it unread. What is kept of the guest is whole,
+/// and not in its blank form.
+pub fn take_image<S: Source, F: KeepsFrames>(
+    alloc: Global,
+    src: &mut S,
+) -> Result<TakenImage, Stop<(Place, Cause)>>
+    ensures read { AgreesWithJudging (IsTaken F.kept) (S.left src.old) (S.left src.new) image_at result }
+    ensures begun { IfOk result (λ taken. IsBegun taken.guest) }
+    ensures faultless { IfOk result (λ taken. IsOfFaultless F.kept taken.guest) }
     ensures faults { RisesOnReadFault (S.faults src.old) (S.faults src.new) result }
 {
     let (version, kind) = read_opening(src)?;
-    read_records(alloc, src, version, kind)
+    take_records::<S, F>(alloc, src, version, kind)
 }
 
-/// Takes the headers behind the marker, and the records.
-fn read_rest<S: Source>(alloc: Global, src: &mut S) -> Result<Reading, Stop<(Place, Cause)>>
-    ensures read { AgreesWithJudging IsReading (S.left src.old) (S.left src.new) image_behind result }
-    ensures streamed { IfOk result (λ reading. IsStreamedBare reading.guest) }
+/// Takes an image whose marker was taken before and found right; the same else.
+pub fn take_image_rest<S: Source, F: KeepsFrames>(
+    alloc: Global,
+    src: &mut S,
+) -> Result<TakenImage, Stop<(Place, Cause)>>
+    ensures read { AgreesWithJudging (IsTaken F.kept) (S.left src.old) (S.left src.new) image_behind result }
+    ensures begun { IfOk result (λ taken. IsBegun taken.guest) }
+    ensures faultless { IfOk result (λ taken. IsOfFaultless F.kept taken.guest) }
     ensures faults { RisesOnReadFault (S.faults src.old) (S.faults src.new) result }
 {
     let (version, kind) = read_headers(src)?;
-    read_records(alloc, src, version, kind)
+    take_records::<S, F>(alloc, src, version, kind)
+}
+
+/// The reading of an image that was taken with all frames.
+fn reading_of(taken: Result<TakenImage, Stop<(Place, Cause)>>) -> Result<Reading, StreamAnswer>
+    requires begun { IfOk taken (λ image. IsBegun image.guest) }
+    requires faultless { IfOk taken (λ image. IsOfFaultless (λ frames. frames) image.guest) }
+    ensures read { (before after : Option (List ℕ)) (judging : List ℕ → Judged (Place × Cause) ImageOf) →
+        AgreesWithJudging (IsTaken (λ frames. frames)) before after judging taken → AgreesWithJudging IsReading before after judging (or_stop result) }
+    ensures streamed { IfOk result (λ reading. IsStreamedBare reading.guest) }
+    ensures faults { (before after : ℕ) → RisesOnReadFault before after taken → RisesOnReadFault before after (or_stop result) }
+{
+    match taken {
+        Ok(image) => {
+            let mut guest = image.guest;
+            blank(&mut guest);
+            Ok(Reading {
+                guest,
+                version: image.version,
+                records: image.records,
+                differs: image.differs,
+            })
+        }
+        Err(stop) => Err(answer_for(stop)),
+    }
 }
 
 /// Reads an image from its marker to its END record, and leaves what follows it unread. The guest is in its blank form.
@@ -239,10 +288,7 @@ pub fn read_image<S: Source>(alloc: Global, src: &mut S) -> Result<Reading, Stre
     ensures streamed { IfOk result (λ reading. IsStreamedBare reading.guest) }
     ensures faults { RisesOnReadFault (S.faults src.old) (S.faults src.new) (or_stop result) }
 {
-    match read_parts(alloc, src) {
-        Ok(reading) => Ok(reading),
-        Err(stop) => Err(answer_for(stop)),
-    }
+    reading_of(take_image::<S, AllFrames>(alloc, src))
 }
 
 /// Reads an image whose marker was taken before and found right; the same else.
@@ -251,8 +297,5 @@ pub fn read_image_rest<S: Source>(alloc: Global, src: &mut S) -> Result<Reading,
     ensures streamed { IfOk result (λ reading. IsStreamedBare reading.guest) }
     ensures faults { RisesOnReadFault (S.faults src.old) (S.faults src.new) (or_stop result) }
 {
-    match read_rest(alloc, src) {
-        Ok(reading) => Ok(reading),
-        Err(stop) => Err(answer_for(stop)),
-    }
+    reading_of(take_image_rest::<S, AllFrames>(alloc, src))
 }

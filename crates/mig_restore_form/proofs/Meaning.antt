@@ -1,13 +1,13 @@
 -- What one more entry, or one more record, means; and that of each frame number and of each part the last decides.
 use Rattle.mig_restore_form.proofs.Common.{is_ended, types_of, map-append, ◌||◌, ◌≡◌, ℕ, List, [], ◌∷◌, ◌++◌, Bool, true, false, cond, not, nat_eq, Option, Some, None, refl, sym, ap, ◌∙◌, arith, unwrap_or, common_steps, Kind, PageType, GuestOf, part_cmp, Part, PartMap, put_part, put_parts, leb-false, nat_le, ◌≤◌, ◌≢◌, ◌⊎◌, inl, inr, subst, All, p2m_key, set_p2m, word_pfn, type_in_word, FrameEntry, StreamRecord, Content, Nothing, Frames, Sets, Lists, Checks, code_number, type_in_guest, put_entry, put_entries, put_content, empty_guest, entries_in, entries_of, frame_in, last_bytes, parts_say_of_part, policy_says_of_part, says_of_part, leb-true, All-nil, All-cons, option_or, nat_cmp, eq_by_cmp, nat_cmp_total, PartKey, listed_over, is_policy, FrameMap, FrameOf, framed, tied, part_total, part_exact, blank, list_any-append, option_and_then, fold, Contains, list_any, replace_code, le_refl, All-append, Contains-append_left, Contains-append_right, fold-append, greater}
-use Rattle.mig_restore_form.specs.Mean.{ends_in, ends_of, put_record, last_entry, same_key, last_said, sent, mean}
+use Rattle.mig_restore_form.specs.Mean.{ends_in, ends_of, put_entries_by, put_record, last_entry, same_key, last_said, sent, mean}
 use Rattle.std.specs.FinMap as fin
 
-pub one_more_entry : (g h k : GuestOf) (es : List FrameEntry) (e : FrameEntry) → h ≡ record g { frames = put_entries g.kind g.frames es } → k ≡ record h { frames = put_entry h.kind h.frames e }
-    → k ≡ record g { frames = put_entries g.kind g.frames (es ++ e ∷ []) }
-one_more_entry g h k es e before now =
-    now ∙ ap (λ (w : GuestOf). record w { frames = put_entry w.kind w.frames e }) before
-    ∙ ap (λ (f : FrameMap). record g { frames = f }) (sym (fold-append (put_entry g.kind) g.frames es (e ∷ [])))
+pub one_more_entry : (put : Kind → FrameMap → FrameEntry → FrameMap) (g h k : GuestOf) (es : List FrameEntry) (e : FrameEntry) → h ≡ record g { frames = put_entries_by put g.kind g.frames es } → k ≡ record h { frames = put h.kind h.frames e }
+    → k ≡ record g { frames = put_entries_by put g.kind g.frames (es ++ e ∷ []) }
+one_more_entry put g h k es e before now =
+    now ∙ ap (λ (w : GuestOf). record w { frames = put w.kind w.frames e }) before
+    ∙ ap (λ (f : FrameMap). record g { frames = f }) (sym (fold-append (put g.kind) g.frames es (e ∷ [])))
 
 -- a frame that is set as a word says
 pub entry_set : (g n : GuestOf) (w pfn : ℕ) (meant : PageType) (page : Option (List ℕ)) → pfn ≡ word_pfn w → meant ≡ type_in_guest g.kind (type_in_word w) → n ≡ record g { frames = framed g.frames pfn meant page }

@@ -17,15 +17,23 @@ type_in_guest Hvm t = if type_has_data t then Notab else t
 abbrev pub put_entry : Kind → FrameMap → FrameEntry → FrameMap
 put_entry kind frames e = framed frames e.pfn (type_in_guest kind e.type) e.page
 
+-- what entries make of frames, one after another, where this is what an entry makes of them
+abbrev pub put_entries_by : (Kind → FrameMap → FrameEntry → FrameMap) → Kind → FrameMap → List FrameEntry → FrameMap
+put_entries_by put kind frames es = fold (put kind) frames es
+
 abbrev pub put_entries : Kind → FrameMap → List FrameEntry → FrameMap
-put_entries kind frames es = fold (put_entry kind) frames es
+put_entries kind frames es = put_entries_by put_entry kind frames es
+
+-- what a content makes of a guest, where this is what an entry makes of frames
+abbrev pub put_content_by : (Kind → FrameMap → FrameEntry → FrameMap) → GuestOf → Content → GuestOf
+put_content_by put g Nothing = g
+put_content_by put g (Frames es) = record { kind = g.kind; top = g.top; frames = put_entries_by put g.kind g.frames es; parts = g.parts }
+put_content_by put g (Sets code ps) = record { kind = g.kind; top = g.top; frames = g.frames; parts = set_parts code g.parts ps }
+put_content_by put g (Lists last frames) = set_p2m last frames g
+put_content_by put g (Checks es) = g
 
 abbrev pub put_content : GuestOf → Content → GuestOf
-put_content g Nothing = g
-put_content g (Frames es) = record { kind = g.kind; top = g.top; frames = put_entries g.kind g.frames es; parts = g.parts }
-put_content g (Sets code ps) = record { kind = g.kind; top = g.top; frames = g.frames; parts = set_parts code g.parts ps }
-put_content g (Lists last frames) = set_p2m last frames g
-put_content g (Checks es) = g
+put_content g c = put_content_by put_entry g c
 
 abbrev pub put_record : GuestOf → StreamRecord → GuestOf
 put_record g r = put_content g r.content

@@ -1,4 +1,4 @@
-use Rattle.mig_restore.proofs.Common.{◌≡◌, ◌≤◌, get_or, [], refl, rules, subst, sym, length, take, Ok, put_entries, done, each_step, each_ends, with_places, entry_at, IsGoodWord, AgreesWithJudging, take_all, grows_not, grows_on, one_more_entry, places_len, entry_here, place_within}
+use Rattle.mig_restore.proofs.Common.{◌≡◌, ◌≤◌, get_or, [], refl, rules, subst, sym, length, take, Ok, put_entries_by, done, each_step, each_ends, with_places, entry_at, IsGoodWord, AgreesWithJudging, take_all, grows_not, grows_on, one_more_entry, places_len, entry_here, place_within}
 use Rattle.std.proofs.lemmas.List.Elements.{All-get_or}
 use Rattle.mig_bytes.specs.Judged.{each}
 use Rattle.mig_restore.proofs.Begun.{none_set, one_more_set, set_so_far}
@@ -6,7 +6,7 @@ use Rattle.mig_restore.proofs.body.take_entries.Goals as goal
 
 pub loop-place-init : goal.loop-place-init
 unfolding each
-loop-place-init g c = record { read = done _ _ _ tt [] (λ i. refl) refl; set = none_set c.args.guest.now; grown = grows_not c.args.guest.now; top = refl; quiet = search rules }
+loop-place-init g c = record { read = done _ _ _ tt [] (λ i. refl) refl; set = none_set g.F.KeepsFrames.put c.args.guest.now; grown = grows_not c.args.guest.now; top = refl; quiet = search rules }
 
 pub take_entry-requires : goal.take_entry-requires
 take_entry-requires g c =
@@ -20,14 +20,14 @@ returns-in_err-take_entry-clause-read g c =
     (entry_here _ _ _ _ c.args.guest.now.kind _ c.args.guest.now.top _ c.loop-place.place c.args.list.now c.loop-place.invariant.grown.kind c.loop-place.invariant.top c.loop-place-test.true c.in_err-take_entry.ensures.read) (search rules)
 
 pub returns-in_err-take_entry-clause-err : goal.returns-in_err-take_entry-clause-err
-returns-in_err-take_entry-clause-err g c = set_so_far c.from_residual.result c.args.guest.now c.loop-place.guest _ c.args.list.now c.loop-place.place c.loop-place.invariant.set c.in_err-take_entry.ensures.err
+returns-in_err-take_entry-clause-err g c = set_so_far g.F.KeepsFrames.put c.from_residual.result c.args.guest.now c.loop-place.guest _ c.args.list.now c.loop-place.place c.loop-place.invariant.set c.in_err-take_entry.ensures.err
 
 pub loop-place-preserved : goal.loop-place-preserved
 loop-place-preserved g c = record {
   read = each_step (entry_at c.args.guest.now.kind c.args.guest.now.top) _ _ _ _ _ _ (with_places 0 c.args.list.now) c.loop-place.place (0, 0) tt _ tt (place_within c.loop-place.place c.args.list.now c.loop-place-test.true) c.loop-place.invariant.read
       (entry_here _ _ _ _ c.args.guest.now.kind _ c.args.guest.now.top _ c.loop-place.place c.args.list.now c.loop-place.invariant.grown.kind c.loop-place.invariant.top c.loop-place-test.true c.in_ok-take_entry.ensures.read)
-      (λ es e r q. one_more_entry _ _ _ es e r q);
-  set = one_more_set c.args.guest.now _ _ c.args.list.now c.loop-place.place c.loop-place-test.true c.loop-place.invariant.set c.in_ok-take_entry.ensures.set;
+      (λ es e r q. one_more_entry g.F.KeepsFrames.put _ _ _ es e r q);
+  set = one_more_set g.F.KeepsFrames.put c.args.guest.now _ _ c.args.list.now c.loop-place.place c.loop-place-test.true c.loop-place.invariant.set c.in_ok-take_entry.ensures.set;
   grown = grows_on c.args.guest.now _ _ c.loop-place.invariant.grown c.in_ok-take_entry.ensures.grown;
   top = search rules;
   quiet = search rules;
@@ -37,4 +37,4 @@ pub returns-clause-read : goal.returns-clause-read
 returns-clause-read g c =
     let at_end : length c.args.list.now ≤ c.loop-place.place = search rules in
     let whole : take c.loop-place.place (with_places 0 c.args.list.now) ≡ with_places 0 c.args.list.now = take_all c.loop-place.place (with_places 0 c.args.list.now) (subst (λ n. n ≤ c.loop-place.place) (sym (places_len 0 c.args.list.now)) at_end) in
-    subst (λ ats. AgreesWithJudging {X = Unit {0}} (λ _ es. c.loop-place.guest ≡ record c.args.guest.now { frames = put_entries c.args.guest.now.kind c.args.guest.now.frames es }) (g.S.Source.left c.args.src.now) (g.S.Source.left c.loop-place.src) (each (entry_at c.args.guest.now.kind c.args.guest.now.top) ats) (Ok tt)) whole c.loop-place.invariant.read
+    subst (λ ats. AgreesWithJudging {X = Unit {0}} (λ _ es. c.loop-place.guest ≡ record c.args.guest.now { frames = put_entries_by g.F.KeepsFrames.put c.args.guest.now.kind c.args.guest.now.frames es }) (g.S.Source.left c.args.src.now) (g.S.Source.left c.loop-place.src) (each (entry_at c.args.guest.now.kind c.args.guest.now.top) ats) (Ok tt)) whole c.loop-place.invariant.read

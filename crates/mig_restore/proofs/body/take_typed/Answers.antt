@@ -1,4 +1,4 @@
-use Rattle.mig_restore.proofs.Common.{◌≡◌, ◌∙◌, List, ℕ, Option, Some, Result, ap, sym, subst, Judged, AgreesWithJudging, Stop, Cause, RecordType, code_of_number, PartCode, Content, code_of_type, has_length, same_kinds, sets_no_emulator}
+use Rattle.mig_restore.proofs.Common.{rules, ◌≡◌, ◌∙◌, List, ℕ, Option, Some, Result, ap, sym, subst, Judged, AgreesWithJudging, Stop, Cause, RecordType, code_of_number, PartCode, Content, code_of_type, has_length, same_kinds, sets_no_emulator}
 use Rattle.mig_restore_form.proofs.Bodies.{coded_is, shaped_code}
 use Rattle.mig_restore.proofs.body.take_typed.Goals as goal
 
@@ -24,7 +24,10 @@ returns-in-Some g c =
     let kind = c.args.guest.now.kind in let top = c.args.guest.now.top in
     let is = found c.args.this c.in-Some.code c.number.result c.from_number.result (ap code_of_number (sym c.number.ensures)) c.from_number.ensures c.in-Some.is in
     record {
-      read = as_coded _ _ _ _ _ _ (λ i. coded_is kind top c.args.this c.in-Some.code c.args.len i is (shaped_code c.args.this c.in-Some.code is c.in_default.not-X86PvP2mFrames)) c.take_sets.ensures.read;
+      read = as_coded _ _ _ _ _ _ (λ i. coded_is kind top c.args.this c.in-Some.code c.args.len i is (shaped_code c.args.this c.in-Some.code is c.in_default.not-X86PvP2mFrames)) (c.take_sets.ensures.read g.F.KeepsFrames.put);
       grown = c.take_sets.ensures.grown;
       faults = c.take_sets.ensures.faults;
     }
+
+pub returns-in-X86PvP2mFrames-clause-read : goal.returns-in-X86PvP2mFrames-clause-read
+returns-in-X86PvP2mFrames-clause-read g c = let told = c.take_p2m.ensures.read g.F.KeepsFrames.put in search rules

@@ -10,4 +10,4 @@ returns-clause-read g c =
       | else-verified-via-else-verified w ↦ λ is. let no : true ≡ false = sym is ∙ w.if-verified.false in absurd (cc)
     ] in
     judged_too _ _ _ _ (body_at c.args.guest.now.kind c.args.guest.now.top c.args.head.kind c.args.head.len) _ 0
-    (λ i rest a judged put. put_anywhere c.args.verified c.args.guest.now c.take_body.new.guest c.args.head.kind a other (body_said c.args.head.kind c.args.guest.now.kind c.args.guest.now.top c.args.head.len i a rest judged) put) c.in_ok-take_body.ensures.read
+    (λ i rest a judged put. put_anywhere g.F.KeepsFrames.put c.args.verified c.args.guest.now c.take_body.new.guest c.args.head.kind a other (body_said c.args.head.kind c.args.guest.now.kind c.args.guest.now.top c.args.head.len i a rest judged) put) c.in_ok-take_body.ensures.read

@@ -1,44 +1,41 @@
-use Rattle.mig_restore.proofs.Common.{◌≡◌, ℕ, List, [], ◌∷◌, ◌++◌, true, false, nat_eq, rules, ap, sym, subst, ◌∙◌, eq-eqb, ne_eqb, map-append, done, then_reads, stopped, refused, GuestOf, fault_of_guest, put_record, StreamRecord, types_of, Opening, before, IsSeen, RecordsSeen, record_at, next_at, asks, behind_record, not_last, last_fine, last_faulty, sent_kind, one_more_record}
+use Rattle.mig_restore.proofs.Common.{◌≡◌, ℕ, List, [], ◌∷◌, ◌++◌, true, false, nat_eq, rules, ap, sym, subst, ◌∙◌, eq-eqb, ne_eqb, map-append, done, then_reads, stopped, refused, FrameMap, kept_guest, GuestOf, StreamRecord, types_of, Opening, before, IsSeen, RecordsSeen, record_at, next_at, asks, behind_record, not_last, last_fine, last_faulty, sent_kind}
 use Rattle.mig_restore_form.specs.Mean.{sent}
+use Rattle.mig_restore.proofs.Kept.{kept_more}
 use Rattle.mig_restore.proofs.read.read_next.Goals as goal
 
 seen_more : (seen : RecordsSeen) (o : Opening) (records : List StreamRecord) (r : StreamRecord) (type : ℕ) → type ≡ r.type → IsSeen seen o (types_of records ++ type ∷ []) → IsSeen seen o (types_of (records ++ r ∷ []))
 seen_more seen o records r type is h = subst (IsSeen seen o) (ap (λ t. types_of records ++ t ∷ []) is ∙ sym (map-append (λ (x : StreamRecord). x.type) records (r ∷ []))) h
 
-guest_kind : (g : GuestOf) (o : Opening) (records : List StreamRecord) → g ≡ sent o.kind records → g.kind ≡ o.kind
-guest_kind g o records is = ap (λ (x : GuestOf). x.kind) is ∙ sent_kind o.kind records
+guest_kind : (kept : FrameMap → FrameMap) (g : GuestOf) (o : Opening) (records : List StreamRecord) → g ≡ kept_guest kept (sent o.kind records) → g.kind ≡ o.kind
+guest_kind kept g o records is = ap (λ (x : GuestOf). x.kind) is ∙ sent_kind o.kind records
 
-guest_top : (g : GuestOf) (o : Opening) (records : List StreamRecord) → g ≡ sent o.kind records → g.top ≡ (before o records).top
-guest_top g o records is = ap (λ (x : GuestOf). x.top) is
-
--- the guest that the records up to this one mean
-type_in_guest : (g h : GuestOf) (o : Opening) (records : List StreamRecord) (r : StreamRecord) → g ≡ sent o.kind records → h ≡ put_record g r → h ≡ sent o.kind (records ++ r ∷ [])
-type_in_guest g h o records r is now = now ∙ ap (λ (x : GuestOf). put_record x r) is ∙ sym (one_more_record o.kind records r)
+guest_top : (kept : FrameMap → FrameMap) (g : GuestOf) (o : Opening) (records : List StreamRecord) → g ≡ kept_guest kept (sent o.kind records) → g.top ≡ (before o records).top
+guest_top kept g o records is = ap (λ (x : GuestOf). x.top) is
 
 pub returns-in_err-take_record-clause-read : goal.returns-in_err-take_record-clause-read
 returns-in_err-take_record-clause-read g c = λ o records seen guest verified.
     stopped _ _ _ _ (record_at (before o records)) (next_at o records) (behind_record o records) c.in_err-take_record.field-0.0 c.from_residual.result (asks o records) (search rules)
-    (c.in_err-take_record.ensures.read (before o records) seen (guest_kind _ o records guest) (guest_top _ o records guest) verified)
+    (c.in_err-take_record.ensures.read (before o records) seen (guest_kind g.F.KeepsFrames.kept _ o records guest) (guest_top g.F.KeepsFrames.kept _ o records guest) verified)
 
 pub returns-then-branch-ne-END-clause-read : goal.returns-then-branch-ne-END-clause-read
 returns-then-branch-ne-END-clause-read g c = λ o records seen guest verified.
     then_reads _ _ _ _ _ (record_at (before o records)) (next_at o records) (behind_record o records) c.in_ok-take_record.field-0 _ (asks o records)
-    (c.in_ok-take_record.ensures.read (before o records) seen (guest_kind _ o records guest) (guest_top _ o records guest) verified)
+    (c.in_ok-take_record.ensures.read (before o records) seen (guest_kind g.F.KeepsFrames.kept _ o records guest) (guest_top g.F.KeepsFrames.kept _ o records guest) verified)
     (λ r told. let goes : nat_eq r.type 0 ≡ false = ne_eqb r.type 0 (λ is. c.if-branch-ne-END.true (told.1 ∙ is)) in
-    done _ _ (λ i. behind_record o records (r, i)) false r (not_last o records r goes) (told.0, seen_more _ o records r _ told.1 (c.in_ok-take_record.ensures.seen o (types_of records) seen), sym goes, told.2))
+    done _ _ (λ i. behind_record o records (r, i)) false r (not_last o records r goes) (kept_more g.F.KeepsFrames.kept g.F.KeepsFrames.put c.goes_on.ensures.entry c.args.guest.now _ o.kind records r guest told.0, seen_more _ o records r _ told.1 (c.in_ok-take_record.ensures.seen o (types_of records) seen), sym goes, told.2))
 
 pub returns-in-Err-Fault-clause-read : goal.returns-in-Err-Fault-clause-read
 returns-in-Err-Fault-clause-read g c = λ o records seen guest verified.
     then_reads _ _ _ _ _ (record_at (before o records)) (next_at o records) (behind_record o records) c.in_ok-take_record.field-0 _ (asks o records)
-    (c.in_ok-take_record.ensures.read (before o records) seen (guest_kind _ o records guest) (guest_top _ o records guest) verified)
+    (c.in_ok-take_record.ensures.read (before o records) seen (guest_kind g.F.KeepsFrames.kept _ o records guest) (guest_top g.F.KeepsFrames.kept _ o records guest) verified)
     (λ r told. refused _ _ (λ i. behind_record o records (r, i)) c.in-Err-Fault.cause
-    (last_faulty o records r c.in-Err-Fault.cause (sym told.1 ∙ c.if-branch-ne-END.false) (ap fault_of_guest (sym (type_in_guest _ _ o records r guest told.0)) ∙ c.in-Err-Fault.ensures.fault c.in-Err-Fault.cause (search rules))))
+    (last_faulty o records r c.in-Err-Fault.cause (sym told.1 ∙ c.if-branch-ne-END.false) (c.in-Err-Fault.ensures.fault (sent o.kind (records ++ r ∷ [])) c.in-Err-Fault.cause (kept_more g.F.KeepsFrames.kept g.F.KeepsFrames.put c.goes_on.ensures.entry c.args.guest.now _ o.kind records r guest told.0) (search rules))))
 
 pub returns-in-Ok-clause-read : goal.returns-in-Ok-clause-read
 returns-in-Ok-clause-read g c = λ o records seen guest verified.
     then_reads _ _ _ _ _ (record_at (before o records)) (next_at o records) (behind_record o records) c.in_ok-take_record.field-0 _ (asks o records)
-    (c.in_ok-take_record.ensures.read (before o records) seen (guest_kind _ o records guest) (guest_top _ o records guest) verified)
+    (c.in_ok-take_record.ensures.read (before o records) seen (guest_kind g.F.KeepsFrames.kept _ o records guest) (guest_top g.F.KeepsFrames.kept _ o records guest) verified)
     (λ r told. let zero : r.type ≡ 0 = sym told.1 ∙ c.if-branch-ne-END.false in
     done _ _ (λ i. behind_record o records (r, i)) true r
-    (last_fine o records r zero (ap fault_of_guest (sym (type_in_guest _ _ o records r guest told.0)) ∙ c.in-Ok.ensures.ok))
-    (told.0, seen_more _ o records r _ told.1 (c.in_ok-take_record.ensures.seen o (types_of records) seen), sym (eq-eqb r.type 0 zero), told.2))
+    (last_fine o records r zero (c.in-Ok.ensures.ok (sent o.kind (records ++ r ∷ [])) (kept_more g.F.KeepsFrames.kept g.F.KeepsFrames.put c.goes_on.ensures.entry c.args.guest.now _ o.kind records r guest told.0)))
+    (kept_more g.F.KeepsFrames.kept g.F.KeepsFrames.put c.goes_on.ensures.entry c.args.guest.now _ o.kind records r guest told.0, seen_more _ o records r _ told.1 (c.in_ok-take_record.ensures.seen o (types_of records) seen), sym (eq-eqb r.type 0 zero), told.2))

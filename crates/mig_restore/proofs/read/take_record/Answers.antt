@@ -26,4 +26,4 @@ returns-clause-read g c = λ b seen kind top verified.
     (λ head is. then_reads _ _ _ _ _ (body_at c.args.guest.now.kind c.args.guest.now.top c.in_ok-head.head.kind c.in_ok-head.head.len) (λ i. behind_head b (head, i)) (behind_body b head) _ _
     (goes_on b head c.in_ok-head.head c.args.guest.now.kind c.args.guest.now.top is kind top) c.in_ok-differ.ensures.read
     (λ r told. mapped _ _ _ _ (part Truncated (padding_len c.in_ok-head.head.len)) (λ i. behind_body b head (r, i)) (λ _. record { type = c.in_ok-head.head.kind; content = placed_content (is_verified b.types) r }) _ _
-    (padded b head c.in_ok-head.head r is) c.in_ok-take_padding.ensures.read (λ _ _. let is = record_told c.args.guest.now c.take_placed.new.guest c.is_some.result (is_verified b.types) c.args.differs.now _ _ c.in_ok-head.head.kind r (c.is_some.ensures ∙ verified) told (search rules) in (is.0, refl, is.1))))
+    (padded b head c.in_ok-head.head r is) c.in_ok-take_padding.ensures.read (λ _ _. let is = record_told g.F.KeepsFrames.put c.args.guest.now c.take_placed.new.guest c.is_some.result (is_verified b.types) c.args.differs.now _ _ c.in_ok-head.head.kind r (c.is_some.ensures ∙ verified) told (search rules) in (is.0, refl, is.1))))

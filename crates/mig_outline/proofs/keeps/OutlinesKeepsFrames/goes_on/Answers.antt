@@ -1,0 +1,14 @@
+use Rattle.mig_outline.proofs.Changed.{changed_empty}
+use Rattle.mig_outline.proofs.Outline.{entry_on, outline_len}
+use Rattle.mig_outline.specs.Outline.{outline_frame}
+use Rattle.mig_pvtables.proofs.Common.{nat_cmp_total, nat_cmp-IsAntisymmetric}
+use Rattle.mig_outline.proofs.keeps.OutlinesKeepsFrames.goes_on.Goals as goal
+
+pub returns-clause-entry : goal.returns-clause-entry
+returns-clause-entry c = entry_on
+
+pub returns-clause-none : goal.returns-clause-none
+returns-clause-none c = changed_empty nat_cmp_total nat_cmp-IsAntisymmetric outline_frame
+
+pub returns-clause-count : goal.returns-clause-count
+returns-clause-count c = outline_len
