@@ -1,6 +1,6 @@
 -- An accepted guest is whole, with the parts of its device model: each chunk that is spelled leaves the guest on its way and the
 -- emulators well formed, and the tail sets the context.
-use Rattle.mig_legacy.proofs.Common.{◌≡◌, ℕ, ◌<◌, true, false, List, [], ◌++◌, length, Option, Some, None, refl, sym, ap, subst, ◌∙◌, arith, length-append, All-append, fold-append, AreBytes, Hvm, Pv, GuestOf, width_of, IsStreamed, guest_done, context_kept, EmulatorsOf, emulators_of, put_libxl_content, no_emulators, AreEmulators, IsStreamedBare, GrewByRecord, IsBegun, sent, put_record, empty_guest, sent_kind, words, page_data_words, ChunkKind, End, LegacyContent, LegacyChunk, LegacyTail, Nothing, param_key, tsc_key, store_records, image_records, tail_records, device_records, guest_without, device_model, is_legacy_ended, mean_legacy, put_in_guest, put_in_emulators, put_tail, put_device, HasLegacyContent, StoreFits, FollowsLegacy, IsTail, IsDevice, AcceptedLegacy, blank, IsOfBytes, signature, IsFew, bytes_front, bytes_back, none_yet, IsWhole, empty_begun, grows_not}
+use Rattle.mig_legacy.proofs.Common.{◌≡◌, ℕ, ◌<◌, true, false, List, [], ◌++◌, length, Option, Some, None, refl, sym, ap, subst, ◌∙◌, arith, length-append, All-append, fold-append, AreBytes, Hvm, Pv, GuestOf, width_of, IsStreamed, guest_done, context_kept, EmulatorsOf, emulators_of, put_libxl_content, no_emulators, AreEmulators, IsStreamedBare, GrewByRecord, IsBegun, sent, put_record, empty_guest, sent_kind, words, page_data_words, ChunkKind, End, LegacyContent, LegacyChunk, LegacyTail, Nothing, param_key, tsc_key, store_records, image_records, tail_records, device_records, guest_without, device_model, is_legacy_ended, mean_legacy, put_entry, put_in_guest, put_in_emulators, put_tail, put_device, HasLegacyContent, StoreFits, FollowsLegacy, IsTail, IsDevice, AcceptedLegacy, blank, IsOfBytes, signature, IsFew, bytes_front, bytes_back, none_yet, IsWhole, empty_begun, grows_not}
 use Rattle.mig_bytes.specs.Sequences.{Spells}
 use Rattle.mig_bytes.specs.Sequences.Spells.{no_part, one_more}
 use Rattle.mig_legacy.specs.Chunks.{IsWithinLimits}
@@ -23,7 +23,7 @@ IsByte b = b < 256
 
 -- ---- chunks
 
-guest_kept : (g : GuestOf) → g.kind ≡ Hvm → g.top ≡ 0 → (kind : ChunkKind) (body : List ℕ) (c : LegacyContent) → HasLegacyContent kind body c → IsWithinLimits kind → AreBytes body → GrewByRecord g (put_in_guest g c)
+guest_kept : (g : GuestOf) → g.kind ≡ Hvm → g.top ≡ 0 → (kind : ChunkKind) (body : List ℕ) (c : LegacyContent) → HasLegacyContent kind body c → IsWithinLimits kind → AreBytes body → GrewByRecord g (put_in_guest put_entry g c)
 guest_kept g hvm zero _ _ _ ends limits all = grows_not g
 guest_kept g hvm zero _ _ _ (batch n body es is) limits all =
     let ws = words n is.words_bytes in
@@ -89,7 +89,7 @@ ended_few : (bytes : List ℕ) (chunks : List LegacyChunk) → Spells FollowsLeg
 ended_few _ _ no_part ended = let no : false ≡ true = ended in cc
 ended_few _ _ (one_more bytes chunks c text before f) ended =
     let last = end_is c.kind (sym (ended_more chunks c f.not_ended) ∙ ended) in
-    let same = sent_more chunks c ∙ ap (put_in_guest (sent Hvm (image_records chunks))) (end_says c.kind f.is.body c.content f.is.says last) in
+    let same = sent_more chunks c ∙ ap (put_in_guest put_entry (sent Hvm (image_records chunks))) (end_says c.kind f.is.body c.content f.is.says last) in
     subst (λ (g : GuestOf). IsFew g.frames) (sym same) (f.complete last).few
 
 -- ---- the tail, and the device model

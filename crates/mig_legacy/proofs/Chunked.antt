@@ -1,7 +1,10 @@
 -- A chunk as the reader takes it: its type, its body, and what was kept once it is counted.
 use Rattle.std.proofs.Math.Bool.{or-false}
-use Rattle.mig_legacy.proofs.Common.{◌≡◌, ℕ, ◌+◌, List, [], ◌∷◌, ◌++◌, refl, sym, ap, ◌∙◌, length-append, ◌||◌, flat_map-append, list_any-append, fold-append, Judged, ◌>>=◌, Passes, Hvm, LegacyCause, sent, put_record, empty_guest, put_libxl_content, no_emulators, emulators_of, judged_as, ◌>>>◌, Given, type_form, content_form, chunk_form, LegacyContent, LegacyChunk, is_value_of, has_value, records_in, pair_records, image_records, store_records, put_in_guest, put_in_emulators, IsLegacySeen, TakesLegacy, ChunkKind, ChunksSeen, then_is, then_judged}
+use Rattle.mig_legacy.proofs.Common.{◌≡◌, ℕ, ◌+◌, List, [], ◌∷◌, ◌++◌, refl, sym, ap, ◌∙◌, length-append, ◌||◌, flat_map-append, list_any-append, fold-append, Judged, ◌>>=◌, Passes, Hvm, Kind, LegacyCause, FrameEntry, FrameMap, GuestOf, EntryStep, kept_guest, put_entry, sent, put_record, empty_guest, put_libxl_content, no_emulators, emulators_of, judged_as, ◌>>>◌, Given, type_form, content_form, chunk_form, LegacyContent, Nothing, Frames, Value, Clock, Pairs, LegacyChunk, is_value_of, has_value, records_in, pair_records, image_records, store_records, put_in_guest, put_in_emulators, IsLegacySeen, TakesLegacy, ChunkKind, ChunksSeen, then_is, then_judged}
+use Rattle.mig_restore.proofs.Kept.{content_on}
+use Rattle.mig_restore_form.specs.Record.Content.{Frames as SentFrames}
 use Rattle.std.proofs.Common.{fold, append-nil}
+use Rattle.std.specs.FinMap as maps
 
 abbrev pub chunk_of : ChunkKind → LegacyContent → LegacyChunk
 chunk_of kind content = record { kind = kind; content = content }
@@ -29,7 +32,7 @@ store_more : (chunks : List LegacyChunk) (c : LegacyChunk) → store_records (ch
 store_more chunks c = flat_map-append (λ (x : LegacyChunk). pair_records x.content) chunks (c ∷ []) ∙ ap (λ l. store_records chunks ++ l) (append-nil (pair_records c.content))
 
 -- the guest that the chunks send, and the emulators that they tell
-pub sent_more : (chunks : List LegacyChunk) (c : LegacyChunk) → sent Hvm (image_records (chunks ++ c ∷ [])) ≡ put_in_guest (sent Hvm (image_records chunks)) c.content
+pub sent_more : (chunks : List LegacyChunk) (c : LegacyChunk) → sent Hvm (image_records (chunks ++ c ∷ [])) ≡ put_in_guest put_entry (sent Hvm (image_records chunks)) c.content
 unfolding sent
 sent_more chunks c = ap (fold put_record (empty_guest Hvm)) (image_more chunks c) ∙ fold-append put_record (empty_guest Hvm) (image_records chunks) (records_in c.content)
 
@@ -49,13 +52,24 @@ pub record Counts (mid new : ChunksSeen) (kind : ChunkKind) : Type 0 where
   pub requests : new.requests ≡ (mid.requests || is_value_of 32 kind)
   pub buffered : new.buffered ≡ (mid.buffered || is_value_of 33 kind)
 
-pub seen_more : (old mid new : ChunksSeen) (chunks : List LegacyChunk) (kind : ChunkKind) (content : LegacyContent) → IsLegacySeen old chunks → TakesLegacy old mid content → Counts mid new kind → IsLegacySeen new (chunks ++ chunk_of kind content ∷ [])
-seen_more old mid new chunks kind content seen takes counts =
-    let c = chunk_of kind content in
-    record {
-      count = counts.chunks ∙ ap (λ n. n + 1) (takes.chunks ∙ seen.count) ∙ sym (length-append chunks (c ∷ []));
-      guest = counts.guest ∙ takes.guest ∙ ap (λ g. put_in_guest g content) seen.guest ∙ sym (sent_more chunks c);
-      emulators = counts.emulators ∙ takes.emulators ∙ ap (λ e. put_in_emulators e content) seen.emulators ∙ sym (told_more chunks c);
-      requests = counts.requests ∙ ap (λ b. b || is_value_of 32 kind) (takes.requests ∙ seen.requests) ∙ sym (value_more 32 chunks c);
-      buffered = counts.buffered ∙ ap (λ b. b || is_value_of 33 kind) (takes.buffered ∙ seen.buffered) ∙ sym (value_more 33 chunks c);
-    }
+module _ (kept : FrameMap → FrameMap) (put : EntryStep) (entry : (kind : Kind) (frames : FrameMap) (e : FrameEntry) → put kind (kept frames) e ≡ kept (put_entry kind frames e)) (same_count : (frames : FrameMap) → maps.len (kept frames) ≡ maps.len frames) where
+  -- what is kept of a guest goes on as the guest does
+  in_guest_on : (g : GuestOf) (c : LegacyContent) → put_in_guest put (kept_guest kept g) c ≡ kept_guest kept (put_in_guest put_entry g c)
+  in_guest_on g Nothing = refl
+  in_guest_on g (Frames es) = content_on kept put entry g (SentFrames es)
+  in_guest_on g (Value index value) = refl
+  in_guest_on g (Clock bytes) = refl
+  in_guest_on g (Pairs ps) = refl
+
+  pub seen_more : (old mid new : ChunksSeen) (chunks : List LegacyChunk) (kind : ChunkKind) (content : LegacyContent) → IsLegacySeen kept old chunks → TakesLegacy put old mid content → Counts mid new kind → IsLegacySeen kept new (chunks ++ chunk_of kind content ∷ [])
+  seen_more old mid new chunks kind content seen takes counts =
+      let c = chunk_of kind content in
+      let guest = counts.guest ∙ takes.guest ∙ ap (λ g. put_in_guest put g content) seen.guest ∙ in_guest_on (sent Hvm (image_records chunks)) content ∙ ap (kept_guest kept) (sym (sent_more chunks c)) in
+      record {
+        count = counts.chunks ∙ ap (λ n. n + 1) (takes.chunks ∙ seen.count) ∙ sym (length-append chunks (c ∷ []));
+        guest = guest;
+        many = ap (λ (g : GuestOf). maps.len g.frames) guest ∙ same_count (sent Hvm (image_records (chunks ++ c ∷ []))).frames;
+        emulators = counts.emulators ∙ takes.emulators ∙ ap (λ e. put_in_emulators e content) seen.emulators ∙ sym (told_more chunks c);
+        requests = counts.requests ∙ ap (λ b. b || is_value_of 32 kind) (takes.requests ∙ seen.requests) ∙ sym (value_more 32 chunks c);
+        buffered = counts.buffered ∙ ap (λ b. b || is_value_of 33 kind) (takes.buffered ∙ seen.buffered) ∙ sym (value_more 33 chunks c);
+      }

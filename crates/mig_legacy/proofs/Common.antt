@@ -28,6 +28,7 @@ pub use Rattle.mig_headers.proofs.FirstFaults.{no_fault, rows_fine, both_none, n
 pub use Rattle.mig_headers.specs.Contexts.{scan, cut_at}
 pub use Rattle.mig_headers.specs.Pairs.{Pair}
 pub use Rattle.mig_headers.specs.declared.fault.ContextFault.{ContextFault}
+pub use Rattle.mig_guest.specs.Frames.{FrameMap}
 pub use Rattle.mig_headers.specs.declared.kind.Kind.{Kind}
 pub use Rattle.mig_headers.specs.declared.kind.Kind.TheVariants.{Hvm, Pv}
 pub use Rattle.mig_headers.specs.declared.legacy_fault.LegacyCause.{LegacyCause}
@@ -45,7 +46,8 @@ unfoldable pub use Rattle.mig_legacy.specs.Legacy.{mean_legacy}
 pub use Rattle.mig_legacy.specs.Legacy.{LegacyContent, LegacyChunk, LegacyTail, LegacyStream, param_key, records_in, tail_records, image_records, guest_without, tsc_key, device_records, store_records, is_end, is_legacy_ended, store_key, device_key, pair_records, device_model, is_value_of, has_value}
 pub use Rattle.mig_legacy.specs.Legacy.LegacyContent.{Nothing, Frames, Value, Clock, Pairs}
 pub use Rattle.mig_legacy.specs.Meaning.{batch_entries, entries_of_chunks, parts_in, parts_of_chunks, parts_of_tail, parts_told, tail_value, value_in, last_value, toolstack_pairs, pairs_of_chunks, store_of}
-pub use Rattle.mig_legacy.specs.Seen.{IsLegacyBegun, IsLegacySeen, TakesLegacy, cut_short, put_device, put_in_emulators, put_in_guest, put_tail}
+pub use Rattle.mig_restore.specs.Kept.{EntryStep, kept_guest}
+pub use Rattle.mig_legacy.specs.Seen.{IsLegacyBegun, IsLegacySeen, IsLegacyTaken, TakesLegacy, cut_short, put_device, put_in_emulators, put_in_guest, put_tail}
 pub use Rattle.mig_legacy.specs.Spelled.{IsCounted, IsLegacyWord, IsLegacyBatch, FollowsLegacy, IsLegacy, AcceptedLegacy, IsStart, IsTail, IsDevice, IsLegacyComplete, HasLegacyContent, StoreFits}
 unfoldable pub use Rattle.mig_legacy.specs.Stream.{device_at, legacy_at}
 pub use Rattle.mig_legacy.specs.Stream.{chunks_at, placed_chunk, IsLegacyRefused}
@@ -71,7 +73,7 @@ pub use Rattle.mig_records.specs.Words.{first_place, first_word, words}
 pub use Rattle.mig_restore_form.proofs.Meaning.{last_entry_is, parts_got, sent_kind, part_ties}
 pub use Rattle.mig_restore_form.specs.Judging.{entry_at, fault_of_level, fault_of_page, page_at, type_in_word, with_places}
 unfoldable pub use Rattle.mig_restore_form.specs.Mean.{sent, mean}
-pub use Rattle.mig_restore_form.specs.Mean.{put_record, empty_guest, entries_of, last_entry, frame_in, same_key, last_bytes, type_in_guest, put_entries, GrewByRecord, IsBegun}
+pub use Rattle.mig_restore_form.specs.Mean.{put_record, empty_guest, entries_of, last_entry, frame_in, same_key, last_bytes, type_in_guest, put_entry, put_entries_by, GrewByRecord, IsBegun}
 pub use Rattle.mig_restore_form.specs.Record.{StreamRecord, FrameEntry}
 pub use Rattle.mig_restore_form.specs.Spelled.{AreEntries, IsGoodWord}
 pub use Rattle.std.proofs.Common.{◌≡◌, ℕ, cond, List, [], ◌∷◌, ◌++◌, Option, Some, None, refl, sym, ap, ◌∙◌, arith, append_assoc, ◌+◌, ◌-◌, ◌<◌, ◌≤◌, Bool, not, length, drop, nat_eq, nat_lt, suc, ◌^◌, true, false, take, get_or, Result, Ok, Err, subst, ◌/◌, length-append, nat_le, eqb-true, ltb-false, ◌*◌, ◌≢◌, length-take-le, length-drop, ◌⊎◌, inl, inr, take-append-drop, drop-drop, eq-eqb, leb-false, rules}

@@ -1,5 +1,5 @@
 -- What is read of a part of a legacy stream, and what a guest keeps of it.
-use Rattle.mig_legacy.proofs.Common.{◌≡◌, ℕ, ◌-◌, List, [], ◌++◌, length, take, drop, refl, ap, ◌∙◌, arith, append_assoc, length-drop, take_all, common_steps, GuestOf, PartKey, clock_of, param_key, tsc_key, Value, Clock, put_in_guest}
+use Rattle.mig_legacy.proofs.Common.{◌≡◌, ℕ, ◌-◌, List, [], ◌++◌, length, take, drop, refl, ap, ◌∙◌, arith, append_assoc, length-drop, take_all, common_steps, GuestOf, PartKey, clock_of, param_key, tsc_key, Value, Clock, EntryStep, put_in_guest}
 use Rattle.std.specs.FinMap as maps
 
 -- the bytes behind the first k
@@ -20,11 +20,11 @@ clock_joined t0 t1 t2 t3 t4 bytes len none is1 is2 is3 is4 =
 pub part_set : (g h : GuestOf) (key other : PartKey) (bytes value : List ℕ) → key ≡ other → bytes ≡ value → h ≡ record g { parts = maps.insert g.parts key bytes } → h ≡ record g { parts = maps.insert g.parts other value }
 part_set g h key other bytes value at is now = now ∙ ap (λ k. record g { parts = maps.insert g.parts k bytes }) at ∙ ap (λ l. record g { parts = maps.insert g.parts other l }) is
 
-pub value_set : (g h : GuestOf) (index : ℕ) (key : PartKey) (bytes value : List ℕ) → key ≡ param_key index → bytes ≡ value → h ≡ record g { parts = maps.insert g.parts key bytes } → h ≡ put_in_guest g (Value index value)
-value_set g h index key bytes value at is now = part_set g h key (param_key index) bytes value at is now
+pub value_set : (put : EntryStep) (g h : GuestOf) (index : ℕ) (key : PartKey) (bytes value : List ℕ) → key ≡ param_key index → bytes ≡ value → h ≡ record g { parts = maps.insert g.parts key bytes } → h ≡ put_in_guest put g (Value index value)
+value_set put g h index key bytes value at is now = part_set g h key (param_key index) bytes value at is now
 
-pub clock_set : (g h : GuestOf) (bytes clock : List ℕ) → bytes ≡ clock → h ≡ record g { parts = maps.insert g.parts tsc_key bytes } → h ≡ put_in_guest g (Clock clock)
-clock_set g h bytes clock is now = part_set g h tsc_key tsc_key bytes clock refl is now
+pub clock_set : (put : EntryStep) (g h : GuestOf) (bytes clock : List ℕ) → bytes ≡ clock → h ≡ record g { parts = maps.insert g.parts tsc_key bytes } → h ≡ put_in_guest put g (Clock clock)
+clock_set put g h bytes clock is now = part_set g h tsc_key tsc_key bytes clock refl is now
 
 pub clock_len : (bytes : List ℕ) → length bytes ≡ 20 → length (clock_of bytes) ≡ 20
 clock_len bytes len = grind (arith, common_steps, len)

@@ -8,7 +8,7 @@ pub use Rattle.mig_bytes.specs.Judged.{AgreesWithJudging}
 pub use Rattle.mig_bytes.specs.Judged.Judged.{Faulty, Passes}
 pub use Rattle.mig_bytes.specs.Sequences.{Spells, sequence_at}
 pub use Rattle.mig_bytes_form.specs.Tests.{Test, computed, first_named}
-pub use Rattle.mig_guest.specs.Frames.{IsFew}
+pub use Rattle.mig_guest.specs.Frames.{FrameMap, IsFew}
 pub use Rattle.mig_guest.specs.Guests.{GuestOf}
 pub use Rattle.mig_guest.specs.Limits.{most_pairs}
 pub use Rattle.mig_guest.specs.PartKeys.{context_key}
@@ -30,5 +30,5 @@ pub use Rattle.mig_pagetypes.specs.Limits.{most_frames}
 pub use Rattle.mig_policy.specs.PairMaps.{PairMap, put_pairs, text_of_map}
 pub use Rattle.mig_pvtables.specs.Whole.{IsStreamed, IsStreamedBare, IsWhole}
 pub use Rattle.mig_records.specs.Words.{IsFirst, first_place, first_word, words}
-pub use Rattle.mig_restore_form.specs.Mean.{GrewByRecord, IsBegun, frame_in, last_bytes, last_entry, mean, put_record, sent}
+pub use Rattle.mig_restore_form.specs.Mean.{GrewByRecord, IsBegun, frame_in, last_bytes, last_entry, mean, put_content_by, put_record, sent}
 pub use Rattle.mig_restore_form.specs.Record.{FrameEntry, StreamRecord}

@@ -1,17 +1,21 @@
--- What the reader of a legacy stream keeps of the chunks before.
-use Rattle.std.specs.Prelude.{◌≡◌, ℕ, List, length, fold, Option}
+-- What the reader of a legacy stream keeps of the chunks before; of the frames it keeps all, or less.
+use Rattle.std.specs.Prelude.{◌≡◌, ℕ, List, ◌++◌, length, fold, Option}
+use Rattle.std.specs.FinMap as maps
 use Rattle.mig_bytes.specs.declared.stop.Stop.{Stop}
 use Rattle.mig_bytes.specs.declared.stop.Stop.TheVariants.{Refused, ReadFault, Memory}
 use Rattle.mig_headers.specs.declared.fault.Cause.{Cause}
-use Rattle.mig_legacy.specs.Common.{Hvm, LegacyCause, Truncated, GuestOf, sent, put_record, EmulatorsOf, put_libxl_content, emulators_of, AreEmulators}
+use Rattle.mig_legacy.specs.Common.{Hvm, LegacyCause, Truncated, FrameMap, GuestOf, sent, put_content_by, put_record, EmulatorsOf, put_libxl_content, emulators_of, AreEmulators}
 use Rattle.mig_restore_form.specs.Mean.{IsBegun as IsGuestBegun}
-use Rattle.mig_legacy.specs.Legacy.{LegacyContent, LegacyChunk, LegacyTail, has_value, records_in, pair_records, tail_records, device_records, image_records, store_records}
+use Rattle.mig_restore.specs.Kept.{EntryStep, kept_guest}
+use Rattle.mig_legacy.specs.Legacy.{LegacyContent, LegacyChunk, LegacyTail, LegacyStream, device_model, has_value, records_in, pair_records, tail_records, device_records, image_records, store_records}
+use Rattle.mig_legacy.specs.LegacyForm.{frames_sent}
 use Rattle.mig_legacy.specs.declared.read.ChunksSeen.{ChunksSeen}
 
 -- the reader has these chunks behind it
-pub record IsLegacySeen (seen : ChunksSeen) (chunks : List LegacyChunk) : Type 0 where
+pub record IsLegacySeen (kept : FrameMap → FrameMap) (seen : ChunksSeen) (chunks : List LegacyChunk) : Type 0 where
   pub count : seen.chunks ≡ length chunks
-  pub guest : seen.guest ≡ sent Hvm (image_records chunks)
+  pub guest : seen.guest ≡ kept_guest kept (sent Hvm (image_records chunks))
+  pub many : maps.len seen.guest.frames ≡ frames_sent chunks
   pub emulators : seen.emulators ≡ emulators_of (store_records chunks)
   pub requests : seen.requests ≡ has_value 32 chunks
   pub buffered : seen.buffered ≡ has_value 33 chunks
@@ -23,9 +27,9 @@ pub record IsLegacyBegun (seen : ChunksSeen) : Type 0 where
   pub guest : IsGuestBegun seen.guest
   pub emulators : AreEmulators seen.emulators
 
--- the guest, and the emulators, once a chunk has said this
-abbrev pub put_in_guest : GuestOf → LegacyContent → GuestOf
-put_in_guest g c = fold put_record g (records_in c)
+-- the guest, where this is what an entry makes of its frames, and the emulators, once a chunk has said this
+abbrev pub put_in_guest : EntryStep → GuestOf → LegacyContent → GuestOf
+put_in_guest put g c = fold (λ g r. put_content_by put g r.content) g (records_in c)
 
 abbrev pub put_in_emulators : EmulatorsOf → LegacyContent → EmulatorsOf
 put_in_emulators e c = fold (λ e r. put_libxl_content e r.content) e (pair_records c)
@@ -45,9 +49,14 @@ cut_short ReadFault = ReadFault
 cut_short Memory = Memory
 
 -- what the content of a chunk makes of what was kept
-pub record TakesLegacy (old new : ChunksSeen) (c : LegacyContent) : Type 0 where
-  pub guest : new.guest ≡ put_in_guest old.guest c
+pub record TakesLegacy (put : EntryStep) (old new : ChunksSeen) (c : LegacyContent) : Type 0 where
+  pub guest : new.guest ≡ put_in_guest put old.guest c
   pub emulators : new.emulators ≡ put_in_emulators old.emulators c
   pub chunks : new.chunks ≡ old.chunks
   pub requests : new.requests ≡ old.requests
   pub buffered : new.buffered ≡ old.buffered
+
+-- the reader has this stream behind it
+pub record IsLegacyTaken (kept : FrameMap → FrameMap) (seen : ChunksSeen) (s : LegacyStream) : Type 0 where
+  pub guest : seen.guest ≡ kept_guest kept (sent Hvm (image_records s.chunks ++ tail_records s.tail))
+  pub emulators : seen.emulators ≡ device_model s

@@ -1,6 +1,7 @@
 -- Judging a legacy stream as a whole: the start, chunks up to the one that ends them, the tail, and the device model's
 -- record if there is one.
 use Rattle.std.specs.Prelude.{◌≡◌, ℕ, List, [], ◌∷◌, length, Option, None, Result}
+use Rattle.std.specs.FinMap as maps
 use Rattle.mig_legacy.specs.Common.{or_stop, Passes, Faulty, sequence_at, LegacyCause, LegacyPlace, GuestOf}
 use Rattle.mig_bytes.specs.Judged.{Judged, ◌>>=◌, placed, AgreesWithJudging}
 use Rattle.mig_bytes.specs.declared.answer.Answer.{Answer}
@@ -43,3 +44,8 @@ IsLegacyRefused input place cause rest = legacy_at input ≡ Faulty (place, caus
 -- what the reader answered, and what it left in the source, is what judging gives: the guest that the stream means
 abbrev pub ReadsLegacy : Option (List ℕ) → Option (List ℕ) → Result GuestOf (Answer LegacyPlace LegacyCause) → Type 0
 ReadsLegacy old new result = AgreesWithJudging (λ guest s. guest ≡ mean_legacy s) old new legacy_at (or_stop result)
+
+-- what the judge of legacy streams answered, and what it left in the source, is what judging gives: how many frames the guest
+-- has that the stream means
+abbrev pub JudgesLegacy : Option (List ℕ) → Option (List ℕ) → Result ℕ (Answer LegacyPlace LegacyCause) → Type 0
+JudgesLegacy old new result = AgreesWithJudging (λ frames s. frames ≡ maps.len (mean_legacy s).frames) old new legacy_at (or_stop result)

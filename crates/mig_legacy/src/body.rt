@@ -6,6 +6,7 @@ ghost use Rattle.mig_legacy.specs.Batches.{fault_of_batch};
 ghost use Rattle.mig_legacy.specs.LegacyForm.{length_form, words_form, batch_form, clock_of as clock_in, vcpus_form, clock_form, value_form, toolstack_form};
 ghost use Rattle.mig_legacy.specs.Legacy.{param_key as key_of_param};
 ghost use Rattle.mig_legacy.specs.Legacy.LegacyContent.{Nothing};
+ghost use Rattle.mig_restore.specs.Kept.{EntryStep};
 ghost use Rattle.mig_legacy.specs.Seen.{cut_short, put_in_guest, put_in_emulators};
 
 use crate::batch::{batch_fault, page_data_words};
@@ -16,7 +17,7 @@ use mig_guest::{EMULATOR_PAIRS, Guest, PartKey};
 use mig_headers::{Cause, LegacyCause, MOST_BODY, VCPU_LIMIT};
 use mig_libxl_form::Emulators;
 use mig_policy::PairsAnswer;
-use mig_restore::{AllFrames, are_bytes, take_entries};
+use mig_restore::{KeepsFrames, are_bytes, take_entries};
 use mig_restore_form::words_of;
 use std::alloc::Global;
 
@@ -98,8 +99,8 @@ fn take_words<S: Source>(
     }
 }
 
-/// Takes the words of a batch and their pages, and sets each frame as its page comes.
-pub(crate) fn take_batch<S: Source>(
+/// Takes the words of a batch and their pages, and sets each frame as its page comes: what is kept of it.
+pub(crate) fn take_batch<S: Source, F: KeepsFrames>(
     alloc: Global,
     src: &mut S,
     count: u32,
@@ -108,7 +109,7 @@ pub(crate) fn take_batch<S: Source>(
     requires few { count ≤ 1024 }
     requires hvm { guest.old.kind ≡ Hvm }
     requires top { guest.old.top ≡ 0 }
-    ensures read { AgreesWithJudging (λ _ c. guest.new ≡ put_in_guest guest.old c) (S.left src.old) (S.left src.new) (judged_as (batch_form count)) result }
+    ensures read { AgreesWithJudging (λ _ c. guest.new ≡ put_in_guest F.put guest.old c) (S.left src.old) (S.left src.new) (judged_as (batch_form count)) result }
     ensures grown { OnOk result (GrewByRecord guest.old guest.new) }
     ensures faults { RisesOnReadFault (S.faults src.old) (S.faults src.new) result }
 {
@@ -116,7 +117,7 @@ pub(crate) fn take_batch<S: Source>(
     let Ok(list) = page_data_words(alloc, &words) else {
         return Err(Stop::Memory);
     };
-    match take_entries::<S, AllFrames>(src, &list, guest) {
+    match take_entries::<S, F>(src, &list, guest) {
         Ok(()) => Ok(()),
         Err(stop) => Err(truncated(stop)),
     }
@@ -166,7 +167,7 @@ pub(crate) fn take_clock<S: Source>(
     guest: &mut Guest,
 ) -> Result<(), Stop<LegacyCause>>
     requires hvm { guest.old.kind ≡ Hvm }
-    ensures read { AgreesWithJudging (λ _ c. guest.new ≡ put_in_guest guest.old c) (S.left src.old) (S.left src.new) (judged_as clock_form) result }
+    ensures read { (put : EntryStep) → AgreesWithJudging (λ _ c. guest.new ≡ put_in_guest put guest.old c) (S.left src.old) (S.left src.new) (judged_as clock_form) result }
     ensures grown { OnOk result (GrewByRecord guest.old guest.new) }
     ensures faults { RisesOnReadFault (S.faults src.old) (S.faults src.new) result }
 {
@@ -191,7 +192,7 @@ pub(crate) fn take_value<S: Source>(
 ) -> Result<(), Stop<LegacyCause>>
     requires small { index < vcpu_limit }
     requires hvm { guest.old.kind ≡ Hvm }
-    ensures read { AgreesWithJudging (λ _ c. guest.new ≡ put_in_guest guest.old c) (S.left src.old) (S.left src.new) (judged_as (value_form index)) result }
+    ensures read { (put : EntryStep) → AgreesWithJudging (λ _ c. guest.new ≡ put_in_guest put guest.old c) (S.left src.old) (S.left src.new) (judged_as (value_form index)) result }
     ensures grown { OnOk result (GrewByRecord guest.old guest.new) }
     ensures faults { RisesOnReadFault (S.faults src.old) (S.faults src.new) result }
 {

@@ -4,11 +4,12 @@
 //! name the frames of a batch, and which pairs of texts a toolstack's data make; judging a legacy stream part by part, in
 //! byte order, and the guest that its chunks and its tail mean; the laws that join the judging with the spelling of the
 //! form, and those that say in its words what it means. Left to others: what a single word says (mig_pagetypes), the pages
-//! of a batch (mig_restore), what pairs of texts mean (mig_policy), the device model (mig_libxl_form), contexts (mig_hvm),
-//! and how a refusal is printed (mig_tool_guest).
+//! of a batch (mig_restore), outlines of guests (mig_outline), what pairs of texts mean (mig_policy), the device model
+//! (mig_libxl_form), contexts (mig_hvm), and how a refusal is printed (mig_tool_guest).
 //!
 //! What the layers above rely on: `read_legacy` answers the guest that the accepted front of the input means, or the first
-//! fault with its place, and has taken just the accepted front, or all up to the end of the faulty part. The tests of chunks
+//! fault with its place, and has taken just the accepted front, or all up to the end of the faulty part; `judge_legacy` does
+//! the same without keeping pages, and answers how many frames the guest has. The tests of chunks
 //! read from no source and know no guest: each answers the first cause of its rows, with the least place; the data of a
 //! toolstack have no wrong field exactly where they are spelled as entries.
 #![tactic(auto)]
@@ -35,6 +36,6 @@ pub use law::{
     guest_is_hvm, last_entry_decides, last_pair_decides, last_part_decides, last_value_decides,
     legacy_is_accepted, never_both, one_front,
 };
-pub use read::{LegacyAnswer, read_legacy};
+pub use read::{LegacyAnswer, judge_legacy, read_legacy};
 pub use text::put;
 pub use toolstack::{physmap_pairs, toolstack_fault};

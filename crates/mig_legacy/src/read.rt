@@ -1,14 +1,14 @@
 ghost use Rattle.std.specs.Prelude.{◌≡◌, ◌≤◌, ◌+◌, ◌||◌, ◌<◌, ◌∷◌, [], ◌++◌, ⊤, List, true, IfNone, IfOk, OnOk, IsErrOf, Some, None};
 ghost use Rattle.std.specs.FinMap as maps;
-ghost use Rattle.mig_legacy.specs.Common.{or_stop, RisesOnReadFault, AgreesWithJudging, first_named, Hvm, most_frames, IsStreamed, IsStreamedBare, with_emulators, AreEmulators};
+ghost use Rattle.mig_legacy.specs.Common.{or_stop, RisesOnReadFault, AgreesWithJudging, FrameMap, first_named, Hvm, most_frames, IsStreamed, IsStreamedBare, with_emulators, AreEmulators};
 ghost use Rattle.mig_bytes.specs.declared.stop.Stop.TheVariants.{Memory as NoMemory};
 ghost use Rattle.mig_bytes_form.specs.Form.{judged_as};
 ghost use Rattle.mig_legacy.specs.declared.chunk.ChunkKind.TheVariants as kinds;
 ghost use Rattle.mig_legacy.specs.LegacyForm.{most_chunks, start_causes, place_causes, start_form, type_form, content_form, chunk_form};
-ghost use Rattle.mig_legacy.specs.Legacy.{LegacyChunk, is_end, is_value_of, mean_legacy};
-ghost use Rattle.mig_legacy.specs.Seen.{IsLegacySeen, IsLegacyBegun, TakesLegacy};
+ghost use Rattle.mig_legacy.specs.Legacy.{LegacyChunk, is_end, is_value_of};
+ghost use Rattle.mig_legacy.specs.Seen.{IsLegacySeen, IsLegacyBegun, IsLegacyTaken, TakesLegacy};
 ghost use Rattle.mig_legacy.specs.Chunks.{IsWithinLimits};
-ghost use Rattle.mig_legacy.specs.Stream.{chunks_at, legacy_at, ReadsLegacy};
+ghost use Rattle.mig_legacy.specs.Stream.{chunks_at, legacy_at, JudgesLegacy, ReadsLegacy};
 
 use crate::body::{take_batch, take_clock, take_toolstack, take_value, take_vcpus};
 use crate::chunk::{ChunkKind, chunk_kind};
@@ -17,7 +17,9 @@ use mig_bytes::{Answer, Memory, Source, Stop, answer_for, take_part, u32_le};
 use mig_guest::Guest;
 use mig_headers::{ImageHeader, Kind, LegacyCause, LegacyPlace, LibxlHeader};
 use mig_libxl_form::Emulators;
+use mig_outline::Outlines;
 use mig_pagetypes::MOST_FRAMES;
+use mig_restore::{AllFrames, KeepsFrames};
 use std::alloc::Global;
 
 /// The most chunks of a stream.
@@ -77,10 +79,11 @@ pub(crate) struct ChunksSeen {
 
 impl ChunksSeen {
     /// Before the first chunk.
-    fn new(alloc: Global) -> ChunksSeen
-        ensures seen { IsLegacySeen result [] }
+    fn new<F: KeepsFrames>(alloc: Global) -> ChunksSeen
+        ensures seen { IsLegacySeen F.kept result [] }
         ensures begun { IsLegacyBegun result }
     {
+        F::goes_on();
         ChunksSeen {
             guest: Guest::new(alloc, Kind::Hvm),
             emulators: Emulators::new(alloc),
@@ -92,7 +95,7 @@ impl ChunksSeen {
 
     /// What is wrong with a chunk that is this, behind those before.
     fn kind_fault(&self, kind: ChunkKind) -> Option<LegacyCause>
-        ensures fault { (chunks : List LegacyChunk) → IsLegacySeen self.now chunks → result ≡ first_named (place_causes chunks kind) }
+        ensures fault { (kept : FrameMap → FrameMap) (chunks : List LegacyChunk) → IsLegacySeen kept self.now chunks → result ≡ first_named (place_causes chunks kind) }
         ensures room { IfNone result (self.now.chunks < most_chunks) }
         ensures few { IfNone result (is_end kind ≡ true → maps.len self.now.guest.frames ≤ most_frames) }
     {
@@ -112,7 +115,7 @@ impl ChunksSeen {
     /// Takes the type of the next chunk.
     #[tactic(auto, using(crate::proofs::ChunkNumbers::sound_kind), unfolding(mig_bytes_form::specs::Form::judged_as))]
     fn take_kind<S: Source>(&self, src: &mut S) -> Result<ChunkKind, Stop<LegacyCause>>
-        ensures read { (chunks : List LegacyChunk) → IsLegacySeen self.now chunks → AgreesWithJudging (λ kind k. k ≡ kind) (S.left src.old) (S.left src.new) (judged_as (type_form chunks)) result }
+        ensures read { (kept : FrameMap → FrameMap) (chunks : List LegacyChunk) → IsLegacySeen kept self.now chunks → AgreesWithJudging (λ kind k. k ≡ kind) (S.left src.old) (S.left src.new) (judged_as (type_form chunks)) result }
         ensures sound { IfOk result (λ kind. IsWithinLimits kind) }
         ensures room { OnOk result (self.now.chunks < most_chunks) }
         ensures few { IfOk result (λ kind. is_end kind ≡ true → maps.len self.now.guest.frames ≤ most_frames) }
@@ -133,7 +136,7 @@ impl ChunksSeen {
 
     /// Takes the body of a chunk that is this, and keeps what it says.
     #[tactic(auto, unfolding(mig_bytes_form::specs::Form::judged_as))]
-    fn take_content<S: Source>(
+    fn take_content<S: Source, F: KeepsFrames>(
         &mut self,
         alloc: Global,
         src: &mut S,
@@ -141,14 +144,14 @@ impl ChunksSeen {
     ) -> Result<(), Stop<LegacyCause>>
         requires begun { IsLegacyBegun self.old }
         requires sound { IsWithinLimits kind }
-        ensures read { (chunks : List LegacyChunk) → IsLegacySeen self.old chunks → AgreesWithJudging (λ _ c. TakesLegacy self.old self.new c) (S.left src.old) (S.left src.new) (judged_as (content_form chunks kind)) result }
+        ensures read { (chunks : List LegacyChunk) → IsLegacySeen F.kept self.old chunks → AgreesWithJudging (λ _ c. TakesLegacy F.put self.old self.new c) (S.left src.old) (S.left src.new) (judged_as (content_form chunks kind)) result }
         ensures begun { OnOk result (IsLegacyBegun self.new) }
         ensures chunks { OnOk result (self.new.chunks ≡ self.old.chunks) }
         ensures end { OnOk result (is_end kind ≡ true → self.new ≡ self.old) }
         ensures faults { RisesOnReadFault (S.faults src.old) (S.faults src.new) result }
     {
         match kind {
-            ChunkKind::Batch(count) => take_batch(alloc, src, count, &mut self.guest),
+            ChunkKind::Batch(count) => take_batch::<S, F>(alloc, src, count, &mut self.guest),
             ChunkKind::VcpuMap => take_vcpus(src),
             ChunkKind::Tsc => take_clock(alloc, src, &mut self.guest),
             ChunkKind::Toolstack => take_toolstack(alloc, src, &mut self.emulators),
@@ -175,21 +178,22 @@ impl ChunksSeen {
     }
 
     /// Takes the next chunk, and keeps what it says. Says whether it is the last.
-    fn take_chunk<S: Source>(
+    fn take_chunk<S: Source, F: KeepsFrames>(
         &mut self,
         alloc: Global,
         src: &mut S,
     ) -> Result<bool, Stop<LegacyCause>>
         requires begun { IsLegacyBegun self.old }
-        ensures read { (chunks : List LegacyChunk) → IsLegacySeen self.old chunks →
-            AgreesWithJudging (λ over c. IsLegacySeen self.new (chunks ++ c ∷ []) × (over ≡ is_end c.kind)) (S.left src.old) (S.left src.new) (judged_as (chunk_form chunks)) result }
+        ensures read { (chunks : List LegacyChunk) → IsLegacySeen F.kept self.old chunks →
+            AgreesWithJudging (λ over c. IsLegacySeen F.kept self.new (chunks ++ c ∷ []) × (over ≡ is_end c.kind)) (S.left src.old) (S.left src.new) (judged_as (chunk_form chunks)) result }
         ensures begun { OnOk result (IsLegacyBegun self.new) }
         ensures few { IfOk result (λ over. over ≡ true → maps.len self.new.guest.frames ≤ most_frames) }
         ensures counted { OnOk result ((self.new.chunks ≡ self.old.chunks + 1) × (self.old.chunks < most_chunks)) }
         ensures faults { RisesOnReadFault (S.faults src.old) (S.faults src.new) result }
     {
+        F::goes_on();
         let kind = self.take_kind(src)?;
-        self.take_content(alloc, src, kind)?;
+        self.take_content::<S, F>(alloc, src, kind)?;
         self.count(kind);
         Ok(ends_chunks(kind))
     }
@@ -213,19 +217,19 @@ impl ChunksSeen {
 }
 
 /// Takes chunks up to the last.
-fn take_chunks<S: Source>(
+fn take_chunks<S: Source, F: KeepsFrames>(
     alloc: Global,
     src: &mut S,
 ) -> Result<ChunksSeen, Stop<(LegacyPlace, LegacyCause)>>
-    ensures read { AgreesWithJudging IsLegacySeen (S.left src.old) (S.left src.new) chunks_at result }
+    ensures read { AgreesWithJudging (IsLegacySeen F.kept) (S.left src.old) (S.left src.new) chunks_at result }
     ensures begun { IfOk result (λ seen. IsLegacyBegun seen) }
     ensures few { IfOk result (λ seen. maps.len seen.guest.frames ≤ most_frames) }
     ensures faults { RisesOnReadFault (S.faults src.old) (S.faults src.new) result }
 {
-    let mut seen = ChunksSeen::new(alloc);
+    let mut seen = ChunksSeen::new::<F>(alloc);
     'chunks: loop {
         let number = seen.chunks;
-        match seen.take_chunk(alloc, src) {
+        match seen.take_chunk::<S, F>(alloc, src) {
             Ok(true) => return Ok(seen),
             Ok(false) => {}
             Err(stop) => return Err(stop.at(LegacyPlace::Chunk(u64::from(number)))),
@@ -234,27 +238,26 @@ fn take_chunks<S: Source>(
 }
 
 /// Takes a whole stream, part after part.
-fn read_parts<S: Source>(
+fn take_parts<S: Source, F: KeepsFrames>(
     alloc: Global,
     src: &mut S,
-) -> Result<Guest, Stop<(LegacyPlace, LegacyCause)>>
-    ensures read { AgreesWithJudging (λ guest s. guest ≡ mean_legacy s) (S.left src.old) (S.left src.new) legacy_at result }
-    ensures streamed { IfOk result (λ guest. IsStreamed guest) }
+) -> Result<ChunksSeen, Stop<(LegacyPlace, LegacyCause)>>
+    ensures read { AgreesWithJudging (IsLegacyTaken F.kept) (S.left src.old) (S.left src.new) legacy_at result }
+    ensures plain { IfOk result (λ seen. IsStreamedBare seen.guest) }
+    ensures hvm { IfOk result (λ seen. seen.guest.kind ≡ Hvm) }
+    ensures emulators { IfOk result (λ seen. AreEmulators seen.emulators) }
     ensures faults { RisesOnReadFault (S.faults src.old) (S.faults src.new) result }
 {
     if let Err(stop) = take_start(src) {
         return Err(stop.at(LegacyPlace::Start));
     }
-    let mut seen = take_chunks(alloc, src)?;
+    let mut seen = take_chunks::<S, F>(alloc, src)?;
     if let Err(stop) = take_tail(alloc, src, &mut seen.guest) {
         return Err(stop.at(LegacyPlace::Tail));
     }
-    if let Err(stop) = take_device(alloc, src, &mut seen.emulators) {
-        return Err(stop.at(LegacyPlace::Device));
-    }
-    match seen.finish() {
-        Ok(guest) => Ok(guest),
-        Err(Memory) => Err(Stop::Memory),
+    match take_device(alloc, src, &mut seen.emulators) {
+        Ok(()) => Ok(seen),
+        Err(stop) => Err(stop.at(LegacyPlace::Device)),
     }
 }
 
@@ -267,8 +270,22 @@ pub fn read_legacy<S: Source>(alloc: Global, src: &mut S) -> Result<Guest, Legac
     ensures streamed { IfOk result (λ guest. IsStreamed guest) }
     ensures faults { RisesOnReadFault (S.faults src.old) (S.faults src.new) (or_stop result) }
 {
-    match read_parts(alloc, src) {
-        Ok(guest) => Ok(guest),
+    match take_parts::<S, AllFrames>(alloc, src) {
+        Ok(seen) => match seen.finish() {
+            Ok(guest) => Ok(guest),
+            Err(Memory) => Err(Answer::Memory),
+        },
+        Err(stop) => Err(answer_for(stop)),
+    }
+}
+
+/// Judges a legacy stream as `read_legacy` does, and keeps no page of it. Answers how many frames the guest has.
+pub fn judge_legacy<S: Source>(alloc: Global, src: &mut S) -> Result<u64, LegacyAnswer>
+    ensures read { JudgesLegacy (S.left src.old) (S.left src.new) result }
+    ensures faults { RisesOnReadFault (S.faults src.old) (S.faults src.new) (or_stop result) }
+{
+    match take_parts::<S, Outlines>(alloc, src) {
+        Ok(seen) => Ok(seen.guest.frames()),
         Err(stop) => Err(answer_for(stop)),
     }
 }

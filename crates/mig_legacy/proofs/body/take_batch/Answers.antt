@@ -22,7 +22,7 @@ pub returns-in-Ok-take_entries-clause-read : goal.returns-in-Ok-take_entries-cla
 returns-in-Ok-take_entries-clause-read g c =
     let ws = c.in_ok-words.words.items in
     let same : c.deref-2.result.now ≡ page_data_words ws = search rules in
-    batch_read c.args.guest.now c.take_entries.new.guest c.args.count c.requires.hvm c.requires.top _ _ _ c.in_ok-words.words (λ v. v.items) c.deref-2.result.now same c.in_ok-words.ensures.read c.in-Ok-take_entries.ensures.read
+    batch_read g.F.KeepsFrames.put c.args.guest.now c.take_entries.new.guest c.args.count c.requires.hvm c.requires.top _ _ _ c.in_ok-words.words (λ v. v.items) c.deref-2.result.now same c.in_ok-words.ensures.read c.in-Ok-take_entries.ensures.read
 
 pub returns-in_err-words-clause-read : goal.returns-in_err-words-clause-read
 returns-in_err-words-clause-read g c =
@@ -32,4 +32,4 @@ pub returns-clause-read : goal.returns-clause-read
 returns-clause-read g c =
     let ws = c.in_ok-words.words.items in
     let same : c.deref-2.result.now ≡ page_data_words ws = search rules in
-    batch_stopped c.args.guest.now c.take_entries.new.guest c.args.count c.requires.hvm c.requires.top _ _ _ c.in_ok-words.words (λ v. v.items) c.deref-2.result.now same c.in-Err.stop c.truncated.result c.truncated.ensures c.in_ok-words.ensures.read c.in-Err.ensures.read
+    batch_stopped g.F.KeepsFrames.put c.args.guest.now c.take_entries.new.guest c.args.count c.requires.hvm c.requires.top _ _ _ c.in_ok-words.words (λ v. v.items) c.deref-2.result.now same c.in-Err.stop c.truncated.result c.truncated.ensures c.in_ok-words.ensures.read c.in-Err.ensures.read

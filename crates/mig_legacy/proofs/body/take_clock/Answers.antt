@@ -5,11 +5,11 @@ use Rattle.mig_legacy.proofs.body.take_clock.Goals as goal
 
 pub returns-in-Ok-set_part-clause-read : goal.returns-in-Ok-set_part-clause-read
 unfolding judged_as
-returns-in-Ok-set_part-clause-read g c =
+returns-in-Ok-set_part-clause-read g c = λ put.
     let buf = c.take_part.new.buf in
     let same : c.deref-2.result.now ≡ clock_of buf = search rules in
     plain_read Truncated _ _ _ 20 (search rules) (λ bytes. Clock (clock_of bytes)) tt _ _ tt c.in_ok-take_part.ensures.read
-    (λ bytes is. clock_set c.args.guest.now _ _ _ (same ∙ ap clock_of (sym is)) c.in-Ok-set_part.ensures.ok)
+    (λ bytes is. clock_set put c.args.guest.now _ _ _ (same ∙ ap clock_of (sym is)) c.in-Ok-set_part.ensures.ok)
 
 pub returns-in-Ok-set_part-clause-grown : goal.returns-in-Ok-set_part-clause-grown
 returns-in-Ok-set_part-clause-grown g c =

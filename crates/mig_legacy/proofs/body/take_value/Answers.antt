@@ -5,10 +5,10 @@ use Rattle.mig_legacy.proofs.body.take_value.Goals as goal
 
 pub returns-in-Ok-clause-read : goal.returns-in-Ok-clause-read
 unfolding judged_as
-returns-in-Ok-clause-read g c =
+returns-in-Ok-clause-read g c = λ put.
     let len : length c.take_part.new.buf ≡ 12 = search rules in
     plain_read Truncated _ _ _ 12 len (λ bytes. Value c.args.index (drop 4 bytes)) tt _ _ tt c.in_ok-take_part.ensures.read
-    (λ bytes is. value_set c.args.guest.now _ c.args.index _ _ _ c.param_key.ensures (behind 4 12 c.take_part.new.buf len ∙ ap (drop 4) (sym is)) c.in-Ok.ensures.ok)
+    (λ bytes is. value_set put c.args.guest.now _ c.args.index _ _ _ c.param_key.ensures (behind 4 12 c.take_part.new.buf len ∙ ap (drop 4) (sym is)) c.in-Ok.ensures.ok)
 
 pub returns-in-Ok-clause-grown : goal.returns-in-Ok-clause-grown
 returns-in-Ok-clause-grown g c =

@@ -4,11 +4,11 @@ use Rattle.mig_legacy.proofs.read.ChunksSeen.take_chunk.Goals as goal
 
 pub returns-in_err-kind-clause-read : goal.returns-in_err-kind-clause-read
 returns-in_err-kind-clause-read g c = λ chunks seen.
-    stopped _ _ _ _ (judged_as (type_form chunks)) (judged_as (chunk_form chunks)) (behind_kind chunks) c.in_err-kind.field-0.0 c.from_residual.result (begins chunks) (search rules) (c.in_err-kind.ensures.read chunks seen)
+    stopped _ _ _ _ (judged_as (type_form chunks)) (judged_as (chunk_form chunks)) (behind_kind chunks) c.in_err-kind.field-0.0 c.from_residual.result (begins chunks) (search rules) (c.in_err-kind.ensures.read g.F.KeepsFrames.kept chunks seen)
 
 pub returns-in_err-take_content-clause-read : goal.returns-in_err-take_content-clause-read
 returns-in_err-take_content-clause-read g c = λ chunks seen.
-    then_reads _ _ _ _ _ (judged_as (type_form chunks)) (judged_as (chunk_form chunks)) (behind_kind chunks) c.in_ok-kind.kind c.from_residual-in_err-take_content.result (begins chunks) (c.in_ok-kind.ensures.read chunks seen)
+    then_reads _ _ _ _ _ (judged_as (type_form chunks)) (judged_as (chunk_form chunks)) (behind_kind chunks) c.in_ok-kind.kind c.from_residual-in_err-take_content.result (begins chunks) (c.in_ok-kind.ensures.read g.F.KeepsFrames.kept chunks seen)
     (λ kind is. stopped _ _ _ _ (judged_as (content_form chunks c.in_ok-kind.kind)) (λ i. behind_kind chunks (kind, i)) (λ content. Passes (chunk_of c.in_ok-kind.kind content.0) content.1) c.in_err-take_content.field-0.0 c.from_residual-in_err-take_content.result
     (goes_behind chunks kind c.in_ok-kind.kind is) (search rules) (c.in_err-take_content.ensures.read chunks seen))
 
@@ -17,10 +17,10 @@ count-requires g c = record { room = subst (λ n. n < most_chunks) (sym c.in_ok-
 
 pub returns-clause-read : goal.returns-clause-read
 returns-clause-read g c = λ chunks seen.
-    then_reads _ _ _ _ _ (judged_as (type_form chunks)) (judged_as (chunk_form chunks)) (behind_kind chunks) c.in_ok-kind.kind _ (begins chunks) (c.in_ok-kind.ensures.read chunks seen)
+    then_reads _ _ _ _ _ (judged_as (type_form chunks)) (judged_as (chunk_form chunks)) (behind_kind chunks) c.in_ok-kind.kind _ (begins chunks) (c.in_ok-kind.ensures.read g.F.KeepsFrames.kept chunks seen)
     (λ kind is. mapped _ _ _ _ (judged_as (content_form chunks c.in_ok-kind.kind)) (λ i. behind_kind chunks (kind, i)) (chunk_of c.in_ok-kind.kind) _ _
     (goes_behind chunks kind c.in_ok-kind.kind is) (c.in_ok-take_content.ensures.read chunks seen)
-    (λ content takes. (seen_more c.args.self.now c.take_content.new.self c.count.new.self chunks c.in_ok-kind.kind content seen takes (record { guest = c.count.ensures.guest; emulators = c.count.ensures.emulators; chunks = c.count.ensures.chunks; requests = c.count.ensures.requests; buffered = c.count.ensures.buffered }), search rules)))
+    (λ content takes. (seen_more g.F.KeepsFrames.kept g.F.KeepsFrames.put c.goes_on.ensures.entry c.goes_on.ensures.count c.args.self.now c.take_content.new.self c.count.new.self chunks c.in_ok-kind.kind content seen takes (record { guest = c.count.ensures.guest; emulators = c.count.ensures.emulators; chunks = c.count.ensures.chunks; requests = c.count.ensures.requests; buffered = c.count.ensures.buffered }), search rules)))
 
 pub returns-clause-counted : goal.returns-clause-counted
 returns-clause-counted g c = search rules

@@ -1,7 +1,7 @@
 use Rattle.mig_legacy.proofs.Common.{refl, rules, subst, ◌≤◌, ◌>>=◌, placed, Passes, judged_so, mapped, stopped, then_reads, placed_then, placed_ends, placed_fine, Start, Tail, Device, judged_as, start_form, tail_form, device_at, chunks_at, legacy_at, most_frames}
 use Rattle.std.specs.FinMap as maps
-use Rattle.mig_legacy.proofs.Streams.{stream_of, behind_start, behind_chunks, behind_tail, stream_is, guest_meant}
-use Rattle.mig_legacy.proofs.read.read_parts.Goals as goal
+use Rattle.mig_legacy.proofs.Streams.{stream_of, behind_start, behind_chunks, behind_tail, stream_is, stream_taken}
+use Rattle.mig_legacy.proofs.read.take_parts.Goals as goal
 
 pub returns-in-Err-clause-read : goal.returns-in-Err-clause-read
 returns-in-Err-clause-read g c =
@@ -38,5 +38,5 @@ returns-in-Ok-clause-read g c =
     (placed_then _ _ Start (judged_as start_form) behind_start _ _ _ _ _ c.in_default.ensures.read
     (λ start _. then_reads _ _ _ _ _ chunks_at (λ i. behind_start (start, i)) behind_chunks c.in_ok-seen.seen _ (λ i. refl) c.in_ok-seen.ensures.read
     (λ chunks seen. placed_then _ _ Tail (judged_as tail_form) (behind_tail chunks) _ _ _ _ _ c.in_default-take_tail.ensures.read
-    (λ tail told. mapped _ _ _ _ (λ i. placed Device (device_at i)) (λ i. behind_tail chunks (tail, i)) (stream_of chunks tail) _ _ (λ i. refl) (placed_fine _ Device _ _ device_at _ c.in_default-take_device.ensures.read)
-    (λ device set. guest_meant c.in_ok-seen.seen chunks tail device _ _ _ seen told set c.in_default-take_tail.ensures.plain c.in-Ok.ensures.ok)))))
+    (λ tail told. mapped _ _ _ _ (λ i. placed Device (device_at i)) (λ i. behind_tail chunks (tail, i)) (stream_of chunks tail) _ _ (λ i. refl) (placed_fine _ Device _ _ device_at _ c.in-Ok.ensures.read)
+    (λ device set. stream_taken g.F.KeepsFrames.kept c.in_ok-seen.seen _ chunks tail device seen told set)))))
