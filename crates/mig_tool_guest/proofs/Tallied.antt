@@ -4,7 +4,10 @@ use Rattle.mig_tool_guest.proofs.Reporting.{accepted_legacy, reported}
 use Rattle.mig_bytes.specs.declared.answer.Answer.{Answer}
 use Rattle.mig_bytes.specs.declared.answer.Answer.TheVariants as answers
 use Rattle.mig_bytes.specs.declared.failure.WriteFailed.{WriteFailed}
-use Rattle.mig_legacy.specs.Stream.{ReadsLegacy}
+use Rattle.mig_legacy.specs.Legacy.{mean_legacy}
+use Rattle.mig_legacy.specs.Stream.{JudgesLegacy}
+use Rattle.mig_headers.specs.declared.legacy_fault.LegacyCause.{LegacyCause}
+use Rattle.mig_headers.specs.declared.legacy_fault.LegacyPlace.{LegacyPlace}
 use Rattle.mig_libxl.specs.Reads.{IsStreamTally, JudgesStream}
 use Rattle.mig_libxl_form.specs.Stream.{guest_of}
 use Rattle.mig_outline.specs.declared.judge.Tally.{Tally}
@@ -60,12 +63,20 @@ checked (Some input) left old new tally s r status (stream, rest, accepts, left_
 abbrev pub LegacyCheckSays : (told left old new : Option (List ℕ)) → Status → Type 0
 LegacyCheckSays told left old new status = StatusSays (λ input. LegacyChecked (Appends old new) input left) (λ input. LegacyChecked (AppendsPart old new) input left) HasLegacyRefusal told left status
 
-pub legacy_checked : (told left old new : Option (List ℕ)) (guest : GuestOf) (n : ℕ) (r : Result (Unit {0}) WriteFailed) (status : Status) → ReadsLegacy told left (Ok guest) → n ≡ maps.len guest.frames
+pub not_checked_legacy : (D P : List ℕ → Type 0) (told left : Option (List ℕ)) (answer : Answer LegacyPlace LegacyCause) (outcome : Outcome) → JudgesLegacy told left (Err answer) → outcome ≡ outcome_of refusals.Legacy answer → OutcomeSays D P HasLegacyRefusal told left outcome
+not_checked_legacy D P told left answer outcome h is = subst (OutcomeSays D P HasLegacyRefusal told left) (sym is) (by told answer h)
+  where
+    by : (told : Option (List ℕ)) (answer : Answer LegacyPlace LegacyCause) → JudgesLegacy told left (Err answer) → OutcomeSays D P HasLegacyRefusal told left (outcome_of refusals.Legacy answer)
+    by None answer h = tt
+    by (Some input) (answers.Refused place cause) (rest, refused, is) = (rest, refused, is)
+    by (Some input) _ h = tt
+
+pub legacy_checked : (told left old new : Option (List ℕ)) (n : ℕ) (r : Result (Unit {0}) WriteFailed) (status : Status) → JudgesLegacy told left (Ok n)
     → Puts (checked_legacy_line n) old new r → status ≡ reported r → LegacyCheckSays told left old new status
-legacy_checked None left old new guest n r status h counts put is = tt
-legacy_checked (Some input) left old new guest n r status (stream, rest, accepts, left_is, is_read) counts put is =
+legacy_checked None left old new n r status h put is = tt
+legacy_checked (Some input) left old new n r status (stream, rest, accepts, left_is, counts) put is =
     subst (LegacyCheckSays (Some input) left old new) (sym is) (by r (subst (λ t. Puts (checked_legacy_line t) old new r) counts put))
   where
-    by : (r : Result (Unit {0}) WriteFailed) → Puts (checked_legacy_line (maps.len guest.frames)) old new r → LegacyCheckSays (Some input) left old new (reported r)
-    by (Ok u) put = record { guest = guest; rest = rest; accepted = accepted_legacy input rest stream guest accepts is_read; left_is = left_is; reported = put }
-    by (Err e) put = record { guest = guest; rest = rest; accepted = accepted_legacy input rest stream guest accepts is_read; left_is = left_is; reported = put }
+    by : (r : Result (Unit {0}) WriteFailed) → Puts (checked_legacy_line (maps.len (mean_legacy stream).frames)) old new r → LegacyCheckSays (Some input) left old new (reported r)
+    by (Ok u) put = record { guest = mean_legacy stream; rest = rest; accepted = accepted_legacy input rest stream (mean_legacy stream) accepts refl; left_is = left_is; reported = put }
+    by (Err e) put = record { guest = mean_legacy stream; rest = rest; accepted = accepted_legacy input rest stream (mean_legacy stream) accepts refl; left_is = left_is; reported = put }

@@ -3,7 +3,7 @@ ghost use Rattle.mig_tool_guest.specs.Promises.{check_promise, check_legacy_prom
 
 use crate::commands::{unconverted, unread};
 use mig_bytes::{Sink, Source};
-use mig_legacy::read_legacy;
+use mig_legacy::judge_legacy;
 use mig_libxl::judge_any;
 use mig_tool_report::{CheckSummary, Status, finish, put_checked, put_checked_legacy};
 use std::alloc::Global;
@@ -31,13 +31,13 @@ pub fn check<S: Source, R: Sink>(alloc: Global, input: &mut S, report: &mut R) -
     }
 }
 
-/// Judges a legacy stream, and says on the report how many frames its guest has.
+/// Judges a legacy stream, and says on the report how many frames its guest has. It keeps no page.
 pub fn check_legacy<S: Source, R: Sink>(alloc: Global, input: &mut S, report: &mut R) -> Status
     ensures { CarriedOut check_legacy_promise (effects (input_effect S.left S.faults input.old input.new)
         unreached (sink_effect R.written R.faults report.old report.new)) result }
 {
-    let frames = match read_legacy(alloc, input) {
-        Ok(guest) => guest.frames(),
+    let frames = match judge_legacy(alloc, input) {
+        Ok(frames) => frames,
         Err(answer) => return finish(report, unconverted(answer)),
     };
     match put_checked_legacy(report, frames) {
