@@ -11,7 +11,7 @@ use mig_bytes::put_u64_le;
 use mig_guest::Entry;
 use mig_guest::mig_machine_api::Machine;
 use mig_pagetypes::PageType;
-use mig_pvtables::{entry, put_entry, superpage_slot};
+use mig_pvtables::{IsSuperpage, entry, first_slot, put_entry};
 
 /// Brings the entry of a slot to its form in a stream; true where its machine frame has no frame number.
 fn rename_slot<M: Machine>(
@@ -96,7 +96,7 @@ pub(crate) fn read_table<M: Machine>(
     ensures cause { FaultHasCause (M.faults machine.old) (M.faults machine.new) result }
     ensures which { ¬ IsErrOf result WriteFault }
 {
-    match superpage_slot(page, level) {
+    match first_slot(page, level, &IsSuperpage) {
         Some(slot) => Ok(Found::Superpage(kind, slot)),
         None => match rename(machine, pfn, kind, level, page) {
             Ok(None) => Ok(Found::Shows(kind)),

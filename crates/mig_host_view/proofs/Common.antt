@@ -6,7 +6,7 @@ pub use Rattle.std.proofs.lemmas.Option.{cond_some}
 pub use Rattle.std.specs.Cmp.{nat_cmp_total}
 pub use Rattle.std.specs.FinMap.{entries_sorted, get-entries, nat_cmp-IsAntisymmetric}
 pub use Rattle.std.specs.List.{All, range_with_len}
-pub use Rattle.std.specs.Option.{option_copied, option_map, option_or}
+pub use Rattle.std.specs.Option.{option_map, option_or}
 pub use Rattle.std.specs.Prelude.{Err, Ok, Result, find, nat_le, option_and_then, replicate, unwrap_or, ◌&&◌, ◌==◌, ◌||◌}
 pub use Rattle.mig_bytes.proofs.ByteLists.{Bytes, bytes_from, long_below}
 pub use Rattle.mig_bytes.specs.Bytes.{AreBytes}
@@ -14,7 +14,7 @@ pub use Rattle.mig_guest.proofs.Longs.{length_longs, same_longs}
 pub use Rattle.mig_guest.proofs.PartOrder.{part_exact, part_total}
 pub use Rattle.mig_guest.proofs.PartRows.{changed_part, hvm_frame, no_entries, of_part, one_code, raw, same_len}
 pub use Rattle.mig_guest.specs.Formed.{IsContent, IsCut, IsFormed, IsGuestFrame, IsInside, IsPart, IsRawContent, IsTop, gdt_ents, is_policy, width_of}
-pub use Rattle.mig_guest.specs.Frames.{FrameMap, FrameOf, IsFew, IsFrame, entries_from, is_type_of}
+pub use Rattle.mig_guest.specs.Frames.{FrameMap, FrameOf, IsFew, IsFrame, is_type_of}
 pub use Rattle.mig_guest.specs.Guests.{GuestOf}
 pub use Rattle.mig_guest.specs.Hosts.{HostFrame, HostFrames, HostOf, IsHostFrame, IsHostPart, IsValid, pfn_in}
 pub use Rattle.mig_guest.specs.Longs.{each_long, long_at, longs}
@@ -49,7 +49,7 @@ pub use Rattle.mig_pvtables.proofs.PvGuests.{no_entry, no_p2m, none_misses, pv_c
 pub use Rattle.mig_pvtables.proofs.Renamed.{EntryGoesBack, TableGoesBack, blanked_small, blanks_first, by_frames, fits_back, renamed_long, renamed_says, renamed_small, said_anew, table_back}
 pub use Rattle.mig_pvtables.proofs.SameShape.{entries_changed, kept_p2m, mapped_holds, repaged_is_frame, types_kept}
 pub use Rattle.mig_pvtables.proofs.Searches.{all_none, cond_none, find_in_range, first_found, is_there, none_mapped, overwritten}
-pub use Rattle.mig_pvtables.proofs.Walks.{IsKeptFrom, IsSoBehind, IsSoFrom, contexts_start, frames_start, in_fields, large_in, taken}
+pub use Rattle.mig_pvtables.proofs.Walks.{IsSoBehind, contexts_start, in_fields, large_in, taken}
 pub use Rattle.mig_pvtables.specs.BadEntries.{NamesKnown, is_unknown}
 pub use Rattle.mig_pvtables.specs.Blank.{IsOfBytes, blank, blank_of, blanked_frame, blanked_page, blanked_part, each_value, table_changed}
 pub use Rattle.mig_pvtables.specs.BlankSteps.{blanked_code, only, where_listed, with_table_changed, with_zero_page, written_at, written_where_listed}

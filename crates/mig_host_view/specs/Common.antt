@@ -1,7 +1,7 @@
 -- Names that several definitions and contracts of this crate use.
-pub use Rattle.std.specs.Option.{option_copied, option_map, option_or}
+pub use Rattle.std.specs.Option.{option_map}
 pub use Rattle.mig_guest.specs.Formed.{gdt_ents}
-pub use Rattle.mig_guest.specs.Frames.{FrameMap, FrameOf, NextEntry}
+pub use Rattle.mig_guest.specs.Frames.{FrameMap, FrameOf}
 pub use Rattle.mig_guest.specs.Guests.{GuestOf}
 pub use Rattle.mig_guest.specs.Hosts.{HostFrame, HostOf, IsValid, pfn_in}
 pub use Rattle.mig_guest.specs.PartKeys.{context_key, p2m_key, shared_key}
@@ -16,7 +16,7 @@ pub use Rattle.mig_headers.specs.declared.unsound.Unsound.TheVariants.{BadContex
 pub use Rattle.mig_pagetypes.specs.PageTypes.{level_of}
 pub use Rattle.mig_pvtables.specs.BadEntries.{NamesKnown, is_unknown}
 pub use Rattle.mig_pvtables.specs.Blank.{IsOfBytes, blank, blank_of, each_value, table_changed}
-pub use Rattle.mig_pvtables.specs.Faults.{find_entry, find_in_contexts, find_p2m, find_slot, first_cause, first_some, fits_field, misses, type_at}
+pub use Rattle.mig_pvtables.specs.Faults.{find_entry, find_in_contexts, find_p2m, first_cause, first_some, fits_field, misses, type_at}
 pub use Rattle.mig_pvtables.specs.P2mFrames.{count_in, listed, place_of}
 pub use Rattle.mig_pvtables.specs.P2mPages.{p2m_page}
 pub use Rattle.mig_pvtables.specs.Renaming.{GoesBack, renamed_table}

@@ -1,7 +1,6 @@
 ghost use Rattle.std.specs.Prelude.{◌≡◌, ◌≤◌, ◌<◌, ◌^◌, ℕ, List, [], ◌∷◌, length, IfSome, IfOk, find};
-ghost use Rattle.mig_host_view.specs.Common.{option_copied, option_map, option_or, Superpage, NoFrame, GdtEnts, VcpuFrame, BadContext, level_of, PartKey, NextEntry, p2m_key, is_unknown, find_slot, find_entry, find_in_contexts, first_cause, first_some, count_in, is_superpage, is_used_somewhere};
+ghost use Rattle.mig_host_view.specs.Common.{option_map, Superpage, NoFrame, GdtEnts, VcpuFrame, BadContext, PartKey, p2m_key, is_unknown, find_entry, find_in_contexts, first_cause, first_some, count_in, is_superpage, is_used_somewhere};
 ghost use Rattle.std.specs.FinMap as maps;
-ghost use Rattle.mig_pagetypes.specs.Limits.{pfn_limit};
 ghost use Rattle.mig_host_view.specs.Sound.{absent, needed_keys, misnames, machine_type as type_of_machine_frame, find_gdt, find_context_fault, unsound_rows};
 
 use mig_bytes::Memory;
@@ -10,8 +9,8 @@ use mig_headers::{ContextFault, Kind, Unsound};
 use mig_hvm::scan_context;
 use mig_pagetypes::PageType;
 use mig_pvtables::{
-    FieldFrames, Frames, PartsByKey, bad_field, frame_type, gdt_ents, host_frame, misplaced_frame,
-    missing_part, next_context, sole_key, superpage_slot, unknown_slot,
+    FieldFrames, Frames, IsSuperpage, NamesUnknown, PartsByKey, bad_field, first_entry, frame_type,
+    gdt_ents, host_frame, misplaced_frame, missing_part, next_context, sole_key,
 };
 use std::alloc::Global;
 
@@ -23,66 +22,15 @@ pub fn absent_needed<P: PartsByKey>(kind: Kind, parts: &P) -> Option<Unsound>
     Some(Unsound::Missing(code))
 }
 
-/// The first superpage in a frame, which may be no table.
-fn superpage_in(kind: PageType, page: Option<&[u8; 4096]>) -> Option<usize>
-    ensures value { result ≡ find_slot is_superpage (level_of kind) (option_copied page.entry) }
-    ensures small { IfSome result (λ slot. slot < 512) }
-{
-    let level = kind.table_level()?;
-    superpage_slot(page?, level)
-}
-
-/// The first slot of a frame, which may be no table, that names a machine frame without a PFN.
-fn unknown_in<F: Frames>(kind: PageType, page: Option<&[u8; 4096]>, machines: &F) -> Option<usize>
-    ensures value { result ≡ find_slot (is_unknown (F.pfns machines.now)) (level_of kind) (option_copied page.entry) }
-    ensures small { IfSome result (λ slot. slot < 512) }
-{
-    let level = kind.table_level()?;
-    unknown_slot(page?, level, machines)
-}
-
-/// What was found before, or else the first slot of this frame that names a machine frame without a PFN, with the PFN of
-/// this frame.
-fn found_or_unknown<F: Frames>(
-    found: Option<(u64, usize)>,
-    pfn: u64,
-    kind: PageType,
-    page: Option<&[u8; 4096]>,
-    machines: &F,
-) -> Option<(u64, usize)>
-    ensures { result ≡ option_or found (option_map (λ slot. (pfn, slot)) (find_slot (is_unknown (F.pfns machines.now)) (level_of kind) (option_copied page.entry))) }
-{
-    if found.is_some() {
-        return found;
-    }
-    let slot = unknown_in(kind, page, machines)?;
-    Some((pfn, slot))
-}
-
-/// The first frame from this number on, with its type and its page.
-fn next_entry(frames: &FrameStore, from: u64) -> Option<(u64, PageType, Option<&[u8; 4096]>)>
-    ensures next { NextEntry from (maps.entries frames.now.frames) (option_map (λ e. (e.0, record { type = e.1; page = option_copied e.2 })) result) }
-    ensures small { IfSome result (λ e. e.0 < pfn_limit) }
-{
-    frames.next(from)
-}
-
 /// The first superpage in all tables, and where there is none, the first entry that names a machine frame without a PFN.
-/// A superpage anywhere comes first, so such an entry is kept until no table is left.
 fn bad_entry<F: Frames>(frames: &FrameStore, machines: &F) -> Option<Unsound>
     ensures { result ≡ first_cause (option_map (λ at. Superpage at.0 at.1) (find_entry is_superpage frames.now.frames)
         ∷ option_map (λ at. NoFrame at.0 at.1) (find_entry (is_unknown (F.pfns machines.now)) frames.now.frames) ∷ []) }
 {
-    let mut unknown = None;
-    let mut from = 0;
-    while let Some((pfn, kind, page)) = next_entry(frames, from) {
-        if let Some(slot) = superpage_in(kind, page) {
-            return Some(Unsound::Superpage(pfn, slot as u64));
-        }
-        unknown = found_or_unknown(unknown, pfn, kind, page, machines);
-        from = pfn + 1;
+    if let Some((pfn, slot)) = first_entry(frames, &IsSuperpage) {
+        return Some(Unsound::Superpage(pfn, slot as u64));
     }
-    let (pfn, slot) = unknown?;
+    let (pfn, slot) = first_entry(frames, &NamesUnknown { frames: machines })?;
     Some(Unsound::NoFrame(pfn, slot as u64))
 }
 

@@ -1,5 +1,5 @@
 -- The blank form of a whole guest is whole.
-use Rattle.mig_pvtables.proofs.Common.{◌≡◌, ℕ, ◌%◌, ◌^◌, ◌<◌, ◌≤◌, Bool, true, false, cond, List, length, Option, Some, None, IsSome, refl, sym, ap, subst, ◌∙◌, arith, ◌==◌, nat_le, length-replicate, option_map, nat_cmp_total, nat_cmp-IsAntisymmetric, eqb-true, eq-eqb, Pv, Hvm, level_of, PartKey, Frame, IsFormed, IsGuestFrame, IsPart, width_of, gdt_ents, FrameOf, FrameMap, GuestOf, p2m_key, vcpu_key, shared_key, EachEntry, IsWithin, blanked_table, length_longs, part_total, part_exact, blanked_page, blanked_frame, blanked_part, blank_of, blank, place_of, type_at, fits_field, field_value, frame_of_field, is_used, blanked_context, blanked_shared, IsWhole, pfn_limit, Kind, PartCode, VcpuBasic, SharedInfo, IsContent, IsFrame, row_of, code_number, of_part, AreP2mFrames, FieldsFit, IsCompletePv, most_gdt_entries, most_policy_entries, HasNoEmulators, raw, changed_part}
+use Rattle.mig_pvtables.proofs.Common.{◌≡◌, ℕ, ◌%◌, ◌^◌, ◌<◌, ◌≤◌, Bool, true, false, cond, List, length, Option, Some, None, IsSome, refl, sym, ap, subst, ◌∙◌, arith, ◌==◌, nat_le, length-replicate, option_map, nat_cmp_total, nat_cmp-IsAntisymmetric, eqb-true, eq-eqb, Pv, Hvm, level_of, PartKey, Frame, IsFormed, IsGuestFrame, IsPart, width_of, gdt_ents, FrameOf, FrameMap, GuestOf, p2m_key, vcpu_key, shared_key, EachEntry, IsWithin, blanked_table, length_longs, part_total, part_exact, blanked_page, blanked_frame, blanked_part, blank_of, blank, place_of, type_at, fits_field, field_value, frame_of_field, is_used, blanked_context, blanked_shared, IsWhole, pfn_limit, Kind, PartCode, VcpuBasic, SharedInfo, IsContent, IsFrame, row_of, code_number, of_part, AreP2mFrames, FieldsFit, IsCompletePv, most_gdt_entries, most_policy_entries, HasNoEmulators, changed_part}
 use Rattle.mig_pvtables.specs.Blank.{zero_page}
 use Rattle.mig_pvtables.proofs.BlankSays.{same_used, same_said, said_fits, blanked_ents, blanked_field}
 use Rattle.mig_pvtables.proofs.BlankShape.{table_unlisted, entries_there, type_there, frame_there, part_there, listed_there, context_back}

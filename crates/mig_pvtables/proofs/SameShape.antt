@@ -1,5 +1,5 @@
 -- What stays where frames and parts are changed: types, places in the list of P2M frames, and what a frame or a part has to be.
-use Rattle.mig_pvtables.proofs.Common.{◌≡◌, ℕ, ◌<◌, true, List, length, Option, Some, None, refl, sym, ap, subst, ◌∙◌, option_map, nat_cmp_total, nat_cmp-IsAntisymmetric, PartKey, Entry, FrameOf, FrameMap, PartMap, IsPart, level_of, entry, EachEntry, each_value, type_at, listed, Kind, PartCode, IsContent, IsFrame, row_of, code_number, is_some-mapped, IsEmptyRange, AreP2mFrames}
+use Rattle.mig_pvtables.proofs.Common.{◌≡◌, ℕ, ◌<◌, List, length, Option, Some, None, refl, sym, ap, subst, ◌∙◌, option_map, nat_cmp_total, nat_cmp-IsAntisymmetric, Entry, FrameOf, FrameMap, PartMap, level_of, entry, EachEntry, each_value, type_at, listed, IsFrame, is_some-mapped, IsEmptyRange, AreP2mFrames}
 use Rattle.mig_pvtables.proofs.EachValue.{get_each}
 use Rattle.std.specs.FinMap as maps
 

@@ -1,5 +1,5 @@
 -- Walks along the entries of a map, up to the first that gives an answer.
-use Rattle.mig_pvtables.proofs.Common.{◌≡◌, ◌≢◌, ℕ, ◌+◌, ◌<◌, ◌≤◌, Bool, true, false, cond, not, List, [], ◌∷◌, length, Option, Some, None, is_some, is_none, refl, sym, ap, subst, inl, inr, cases_eq, ◌∙◌, arith, ◌&&◌, ◌==◌, find, option_map, option_or, nat_lt, Entry, FrameOf, FrameMap, PartKey, PartMap, Part, parts_after, part_total, part_exact, PageType, level_of, first_passes, first_some, find_slot, find_entry, type_at, fits_field, gdt_ents, field_value, frame_of_field, cond_some, entries_from, field_numbers, Usage, most_gdt_entries, misses, Bor, MatchOption, parts_of}
+use Rattle.mig_pvtables.proofs.Common.{◌≡◌, ◌≢◌, ℕ, ◌+◌, ◌<◌, ◌≤◌, Bool, true, false, cond, not, List, [], ◌∷◌, length, Option, Some, None, refl, sym, ap, subst, inl, inr, cases_eq, ◌∙◌, arith, ◌&&◌, ◌==◌, find, option_map, option_or, nat_lt, Entry, FrameOf, FrameMap, PartKey, PartMap, Part, parts_after, part_total, part_exact, PageType, level_of, first_passes, first_some, find_slot, find_entry, fits_field, gdt_ents, field_value, frame_of_field, cond_some, entries_from, field_numbers, Usage, most_gdt_entries, misses, Bor, MatchOption, parts_of}
 use Rattle.std.specs.Array.{IsWholeChunk}
 use Rattle.mig_guest.proofs.NextEntries.{from_zero}
 use Rattle.mig_pvtables.proofs.BlankCodes.{is_next, by_test, next_parts}
@@ -28,14 +28,6 @@ module _ {A C : Type 0} (f : A → Option C) (now rest : List A) (answer : Optio
 pub frames_counted : (frames : FrameMap) → maps.len frames ≡ length (maps.entries frames)
 frames_counted frames = maps.len-entries frames
 
--- a frame that isn't there
-pub not_there : (frames : FrameMap) (pfn : ℕ) (type : Option PageType) → type ≡ type_at frames pfn → is_some type ≡ false → is_none (maps.get frames pfn) ≡ true
-not_there frames pfn type is none = by_case (maps.get frames pfn) (sym (ap is_some is) ∙ none)
-  where
-    by_case : (o : Option FrameOf) → is_some (option_map (λ f. f.type) o) ≡ false → is_none o ≡ true
-    by_case None h = refl
-    by_case (Some f) h = let no : true ≡ false = h in cc
-
 module _ (bad : Entry → Bool) (frames : FrameMap) where
   -- what is found in one frame
   abbrev pub in_frame : ℕ × FrameOf → Option (ℕ × ℕ)
@@ -61,30 +53,6 @@ module _ (bad : Entry → Bool) (frames : FrameMap) where
 
       pub frames_fewer : length (entries_from (e.0 + 1) (maps.entries frames)) < length (entries_from from (maps.entries frames))
       frames_fewer = omega (arith, ap length next)
-
-or_or : {C : Type 0} (a b c : Option C) → option_or (option_or a b) c ≡ option_or a (option_or b c)
-or_or None b c = refl
-or_or (Some x) b c = refl
-
-or_none : {C : Type 0} (a : Option C) → a ≡ option_or a None
-or_none None = refl
-or_none (Some x) = refl
-
--- what was found is kept while all frames are walked
-module _ (bad : Entry → Bool) (frames : FrameMap) where
-  -- what was found, or else what the frames from a number on give, is what all give
-  abbrev pub IsKeptFrom : Option (ℕ × ℕ) → ℕ → Type 0
-  IsKeptFrom found from = option_or found (first_some (in_frame bad frames) (entries_from from (maps.entries frames))) ≡ find_entry bad frames
-
-  module _ (found : Option (ℕ × ℕ)) (from : ℕ) (kept : IsKeptFrom found from) where
-    pub kept_end : entries_from from (maps.entries frames) ≡ [] → found ≡ find_entry bad frames
-    kept_end none = or_none found ∙ ap (λ es. option_or found (first_some (in_frame bad frames) es)) (sym none) ∙ kept
-
-    pub kept_next : (e : ℕ × FrameOf) → entries_from from (maps.entries frames) ≡ e ∷ entries_from (e.0 + 1) (maps.entries frames)
-        → (now : Option (ℕ × ℕ)) → now ≡ option_or found (in_frame bad frames e) → IsKeptFrom now (e.0 + 1)
-    kept_next e next now is =
-        let rest = first_some (in_frame bad frames) (entries_from (e.0 + 1) (maps.entries frames)) in
-        ap (λ o. option_or o rest) is ∙ or_or found (in_frame bad frames e) rest ∙ ap (λ es. option_or found (first_some (in_frame bad frames) es)) (sym next) ∙ kept
 
 -- ---- contexts of vCPUs
 

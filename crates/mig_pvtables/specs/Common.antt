@@ -7,7 +7,7 @@ pub use Rattle.byteorder.specs.Endian.{little_bytes}
 pub use Rattle.mig_bytes.specs.Bytes.{AreBytes}
 pub use Rattle.mig_bytes.specs.Fields.{with_field}
 pub use Rattle.mig_guest.specs.Formed.{HasNoEmulators, IsFormed, gdt_ents}
-pub use Rattle.mig_guest.specs.Frames.{FrameMap, FrameOf, IsFew}
+pub use Rattle.mig_guest.specs.Frames.{FrameMap, FrameOf, IsFew, NextEntry}
 pub use Rattle.mig_guest.specs.Guests.{GuestOf}
 pub use Rattle.mig_guest.specs.Longs.{each_long, long_at, longs}
 pub use Rattle.mig_guest.specs.Order.{part_cmp}

@@ -18,6 +18,7 @@ mod listing;
 mod p2m;
 mod rename;
 mod renaming_law;
+mod searching;
 mod table;
 mod testing;
 mod vcpu;
@@ -37,11 +38,12 @@ pub use listing::{
 };
 pub use mig_guest::Entry;
 pub use p2m::p2m_page;
-pub use rename::{BadEntry, Why, localise_table, normalise_table, rename_back, unknown_slot};
+pub use rename::{BadEntry, NamesUnknown, Why, localise_table, normalise_table, rename_back};
 pub use renaming_law::{
     localised_table_comes_back, normalise_table_refuses_the_first, renamed_table_says_the_same,
 };
-pub use table::{check_table, entry, put_entry, superpage_slot};
+pub use searching::{EntryTest, first_entry, first_slot};
+pub use table::{IsSuperpage, check_table, entry, put_entry};
 pub use testing::{WholeAnswer, whole, whole_by};
 pub use vcpu::{FIELDS, VCPU_BASIC, gdt_ents, host_frame, put_vcpu_frame, vcpu_frame};
 pub use walking::{

@@ -3,10 +3,11 @@ ghost use Rattle.std.specs.Result.{OnOk, OnErr, IfErr};
 ghost use Rattle.mig_pvtables.specs.Common.{Frame};
 ghost use Rattle.mig_guest.specs.Tables.{entry as what_is_said};
 ghost use Rattle.mig_pvtables.specs.Renaming.{renamed_table, normalised_table};
-ghost use Rattle.mig_pvtables.specs.BadEntries.{bad_entry, first_unknown};
+ghost use Rattle.mig_pvtables.specs.BadEntries.{bad_entry, is_unknown};
 
 use crate::frames::Frames;
-use crate::table::{SLOTS, entry, put_entry, superpage_slot};
+use crate::searching::{EntryTest, first_slot};
+use crate::table::{IsSuperpage, SLOTS, entry, put_entry};
 use mig_bytes::put_u64_le;
 use mig_guest::Entry;
 use thiserror::Error;
@@ -43,23 +44,18 @@ pub struct BadEntry {
     pub why: Why,
 }
 
-/// The first slot whose entry names a machine frame that has no frame number.
-#[tactic(auto, using(crate::proofs::Slots::no_slot))]
-pub fn unknown_slot<F: Frames>(page: &[u8; 4096], level: u8, frames: &F) -> Option<usize>
-    requires least { 1 ≤ level }
-    requires most { level ≤ 4 }
-    ensures value { result ≡ first_unknown (F.pfns frames.now) level page.now }
-    ensures small { IfSome result (λ slot. slot < 512) }
-{
-    for slot in 0..SLOTS {
-        if let Entry::Frame(mfn) = entry(page, level, slot) {
-            match frames.pfn_of(mfn) {
-                Some(_) => {}
-                None => return Some(slot),
-            }
-        }
+/// That an entry names a machine frame that has no frame number.
+#[derive(Drop)]
+pub struct NamesUnknown<'a, F> {
+    pub frames: &'a F,
+}
+
+impl<F: Frames> EntryTest for NamesUnknown<'_, F> {
+    ghost passing = { λ test. is_unknown (F.pfns test.frames.now) };
+
+    fn passes(&self, said: Entry) -> bool {
+        matches!(said, Entry::Frame(mfn) if self.frames.pfn_of(mfn).is_none())
     }
-    None
 }
 
 /// Sets blank slots to 0, and puts the frame number of each machine frame that an entry names in its place.
@@ -98,13 +94,13 @@ pub fn normalise_table<F: Frames>(
     ensures first { IfErr result (λ bad. bad_entry (F.pfns frames.now) level page.old ≡ Some bad) }
     ensures err { OnErr result (page.new ≡ page.old) }
 {
-    if let Some(slot) = superpage_slot(page, level) {
+    if let Some(slot) = first_slot(page, level, &IsSuperpage) {
         return Err(BadEntry {
             slot: slot as u16,
             why: Why::Superpage,
         });
     }
-    if let Some(slot) = unknown_slot(page, level, frames) {
+    if let Some(slot) = first_slot(page, level, &NamesUnknown { frames }) {
         return Err(BadEntry {
             slot: slot as u16,
             why: Why::NoFrame,

@@ -1,8 +1,9 @@
-ghost use Rattle.std.specs.Prelude.{◌≡◌, ◌≤◌, ◌<◌, ◌*◌, ◌^◌, ℕ, IfSome};
+ghost use Rattle.std.specs.Prelude.{◌≡◌, ◌≤◌, ◌<◌, ◌*◌, ◌^◌};
 ghost use Rattle.mig_pvtables.specs.Common.{little_bytes, with_field, long_at};
 ghost use Rattle.mig_guest.specs.Tables.{entry as what_is_said, named_frame};
-ghost use Rattle.mig_pvtables.specs.Tables.{first_superpage, first_outside, fault_of_page_table, with_frame, is_superpage, names_above};
+ghost use Rattle.mig_pvtables.specs.Tables.{fault_of_page_table, is_superpage, names_above, with_frame};
 
+use crate::searching::{EntryTest, first_slot};
 use mig_bytes::{put_u64_le, u64_le};
 use mig_guest::Entry;
 use mig_headers::Cause;
@@ -43,38 +44,30 @@ pub fn put_entry(page: &mut [u8; 4096], slot: usize, frame: u64)
     put_u64_le(page, 8 * slot, (e >> 52 << 52) + (frame * 4096 + e % 4096));
 }
 
-/// The first slot with a superpage.
-#[tactic(auto, using(crate::proofs::Slots::no_slot))]
-pub fn superpage_slot(page: &[u8; 4096], level: u8) -> Option<usize>
-    requires least { 1 ≤ level }
-    requires most { level ≤ 4 }
-    ensures value { result ≡ first_superpage level page.now }
-    ensures small { IfSome result (λ slot. slot < 512) }
-{
-    for slot in 0..SLOTS {
-        if let Entry::Superpage = entry(page, level, slot) {
-            return Some(slot);
-        }
+/// That an entry is a superpage.
+#[derive(Drop)]
+pub struct IsSuperpage;
+
+impl EntryTest for IsSuperpage {
+    ghost passing = { λ _. is_superpage };
+
+    fn passes(&self, said: Entry) -> bool {
+        matches!(said, Entry::Superpage)
     }
-    None
 }
 
-/// The first slot whose entry names a frame above `top`.
-#[tactic(auto, using(crate::proofs::Slots::no_slot))]
-fn outside_slot(page: &[u8; 4096], level: u8, top: u64) -> Option<usize>
-    requires least { 1 ≤ level }
-    requires most { level ≤ 4 }
-    ensures value { result ≡ first_outside top level page.now }
-    ensures small { IfSome result (λ slot. slot < 512) }
-{
-    for slot in 0..SLOTS {
-        if let Entry::Frame(pfn) = entry(page, level, slot) {
-            if top < pfn {
-                return Some(slot);
-            }
-        }
+/// That an entry names a frame above `top`.
+#[derive(Drop)]
+struct NamesAbove {
+    top: u64,
+}
+
+impl EntryTest for NamesAbove {
+    ghost passing = { λ test. names_above test.top };
+
+    fn passes(&self, said: Entry) -> bool {
+        matches!(said, Entry::Frame(pfn) if self.top < pfn)
     }
-    None
 }
 
 /// The bits of a slot that name a frame.
@@ -93,9 +86,9 @@ pub fn check_table(page: &[u8; 4096], level: u8, entry: u32, top: u64) -> Option
     ensures { result ≡ fault_of_page_table entry top level page.now }
 {
     let place = u64::from(entry);
-    if let Some(slot) = superpage_slot(page, level) {
+    if let Some(slot) = first_slot(page, level, &IsSuperpage) {
         return Some(Cause::Superpage(place, slot as u64));
     }
-    let slot = outside_slot(page, level, top)?;
+    let slot = first_slot(page, level, &NamesAbove { top })?;
     Some(Cause::EntryOutside(place, slot as u64, frame_at(page, slot)))
 }

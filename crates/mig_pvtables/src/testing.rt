@@ -7,11 +7,11 @@ ghost use Rattle.mig_pvtables.specs.declared.testing.WholeAnswer.TheVariants.{Fa
 
 use crate::fields::{InStream, bad_field};
 use crate::listing::{TypedFrames, misplaced_frame, missing_part};
-use crate::table::{SLOTS, entry};
+use crate::searching::{EntryTest, first_entry};
 use mig_bytes::Memory;
 use mig_guest::{Entry, Guest};
 use mig_headers::{Cause, Kind};
-use mig_pagetypes::{MOST_FRAMES, PageType};
+use mig_pagetypes::MOST_FRAMES;
 use std::alloc::Global;
 use thiserror::Error;
 
@@ -46,45 +46,18 @@ fn too_many(guest: &Guest) -> Option<Cause>
     }
 }
 
-/// The first slot of a table that names a frame that isn't there.
-#[tactic(auto, using(crate::proofs::Slots::no_slot))]
-fn absent_slot(guest: &Guest, page: &[u8; 4096], level: u8) -> Option<usize>
-    requires least { 1 ≤ level }
-    requires most { level ≤ 4 }
-    ensures value { result ≡ find (λ slot. is_absent guest.now.frames (what_is_said level page.now slot)) slots }
-    ensures small { IfSome result (λ slot. slot < 512) }
-{
-    for slot in 0..SLOTS {
-        if let Entry::Frame(pfn) = entry(page, level, slot) {
-            if guest.frame(pfn).is_none() {
-                return Some(slot);
-            }
-        }
-    }
-    None
+/// That an entry names a frame that isn't there.
+#[derive(Drop)]
+struct NamesAbsent<'a> {
+    guest: &'a Guest,
 }
 
-/// The same of a frame, which may be no table.
-fn absent_in(guest: &Guest, kind: PageType, page: Option<&[u8; 4096]>) -> Option<usize>
-    ensures value { result ≡ find_slot (is_absent guest.now.frames) (level_of kind) (option_copied page.entry) }
-    ensures small { IfSome result (λ slot. slot < 512) }
-{
-    let level = kind.table_level()?;
-    absent_slot(guest, page?, level)
-}
+impl EntryTest for NamesAbsent<'_> {
+    ghost passing = { λ test. is_absent test.guest.now.frames };
 
-/// The first entry of a table that names a frame that isn't there: the table's PFN, and the slot.
-fn absent_target(guest: &Guest) -> Option<(u64, usize)>
-    ensures { result ≡ find_entry (is_absent guest.now.frames) guest.now.frames }
-{
-    let mut from = 0;
-    while let Some((pfn, kind, page)) = guest.next_entry(from) {
-        if let Some(slot) = absent_in(guest, kind, page) {
-            return Some((pfn, slot));
-        }
-        from = pfn + 1;
+    fn passes(&self, said: Entry) -> bool {
+        matches!(said, Entry::Frame(pfn) if self.guest.frame(pfn).is_none())
     }
-    None
 }
 
 /// The first cause in a PV guest that comes behind those of its P2M frames.
@@ -93,7 +66,7 @@ fn later_fault<T: TypedFrames>(guest: &Guest, frames: &T) -> Option<Cause>
     ensures { result ≡ first_cause (option_map (λ at. TargetAbsent at.0 at.1) (find_entry (is_absent guest.now.frames) guest.now.frames)
         ∷ option_map (λ at. VcpuFrame at.0 at.1) (find_field (T.frames frames.now) guest.now.parts) ∷ more_than_allowed guest.now.frames ∷ []) }
 {
-    if let Some((pfn, slot)) = absent_target(guest) {
+    if let Some((pfn, slot)) = first_entry(guest.frame_store(), &NamesAbsent { guest }) {
         return Some(Cause::TargetAbsent(pfn, slot as u64));
     }
     if let Some((id, field)) = bad_field(guest.parts(), &InStream { frames }) {
