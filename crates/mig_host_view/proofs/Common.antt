@@ -21,7 +21,7 @@ pub use Rattle.mig_guest.specs.Longs.{each_long, long_at, longs}
 pub use Rattle.mig_guest.specs.PartCodes.{code_number, row_of}
 pub use Rattle.mig_guest.specs.PartKeys.{context_key, p2m_key, shared_key, vcpu_key}
 pub use Rattle.mig_guest.specs.Parts.{FitsPolicy, PartMap, parts_after}
-pub use Rattle.mig_guest.specs.Tables.{EachEntry, IsWithin, blanked_entry, blanked_table, entry, entry_of}
+pub use Rattle.mig_guest.specs.Tables.{EachEntry, IsWithin, blanked_table, entry, entry_of}
 pub use Rattle.mig_guest.specs.declared.part_code.PartCode.{PartCode}
 pub use Rattle.mig_guest.specs.declared.part_code.PartCode.TheVariants.{EmulatorPairs, HvmContext, P2mFrames, VcpuBasic}
 pub use Rattle.mig_guest.specs.declared.part_key.PartKey.{PartKey}
@@ -46,7 +46,7 @@ pub use Rattle.mig_pvtables.proofs.BlankSays.{at_field, blanked_at, field_there,
 pub use Rattle.mig_pvtables.proofs.EachValue.{count_each, each_each, each_same, from_each, len_each, same_each, some_each, stays_each, to_each}
 pub use Rattle.mig_pvtables.proofs.LongSteps.{ChangedWhere, OneMore, all_changed, each_twice, none_changed, one_changed, one_more_below, one_stays, still}
 pub use Rattle.mig_pvtables.proofs.PvGuests.{no_entry, no_p2m, none_misses, pv_complete, pv_whole}
-pub use Rattle.mig_pvtables.proofs.Renamed.{EntryGoesBack, TableGoesBack, blanked_small, blanks_first, by_frames, fits_back, renamed_long, renamed_says, renamed_small, said_anew, table_back}
+pub use Rattle.mig_pvtables.proofs.Renamed.{EntryGoesBack, TableGoesBack, by_frames, fits_back, renamed_long, renamed_says, said_anew, table_back}
 pub use Rattle.mig_pvtables.proofs.SameShape.{entries_changed, kept_p2m, mapped_holds, repaged_is_frame, types_kept}
 pub use Rattle.mig_pvtables.proofs.Searches.{all_none, cond_none, find_in_range, first_found, is_there, none_mapped, overwritten}
 pub use Rattle.mig_pvtables.proofs.Walks.{IsSoBehind, contexts_start, in_fields, large_in, taken}
@@ -56,7 +56,7 @@ pub use Rattle.mig_pvtables.specs.BlankSteps.{blanked_code, only, where_listed, 
 pub use Rattle.mig_pvtables.specs.Faults.{find_entry, find_in_contexts, find_p2m, first_cause, first_some, fits_field, type_at}
 pub use Rattle.mig_pvtables.specs.P2mFrames.{count_in, listed, listed_in, place_in, place_of}
 pub use Rattle.mig_pvtables.specs.P2mPages.{p2m_page}
-pub use Rattle.mig_pvtables.specs.Renaming.{GoesBack, NamesFit, entry_named, name_for, normalised_table, renamed_table}
+pub use Rattle.mig_pvtables.specs.Renaming.{GoesBack, NamesFit, entry_named, name_for, renamed_table}
 pub use Rattle.mig_pvtables.specs.Tables.{is_superpage}
 pub use Rattle.mig_pvtables.specs.VcpuContexts.{Usage, blanked_context, blanked_shared, field_at, field_of_frame, field_place, field_value, frame_of_field, is_marked, is_used, is_used_somewhere}
 pub use Rattle.mig_pvtables.specs.Whole.{IsWhole}

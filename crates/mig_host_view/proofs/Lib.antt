@@ -15,6 +15,5 @@ pub mod ViewedGuests
 pub mod HostViews
 pub mod LocaliseContexts
 pub mod LocaliseGuests
-pub mod NormaliseFrames
 pub mod NormaliseGuests
 pub mod ViewedBytes

@@ -10,6 +10,7 @@
 
 mod localising;
 mod normalising;
+mod renaming;
 mod soundness;
 mod view_law;
 

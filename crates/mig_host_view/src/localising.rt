@@ -1,30 +1,17 @@
 ghost use Rattle.std.specs.Prelude.{◌≡◌, ◌<◌, ◌^◌};
 ghost use Rattle.mig_pvtables.specs.P2mPages.{p2m_page as page_of};
-ghost use Rattle.mig_host_view.specs.Common.{renamed_table, is_used, IsWhole};
+ghost use Rattle.mig_host_view.specs.Common.{renamed_table, IsWhole};
 ghost use Rattle.mig_host_view.specs.Localised.{localised};
-ghost use Rattle.mig_host_view.specs.RenamedContexts.{renamed_context};
 
+use crate::renaming::Renaming;
 use mig_guest::Guest;
 use mig_headers::Kind;
 use mig_pvtables::{
-    ContextStep, FIELDS, Frames, P2mStep, TableStep, each_context, each_p2m_frame, each_table,
-    localise_table, p2m_page, put_vcpu_frame, vcpu_frame,
+    Frames, P2mStep, TableStep, ToMachine, each_context, each_p2m_frame, each_table,
+    localise_table, p2m_page,
 };
 
-/// Puts the machine frame of each frame number that vCPU `id` uses in its place.
-fn localise_context<F: Frames>(context: &mut [u8; 5168], id: u32, frames: &F)
-    ensures { context.new ≡ renamed_context is_used (F.mfns frames.now) id context.old }
-{
-    for field in 0..FIELDS {
-        if let Some(pfn) = vcpu_frame(context, id, field) {
-            if let Some(mfn) = frames.mfn_of(pfn) {
-                put_vcpu_frame(context, id, field, mfn);
-            }
-        }
-    }
-}
-
-/// Machine frames stand in place of frame numbers, and each P2M frame holds those of its range.
+/// Machine frames stand in place of frame numbers in tables, and each P2M frame holds those of its range.
 #[derive(Drop)]
 struct Localising<'a, F> {
     frames: &'a F,
@@ -48,14 +35,6 @@ impl<F: Frames> P2mStep for Localising<'_, F> {
     }
 }
 
-impl<F: Frames> ContextStep for Localising<'_, F> {
-    ghost contexts = { λ step. renamed_context is_used (F.mfns step.frames.now) };
-
-    fn change_context(&self, context: &mut [u8; 5168], id: u32) {
-        localise_context(context, id, self.frames);
-    }
-}
-
 /// Brings a whole guest to the form in which it stands in a machine: tables and contexts of vCPUs name machine frames, and
 /// each P2M frame holds those of its range. An HVM guest stays. Takes no memory.
 pub fn localise_guest<F: Frames>(guest: &mut Guest, frames: &F)
@@ -68,7 +47,13 @@ pub fn localise_guest<F: Frames>(guest: &mut Guest, frames: &F)
             let step = Localising { frames };
             each_table(guest, &step);
             each_p2m_frame(guest, &step);
-            each_context(guest, &step);
+            frames.one_to_one();
+            each_context(
+                guest,
+                &Renaming {
+                    names: &ToMachine { frames },
+                },
+            );
         }
     }
 }

@@ -1,41 +1,27 @@
 ghost use Rattle.std.specs.Prelude.{◌≡◌, ◌≤◌, ◌<◌, ◌^◌, ℕ, List, length, Some, IfSome, IsSome};
 ghost use Rattle.std.specs.FinMap as maps;
-ghost use Rattle.mig_host_view.specs.Common.{Pv, PartKey, shared_key, blanked_table, renamed_table, is_used_somewhere};
+ghost use Rattle.mig_host_view.specs.Common.{Pv, PartKey, shared_key, blanked_table, renamed_table};
 ghost use Rattle.mig_host_view.specs.Normalised.{normalised};
-ghost use Rattle.mig_host_view.specs.RenamedContexts.{renamed_context};
 
+use crate::renaming::Renaming;
 use mig_guest::Guest;
 use mig_pvtables::{
-    ContextStep, FIELDS, Frames, TableStep, blank_shared_info, blank_vcpus, each_context,
-    each_table, host_frame, put_vcpu_frame, rename_back, zero_p2m_frames,
+    Frames, TableStep, ToStream, blank_shared_info, blank_table, blank_vcpus, each_context,
+    each_table, rename_table, zero_p2m_frames,
 };
 
-/// Brings a table to its form in a stream. It makes no difference whether its blank slots are 0 before or after PFNs stand
-/// in it.
+/// Brings a table to its form in a stream.
 fn normalise_page<F: Frames>(page: &mut [u8; 4096], level: u8, machines: &F)
     requires least { 1 ≤ level }
     requires most { level ≤ 4 }
     requires names { (mfn pfn : ℕ) → F.pfns machines.now mfn ≡ Some pfn → pfn < 2 ^ 40 }
     ensures { page.new ≡ blanked_table level (renamed_table (F.pfns machines.now) level page.old) }
 {
-    rename_back(page, level, machines);
+    rename_table(page, level, &ToStream { frames: machines });
+    blank_table(page, level);
 }
 
-/// Puts the PFN of each machine frame that vCPU `id` uses in its place.
-fn rename_context<F: Frames>(context: &mut [u8; 5168], id: u32, machines: &F)
-    requires { (mfn pfn : ℕ) → F.pfns machines.now mfn ≡ Some pfn → pfn < 2 ^ 40 }
-    ensures { context.new ≡ renamed_context is_used_somewhere (F.pfns machines.now) id context.old }
-{
-    for field in 0..FIELDS {
-        if let Some(mfn) = host_frame(context, id, field) {
-            if let Some(pfn) = machines.pfn_of(mfn) {
-                put_vcpu_frame(context, id, field, pfn);
-            }
-        }
-    }
-}
-
-/// Tables come to their form in a stream, and PFNs stand in place of machine frames in contexts.
+/// Tables come to their form in a stream.
 #[derive(Drop)]
 struct Normalising<'a, F> {
     machines: &'a F,
@@ -51,16 +37,6 @@ impl<F: Frames> TableStep for Normalising<'_, F> {
     }
 }
 
-impl<F: Frames> ContextStep for Normalising<'_, F> {
-    ghost contexts = { λ step. renamed_context is_used_somewhere (F.pfns step.machines.now) };
-
-    ghost can_change = { λ step. (mfn pfn : ℕ) → F.pfns step.machines.now mfn ≡ Some pfn → pfn < 2 ^ 40 };
-
-    fn change_context(&self, context: &mut [u8; 5168], id: u32) {
-        rename_context(context, id, self.machines);
-    }
-}
-
 /// Brings a PV guest that stands in a machine to its form in a stream: PFNs stand in place of machine frames, in blank
 /// form. What names no PFN stays. Takes no memory.
 pub fn normalise_guest<F: Frames>(guest: &mut Guest, machines: &F)
@@ -71,10 +47,10 @@ pub fn normalise_guest<F: Frames>(guest: &mut Guest, machines: &F)
     requires names { (mfn pfn : ℕ) → F.pfns machines.now mfn ≡ Some pfn → pfn < 2 ^ 40 }
     ensures { guest.new ≡ normalised (F.pfns machines.now) guest.old }
 {
-    let step = Normalising { machines };
-    each_table(guest, &step);
+    each_table(guest, &Normalising { machines });
     zero_p2m_frames(guest);
-    each_context(guest, &step);
+    let names = ToStream { frames: machines };
+    each_context(guest, &Renaming { names: &names });
     blank_vcpus(guest);
     blank_shared_info(guest);
 }

@@ -24,7 +24,7 @@ const FRAME_LIST_LIST: usize = 3096;
 
 /// Sets the hypervisor's slots of a level 4 table, 256 to 271, to 0; a table of another level stays.
 #[tactic(auto, using(crate::proofs::BlankBytes::level_4_blanked, crate::proofs::BlankBytes::other_blanked))]
-fn blank_table(page: &mut [u8; 4096], level: u8)
+pub fn blank_table(page: &mut [u8; 4096], level: u8)
     ensures { page.new ≡ blanked_table level page.old }
 {
     if level == 4 {

@@ -24,9 +24,9 @@ mod testing;
 mod vcpu;
 mod walking;
 
-pub use blanking::{blank, blank_shared_info, blank_vcpus, zero_p2m_frames};
+pub use blanking::{blank, blank_shared_info, blank_table, blank_vcpus, zero_p2m_frames};
 pub use fields::{FieldFrames, bad_field, is_type_of_field};
-pub use frames::Frames;
+pub use frames::{FrameNames, Frames, ToMachine, ToStream};
 pub use law::{
     blank_form_is_blank, blank_form_is_whole, faultless_table_is_within, hvm_guest_has_two_faults,
     hvm_guest_is_blank, hvm_guest_is_whole, pv_guest_is_whole, some_blank_pv_guest_is_whole,
@@ -38,7 +38,7 @@ pub use listing::{
 };
 pub use mig_guest::Entry;
 pub use p2m::p2m_page;
-pub use rename::{BadEntry, NamesUnknown, Why, localise_table, normalise_table, rename_back};
+pub use rename::{BadEntry, NamesUnknown, Why, localise_table, normalise_table, rename_table};
 pub use renaming_law::{
     localised_table_comes_back, normalise_table_refuses_the_first, renamed_table_says_the_same,
 };

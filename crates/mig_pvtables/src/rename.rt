@@ -5,12 +5,28 @@ ghost use Rattle.mig_guest.specs.Tables.{entry as what_is_said};
 ghost use Rattle.mig_pvtables.specs.Renaming.{renamed_table, normalised_table};
 ghost use Rattle.mig_pvtables.specs.BadEntries.{bad_entry, is_unknown};
 
-use crate::frames::Frames;
+use crate::blanking::blank_table;
+use crate::frames::{FrameNames, Frames, ToMachine, ToStream};
 use crate::searching::{EntryTest, first_slot};
 use crate::table::{IsSuperpage, SLOTS, entry, put_entry};
-use mig_bytes::put_u64_le;
 use mig_guest::Entry;
 use thiserror::Error;
+
+/// Puts the other name of each frame that an entry names in its place. An entry whose frame has none stays.
+pub fn rename_table<N: FrameNames>(page: &mut [u8; 4096], level: u8, names: &N)
+    requires least { 1 ≤ level }
+    requires most { level ≤ 4 }
+    requires small { (slot n name : ℕ) → slot < 512 → what_is_said level page.old slot ≡ Frame n → N.names names.now n ≡ Some name → name < 2 ^ 40 }
+    ensures { page.new ≡ renamed_table (N.names names.now) level page.old }
+{
+    for slot in 0..SLOTS {
+        if let Entry::Frame(frame) = entry(page, level, slot) {
+            if let Some(name) = names.name_of(frame) {
+                put_entry(page, slot, name);
+            }
+        }
+    }
+}
 
 /// Puts the machine frame of each frame number that an entry names in its place. An entry whose frame number has none
 /// stays.
@@ -19,13 +35,8 @@ pub fn localise_table<F: Frames>(page: &mut [u8; 4096], level: u8, frames: &F)
     requires most { level ≤ 4 }
     ensures { page.new ≡ renamed_table (F.mfns frames.now) level page.old }
 {
-    for slot in 0..SLOTS {
-        if let Entry::Frame(pfn) = entry(page, level, slot) {
-            if let Some(mfn) = frames.mfn_of(pfn) {
-                put_entry(page, slot, mfn);
-            }
-        }
-    }
+    frames.one_to_one();
+    rename_table(page, level, &ToMachine { frames });
 }
 
 /// Why an entry has no form in a stream.
@@ -58,26 +69,6 @@ impl<F: Frames> EntryTest for NamesUnknown<'_, F> {
     }
 }
 
-/// Sets blank slots to 0, and puts the frame number of each machine frame that an entry names in its place.
-pub fn rename_back<F: Frames>(page: &mut [u8; 4096], level: u8, frames: &F)
-    requires least { 1 ≤ level }
-    requires most { level ≤ 4 }
-    requires small { (slot n pfn : ℕ) → slot < 512 → what_is_said level page.old slot ≡ Frame n → F.pfns frames.now n ≡ Some pfn → pfn < 2 ^ 40 }
-    ensures { page.new ≡ normalised_table (F.pfns frames.now) level page.old }
-{
-    for slot in 0..SLOTS {
-        match entry(page, level, slot) {
-            Entry::Blank => put_u64_le(page, 8 * slot, 0),
-            Entry::Frame(mfn) => {
-                if let Some(pfn) = frames.pfn_of(mfn) {
-                    put_entry(page, slot, pfn);
-                }
-            }
-            _ => {}
-        }
-    }
-}
-
 /// Brings a machine's table to its form in a stream: blank slots are 0, and entries name frame numbers. `Err` is the
 /// first superpage, or where there is none the first entry whose machine frame has no frame number; the page is as it
 /// was then.
@@ -106,6 +97,7 @@ pub fn normalise_table<F: Frames>(
             why: Why::NoFrame,
         });
     }
-    rename_back(page, level, frames);
+    blank_table(page, level);
+    rename_table(page, level, &ToStream { frames });
     Ok(())
 }

@@ -1,6 +1,0 @@
-use Rattle.mig_pvtables.proofs.LongSteps.{ChangedBelow}
-use Rattle.mig_pvtables.proofs.Renamed.{renamed_long}
-use Rattle.mig_pvtables.proofs.rename.localise_table.Given as goal
-
-abbrev pub invariant-loop-slot : goal.invariant-loop-slot
-invariant-loop-slot g l = ChangedBelow 512 (renamed_long (g.F.Frames.mfns l.frames) l.level) l.fn.page l.slot l.page
