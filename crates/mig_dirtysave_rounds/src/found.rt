@@ -1,3 +1,7 @@
+ghost use Rattle.std.specs.Prelude.{◌≡◌, Some};
+ghost use Rattle.mig_dirtysave_rounds.specs.Sends.{or_first, place};
+
+use mig_bytes::{Failed, WriteFailed};
 use mig_pagetypes::PageType;
 
 /// The machine or the sink failed.
@@ -7,6 +11,26 @@ pub enum SendFault {
     MachineFault,
     /// The sink failed.
     WriteFault,
+}
+
+impl From<Failed> for SendFault {
+    ghost use Rattle.mig_dirtysave_rounds.specs.declared.found.SendFault.TheVariants.{MachineFault};
+
+    ghost from_gives = { λ _ fault. fault ≡ MachineFault };
+
+    fn from(_fault: Failed) -> SendFault {
+        SendFault::MachineFault
+    }
+}
+
+impl From<WriteFailed> for SendFault {
+    ghost use Rattle.mig_dirtysave_rounds.specs.declared.found.SendFault.TheVariants.{WriteFault};
+
+    ghost from_gives = { λ _ fault. fault ≡ WriteFault };
+
+    fn from(_fault: WriteFailed) -> SendFault {
+        SendFault::WriteFault
+    }
 }
 
 /// What was found at a frame number.
@@ -51,9 +75,6 @@ impl Worst {
         }
     }
 }
-
-ghost use Rattle.std.specs.Prelude.{◌≡◌, Some};
-ghost use Rattle.mig_dirtysave_rounds.specs.Sends.{or_first, place};
 
 /// What was found before, or else this place.
 fn first_of(before: Option<(u64, usize)>, pfn: u64, slot: usize) -> Option<(u64, usize)>

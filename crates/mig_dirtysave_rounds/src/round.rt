@@ -8,7 +8,7 @@ ghost use Rattle.mig_dirtysave_rounds.specs.declared.found.SendFault.TheVariants
 
 use crate::found::{SendFault, Worst};
 use crate::send::send_one;
-use mig_bytes::{Sink, WriteFailed};
+use mig_bytes::Sink;
 use mig_guest::mig_machine_api::Machine;
 use mig_guest::pfn_set::next_from;
 use mig_pagetypes::PageType;
@@ -53,8 +53,6 @@ pub(crate) fn send_all<M: Machine, K: Sink>(
         worst = worst.with(pfn, found);
         from = pfn + 1;
     }
-    match batch.flush(sink) {
-        Ok(()) => Ok(worst),
-        Err(WriteFailed) => Err(SendFault::WriteFault),
-    }
+    batch.flush(sink)?;
+    Ok(worst)
 }

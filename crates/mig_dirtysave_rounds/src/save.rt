@@ -1,5 +1,5 @@
-ghost use Rattle.std.specs.Prelude.{◌≡◌, ◌+◌, ◌*◌, ◌/◌, ◌^◌, ◌≤◌, [], length, true, false, OnOk, OnErr, IfOk, IsErrOf, Some, None};
-ghost use Rattle.mig_dirtysave_rounds.specs.Common.{FaultHasCause, most_saved_width, Unsound, IsBehind, pfns_of_words, size, no_history, Paused, IsValidState, Stays, most_rounds, IsBelow};
+ghost use Rattle.std.specs.Prelude.{◌≡◌, ◌+◌, ◌*◌, ◌/◌, ◌^◌, ◌≤◌, [], length, true, false, OnOk, OnErr, IfOk, Some, None};
+ghost use Rattle.mig_dirtysave_rounds.specs.Common.{most_saved_width, Unsound, IsBehind, pfns_of_words, size, no_history, IsValidState, most_rounds, IsBelow};
 ghost use Rattle.mig_dirtysave_rounds.specs.Causes.{FaultsHaveCauses};
 ghost use Rattle.mig_dirtysave_rounds.specs.Parts.{entries_read, entries_read_before};
 ghost use Rattle.mig_dirtysave_rounds.specs.Current.{notes_of};
@@ -9,7 +9,7 @@ ghost use Rattle.mig_dirtysave_rounds.specs.declared.found.SendFault.TheVariants
 use crate::found::{SendFault, Worst};
 use crate::room::Room;
 use crate::round::send_all;
-use crate::sets::{take_more, take_set};
+use crate::sets::take_more;
 use mig_bytes::Sink;
 use mig_guest::mig_machine_api::Machine;
 use mig_guest::pfn_set::{count, join};
@@ -83,25 +83,11 @@ fn run_rounds<M: Machine, K: Sink>(
     loop {
         entries += count(set);
         send_all(machine, sink, batch, set, deferred, types, page)?;
-        take_set(machine, set)?;
+        machine.take_log(set)?;
         rounds += 1;
         if rounds == MOST_ROUNDS || count(set) < LEAST_LOG {
             return Ok(RoundsSent { rounds, entries });
         }
-    }
-}
-
-/// Stops the guest.
-fn stop<M: Machine>(machine: &mut M) -> Result<(), SendFault>
-    ensures ok { OnOk result (Paused (M.state machine.old) (M.state machine.new)) }
-    ensures later { M.Later machine.old machine.new }
-    ensures cause { FaultHasCause (M.faults machine.old) (M.faults machine.new) result }
-    ensures stays { OnErr result (Stays (M.state machine.old) (M.state machine.new)) }
-    ensures which { ¬ IsErrOf result WriteFault }
-{
-    match machine.pause() {
-        Ok(()) => Ok(()),
-        Err(_) => Err(SendFault::MachineFault),
     }
 }
 
@@ -138,7 +124,7 @@ fn finish<M: Machine, K: Sink>(
     ensures later { M.Later machine.old machine.new }
     ensures faults { FaultsHaveCauses MachineFault WriteFault (M.faults machine.old) (M.faults machine.new) (K.faults sink.old) (K.faults sink.new) result }
 {
-    stop(machine)?;
+    machine.pause()?;
     take_more(machine, log, set)?;
     join(set, deferred);
     send_all(machine, sink, batch, set, deferred, types, page)

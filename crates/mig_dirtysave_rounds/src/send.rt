@@ -12,7 +12,7 @@ ghost use Rattle.mig_dirtysave_rounds.specs.declared.found.SendFault.TheVariants
 
 use crate::found::{Found, SendFault};
 use crate::step::read_one;
-use mig_bytes::{Sink, WriteFailed};
+use mig_bytes::Sink;
 use mig_guest::mig_machine_api::Machine;
 use mig_guest::pfn_set::put;
 use mig_pagetypes::PageType;
@@ -75,10 +75,8 @@ fn send_found<K: Sink>(
         kind: kind_sent(found),
         page: *page,
     };
-    match batch.send(sink, entry) {
-        Ok(()) => Ok(()),
-        Err(WriteFailed) => Err(SendFault::WriteFault),
-    }
+    batch.send(sink, entry)?;
+    Ok(())
 }
 
 /// Reads one frame number, notes what was found, and sends its entry.

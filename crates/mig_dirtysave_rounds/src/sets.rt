@@ -6,22 +6,6 @@ use crate::found::SendFault;
 use mig_guest::mig_machine_api::Machine;
 use mig_guest::pfn_set::join;
 
-/// Takes the log as the new set.
-pub(crate) fn take_set<M: Machine>(machine: &mut M, set: &mut [u64]) -> Result<(), SendFault>
-    requires words { length set.old ≡ ((M.state machine.old).host.width + 63) / 64 }
-    requires few { length (M.state machine.old).history.taken < 8 }
-    ensures ok { OnOk result (LogTaken (pfns_of_words set.new) (M.state machine.old) (M.state machine.new)) }
-    ensures later { M.Later machine.old machine.new }
-    ensures cause { FaultHasCause (M.faults machine.old) (M.faults machine.new) result }
-    ensures stays { OnErr result (Stays (M.state machine.old) (M.state machine.new)) }
-    ensures which { ¬ IsErrOf result WriteFault }
-{
-    match machine.take_log(set) {
-        Ok(()) => Ok(()),
-        Err(_) => Err(SendFault::MachineFault),
-    }
-}
-
 /// Takes the log, and adds it to the set.
 pub(crate) fn take_more<M: Machine>(
     machine: &mut M,
@@ -38,7 +22,7 @@ pub(crate) fn take_more<M: Machine>(
     ensures stays { OnErr result (Stays (M.state machine.old) (M.state machine.new)) }
     ensures which { ¬ IsErrOf result WriteFault }
 {
-    take_set(machine, log)?;
+    machine.take_log(log)?;
     join(set, log);
     Ok(())
 }

@@ -27,23 +27,24 @@ returns-in_err-found-clause-behind g c =
     let (mid, now, front) = i.sends start n before out in
     behind_less _ _ _ _ (total_strays _ _ _ _ _ _ _ _ _ _ i.end i.reads front even _ c.send_one.ensures.asked) (c.in_err-found.ensures.behind start n mid now))
 
-pub returns-in-Err-clause-behind : goal.returns-in-Err-clause-behind
-returns-in-Err-clause-behind g c = λ start n before out even.
+pub returns-in_err-flush-clause-behind : goal.returns-in_err-flush-clause-behind
+returns-in_err-flush-clause-behind g c =
+    on_err c.from_residual-in_err-flush.result (λ start n before out even.
     let i = c.members.invariant in
     let (mid, now, front) = i.sends start n before out in
     let same = total_even _ _ _ _ _ _ _ _ _ i.end i.reads front even in
-    behind_less _ (g.K.Sink.written c.flush.new.sink) _ _ (omega (arith, same)) (c.in-Err.ensures.behind start n mid now)
+    behind_less _ (g.K.Sink.written c.flush.new.sink) _ _ (omega (arith, same)) (c.in_err-flush.ensures.behind start n mid now))
 
-pub returns-in-Ok-clause-reads : goal.returns-in-Ok-clause-reads
-returns-in-Ok-clause-reads g c = reads_jump _ _ _ _ _ c.members.invariant.end (λ q low high. c.in_default.ensures.none q low) c.members.invariant.reads
+pub returns-clause-reads : goal.returns-clause-reads
+returns-clause-reads g c = reads_jump _ _ _ _ _ c.members.invariant.end (λ q low high. c.in_default.ensures.none q low) c.members.invariant.reads
 
-pub returns-in-Ok-clause-sends : goal.returns-in-Ok-clause-sends
-returns-in-Ok-clause-sends g c = λ start n before out.
+pub returns-clause-sends : goal.returns-clause-sends
+returns-clause-sends g c = λ start n before out.
     let (mid, now, front) = c.members.invariant.sends start n before out in
-    (mid, c.in-Ok.ensures.sent start n mid now, sends_jump _ _ _ _ _ _ _ _ (notes_of c.members.deferred c.members.types) c.members.invariant.end (λ q low high. c.in_default.ensures.none q low) front)
+    (mid, c.in_ok-flush.ensures.sent start n mid now, sends_jump _ _ _ _ _ _ _ _ (notes_of c.members.deferred c.members.types) c.members.invariant.end (λ q low high. c.in_default.ensures.none q low) front)
 
-pub returns-in-Ok-clause-worst : goal.returns-in-Ok-clause-worst
-returns-in-Ok-clause-worst g c = λ p. worst_jump _ _ _ _ _ c.members.invariant.end (λ q low high. c.in_default.ensures.none q low) (c.members.invariant.worst p)
+pub returns-clause-worst : goal.returns-clause-worst
+returns-clause-worst g c = λ p. worst_jump _ _ _ _ _ c.members.invariant.end (λ q low high. c.in_default.ensures.none q low) (c.members.invariant.worst p)
 
 pub returns-in_err-found-clause-kept : goal.returns-in_err-found-clause-kept
 returns-in_err-found-clause-kept g c = stays_on _ _ _ (reads_stay _ _ _ _ c.members.invariant.reads) c.send_one.ensures.kept
