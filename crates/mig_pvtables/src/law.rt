@@ -35,6 +35,7 @@ pub fn worked_pv_guest_is_whole()
 {}
 
 /// Some whole PV guest is in its blank form.
+#[tactic(auto, using(crate::proofs::WorkedGuest::some_blank_whole))]
 pub fn some_blank_pv_guest_is_whole()
     ensures { (g : GuestOf) × (g.kind ≡ Pv) × IsWhole g × (blank g ≡ g) }
 {}
@@ -63,6 +64,7 @@ pub fn blank_form_is_whole()
 {}
 
 /// A well formed guest of bytes whose blank form is whole is whole.
+#[tactic(auto, using(crate::proofs::BlankBack::whole_before))]
 pub fn whole_as_its_blank_form()
     ensures { (g : GuestOf) → IsOfBytes g → IsFormed g → IsWhole (blank g) → IsWhole g }
 {}

@@ -72,6 +72,7 @@ impl<F: Frames> EntryTest for NamesUnknown<'_, F> {
 /// Brings a machine's table to its form in a stream: blank slots are 0, and entries name frame numbers. `Err` is the
 /// first superpage, or where there is none the first entry whose machine frame has no frame number; the page is as it
 /// was then.
+#[tactic(auto, using(crate::proofs::BlankSays::same_entry))]
 pub fn normalise_table<F: Frames>(
     page: &mut [u8; 4096],
     level: u8,
