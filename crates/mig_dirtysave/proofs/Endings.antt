@@ -23,8 +23,8 @@ module _ (s t : MachineState) (old new : Option (List ℕ)) where
   passed_on (Err x) e same ends = subst (λ (a : SaveAnswer). SaveEnds s t old new (Err a)) (sym same) ends
 
   -- by a failed write
-  pub ends_unwritten : {Y : Type 0} (r : Result SaveReport SaveAnswer) (e : SaveAnswer) → IsErrAnd r (λ x. x ≡ e) → ◌≡◌ {A = Result Y SaveAnswer} (Err e) (Err answers.WriteFault) → LeavesNoStream s t old new → SaveEnds s t old new r
-  ends_unwritten r e same is left = let so : e ≡ answers.WriteFault = cc in passed_on r e same (subst (λ (a : SaveAnswer). SaveEnds s t old new (Err a)) (sym so) left)
+  pub ends_unwritten : (r : Result SaveReport SaveAnswer) → IsErrAnd r (λ x. x ≡ answers.WriteFault) → LeavesNoStream s t old new → SaveEnds s t old new r
+  ends_unwritten r same left = passed_on r answers.WriteFault same left
 
   -- by a step that judges nothing
   pub ends_unjudged : (r : Result SaveReport SaveAnswer) (e : SaveAnswer) → IsErrAnd r (λ x. x ≡ e) → IfUnsound {X = Unit {0}} (Err e) (λ u. ⊥) → LeavesNoStream s t old new → SaveEnds s t old new r

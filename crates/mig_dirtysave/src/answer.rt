@@ -1,3 +1,7 @@
+ghost use Rattle.std.specs.Prelude.{◌≡◌};
+ghost use Rattle.mig_dirtysave.specs.declared.answer.SaveAnswer.TheVariants.{WriteFault};
+
+use mig_bytes::WriteFailed;
 use mig_headers::Unsound;
 use thiserror::Error;
 
@@ -22,4 +26,12 @@ pub enum SaveAnswer {
     /// The sink failed.
     #[error("the sink failed")]
     WriteFault,
+}
+
+impl From<WriteFailed> for SaveAnswer {
+    ghost from_gives = { λ _ answer. answer ≡ WriteFault };
+
+    fn from(_failed: WriteFailed) -> SaveAnswer {
+        SaveAnswer::WriteFault
+    }
 }

@@ -43,10 +43,8 @@ fn close_hvm<M: Machine, K: Sink>(
         Err(unsound) => return Err(SaveAnswer::Unsound(unsound)),
     };
     refresh(settings, machine);
-    match write_last(sink, settings, front) {
-        Ok(()) => Ok(()),
-        Err(_) => Err(SaveAnswer::WriteFault),
-    }
+    write_last(sink, settings, front)?;
+    Ok(())
 }
 
 /// Judges the host of a paused PV machine by the types that were seen last and what was found wrong with its tables, and
@@ -126,10 +124,8 @@ fn close_pv<M: Machine, K: Sink>(
         &types[..count],
         tables,
     )?;
-    match write_pv_last(sink, settings) {
-        Ok(()) => Ok(()),
-        Err(_) => Err(SaveAnswer::WriteFault),
-    }
+    write_pv_last(sink, settings)?;
+    Ok(())
 }
 
 /// Judges the host of a paused machine, and writes what stands behind the frames, END the last. Of a PV machine there is a

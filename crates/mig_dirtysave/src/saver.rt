@@ -6,12 +6,13 @@ ghost use Rattle.mig_dirtysave.specs.declared.answer.SaveAnswer.TheVariants.{Mac
 
 use crate::answer::{SaveAnswer, SaveReport};
 use crate::closing::close;
-use crate::steps::{begin, end, open, send};
+use crate::steps::send;
 use mig_bytes::{Memory, Sink};
-use mig_dirtysave_parts::{copy_parts, make_marks};
+use mig_dirtysave_parts::{copy_parts, make_marks, write_before};
 use mig_dirtysave_rounds::Room;
 use mig_guest::Guest;
 use mig_guest::mig_machine_api::Machine;
+use mig_libxl::{write_closing, write_opening};
 use std::alloc::Global;
 use std::marker::Model;
 
@@ -102,11 +103,11 @@ fn save<M: Machine, K: Sink>(
     ensures later { M.Later machine.old machine.new }
     ensures faults { FaultsHaveCauses MachineFault WriteFault (M.faults machine.old) (M.faults machine.new) (K.faults sink.old) (K.faults sink.new) result }
 {
-    begin(sink, settings)?;
-    open(sink, early)?;
+    write_opening(sink, settings)?;
+    write_before(sink, early)?;
     let sent = send(machine, sink, room)?;
     close(machine, sink, settings, marks, &sent)?;
-    end(sink, settings)?;
+    write_closing(sink, settings)?;
     Ok(SaveReport {
         rounds: sent.rounds,
         entries: sent.entries,

@@ -1,5 +1,5 @@
-ghost use Rattle.std.specs.Prelude.{◌≡◌, true, false, None, Some, OnOk, OnErr, IfOk, IsErrOf};
-ghost use Rattle.mig_dirtysave.specs.Common.{Appends, AppendsPart, FaultHasCause, IsFormed, IsValid, IsBehind, no_history, FaultsHaveCauses, entries_read, KeepsShape, HasRounds, ReadsExactly, FramesSaved, SawTypes, AnswersTables, IsUnsound, wrapper_opening, wrapper_closing, text_before};
+ghost use Rattle.std.specs.Prelude.{◌≡◌, true, false, None, Some, OnOk, OnErr, IfOk};
+ghost use Rattle.mig_dirtysave.specs.Common.{IsValid, IsBehind, no_history, FaultsHaveCauses, entries_read, KeepsShape, HasRounds, ReadsExactly, FramesSaved, SawTypes, AnswersTables, IsUnsound};
 ghost use Rattle.mig_headers.specs.declared.unsound.Unsound.{Unsound as UnsoundCause};
 ghost use Rattle.mig_dirtysave.specs.SaveAnswers.{IfUnsound};
 ghost use Rattle.mig_dirtysave.specs.declared.answer.SaveAnswer.TheVariants.{MachineFault, WriteFault};
@@ -7,53 +7,9 @@ ghost use Rattle.mig_dirtysave.specs.declared.answer.SaveAnswer.TheVariants.{Mac
 use crate::answer::SaveAnswer;
 use crate::judging::host_is_valid;
 use mig_bytes::Sink;
-use mig_dirtysave_parts::write_before;
 use mig_dirtysave_rounds::{Room, SendFault, Sent, send_frames};
-use mig_guest::Guest;
 use mig_guest::mig_machine_api::Machine;
 use mig_headers::Unsound;
-use mig_libxl::{write_closing, write_opening};
-
-/// Writes what stands before the frames.
-pub(crate) fn open<K: Sink>(sink: &mut K, early: &Guest) -> Result<(), SaveAnswer>
-    requires { IsFormed early.now }
-    ensures opened { OnOk result (Appends (K.written sink.old) (K.written sink.new) (text_before early.now)) }
-    ensures part { OnErr result (AppendsPart (K.written sink.old) (K.written sink.new) (text_before early.now)) }
-    ensures cause { FaultHasCause (K.faults sink.old) (K.faults sink.new) result }
-    ensures which { OnErr result (IsErrOf result WriteFault) }
-{
-    match write_before(sink, early) {
-        Ok(()) => Ok(()),
-        Err(_) => Err(SaveAnswer::WriteFault),
-    }
-}
-
-/// Writes what stands before the image of a guest with these settings.
-pub(crate) fn begin<K: Sink>(sink: &mut K, settings: &Guest) -> Result<(), SaveAnswer>
-    ensures begun { OnOk result (Appends (K.written sink.old) (K.written sink.new) (wrapper_opening settings.now.parts)) }
-    ensures part { OnErr result (AppendsPart (K.written sink.old) (K.written sink.new) (wrapper_opening settings.now.parts)) }
-    ensures cause { FaultHasCause (K.faults sink.old) (K.faults sink.new) result }
-    ensures which { OnErr result (IsErrOf result WriteFault) }
-{
-    match write_opening(sink, settings) {
-        Ok(()) => Ok(()),
-        Err(_) => Err(SaveAnswer::WriteFault),
-    }
-}
-
-/// Writes what stands behind the image of a guest with these settings.
-pub(crate) fn end<K: Sink>(sink: &mut K, settings: &Guest) -> Result<(), SaveAnswer>
-    requires { IsFormed settings.now }
-    ensures ended { OnOk result (Appends (K.written sink.old) (K.written sink.new) (wrapper_closing settings.now.parts)) }
-    ensures part { OnErr result (AppendsPart (K.written sink.old) (K.written sink.new) (wrapper_closing settings.now.parts)) }
-    ensures cause { FaultHasCause (K.faults sink.old) (K.faults sink.new) result }
-    ensures which { OnErr result (IsErrOf result WriteFault) }
-{
-    match write_closing(sink, settings) {
-        Ok(()) => Ok(()),
-        Err(_) => Err(SaveAnswer::WriteFault),
-    }
-}
 
 /// Sends the frames and pauses the machine.
 pub(crate) fn send<M: Machine, K: Sink>(

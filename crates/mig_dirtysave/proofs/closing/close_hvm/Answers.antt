@@ -16,24 +16,24 @@ write_last-requires-clause-formed g c =
     let h = (g.M.Machine.state c.args.machine.now).host in
     subst IsFormed (sym c.refresh.ensures) (kept_formed h c.requires.valid is_setting refl (no_pv h is_setting c.requires.hvm))
 
-pub returns-in-Ok-write_last-clause-none : goal.returns-in-Ok-write_last-clause-none
-returns-in-Ok-write_last-clause-none g c = no_table_fault (g.M.Machine.state c.args.machine.now).host c.requires.valid c.requires.hvm c.args.tables c.requires.stands
+pub returns-clause-none : goal.returns-clause-none
+returns-clause-none g c = no_table_fault (g.M.Machine.state c.args.machine.now).host c.requires.valid c.requires.hvm c.args.tables c.requires.stands
 
-pub returns-in-Ok-write_last-clause-closed : goal.returns-in-Ok-write_last-clause-closed
-returns-in-Ok-write_last-clause-closed g c =
-    hvm_closes (g.M.Machine.state c.args.machine.now).host c.requires.valid c.requires.hvm c.in-Ok.front.now c.in-Ok.ensures.front c.refresh.new.settings _ _ c.refresh.ensures c.in-Ok-write_last.ensures.closed
+pub returns-clause-closed : goal.returns-clause-closed
+returns-clause-closed g c =
+    hvm_closes (g.M.Machine.state c.args.machine.now).host c.requires.valid c.requires.hvm c.in-Ok.front.now c.in-Ok.ensures.front c.refresh.new.settings _ _ c.refresh.ensures c.in_ok-write_last.ensures.closed
 
-pub returns-in-Ok-write_last-clause-sound : goal.returns-in-Ok-write_last-clause-sound
-returns-in-Ok-write_last-clause-sound g c =
+pub returns-clause-sound : goal.returns-clause-sound
+returns-clause-sound g c =
     let h = (g.M.Machine.state c.args.machine.now).host in
     hvm_judged h c.requires.valid c.requires.hvm c.args.tables (no_table_fault h c.requires.valid c.requires.hvm c.args.tables c.requires.stands) ∙ sym c.in-Ok.ensures.first
 
-pub returns-in-Ok-write_last-clause-formed : goal.returns-in-Ok-write_last-clause-formed
-returns-in-Ok-write_last-clause-formed g c =
+pub returns-clause-formed : goal.returns-clause-formed
+returns-clause-formed g c =
     let h = (g.M.Machine.state c.args.machine.now).host in
     subst IsFormed (sym c.refresh.ensures) (kept_formed h c.requires.valid is_setting refl (no_pv h is_setting c.requires.hvm))
 
-pub returns-in-Ok-write_last-clause-emulators : goal.returns-in-Ok-write_last-clause-emulators
-returns-in-Ok-write_last-clause-emulators g c =
+pub returns-clause-emulators : goal.returns-clause-emulators
+returns-clause-emulators g c =
     let h = (g.M.Machine.state c.args.machine.now).host in
     λ key code. emulators_kept h.parts key code ∙ ap (λ (k : GuestOf). maps.get k.parts key) (sym c.refresh.ensures)

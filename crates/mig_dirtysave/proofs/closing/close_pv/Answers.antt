@@ -11,11 +11,11 @@ settle-requires-clause-types g c =
 pub returns-in_err-settle-clause-stops : goal.returns-in_err-settle-clause-stops
 returns-in_err-settle-clause-stops g c = on_err _ c.from_residual.result (nothing_stops (g.K.Sink.written c.args.sink.now))
 
-pub returns-in-Ok-clause-closed : goal.returns-in-Ok-clause-closed
-returns-in-Ok-clause-closed g c =
-    pv_closes (g.M.Machine.state c.args.machine.now).host c.requires.pv c.settle.new.settings _ _ c.in_ok-settle.ensures.formed c.in_ok-settle.ensures.seen c.in-Ok.ensures.closed
+pub returns-clause-closed : goal.returns-clause-closed
+returns-clause-closed g c =
+    pv_closes (g.M.Machine.state c.args.machine.now).host c.requires.pv c.settle.new.settings _ _ c.in_ok-settle.ensures.formed c.in_ok-settle.ensures.seen c.in_ok-write_pv_last.ensures.closed
 
-pub returns-in-Ok-clause-emulators : goal.returns-in-Ok-clause-emulators
-returns-in-Ok-clause-emulators g c =
+pub returns-clause-emulators : goal.returns-clause-emulators
+returns-clause-emulators g c =
     let h = (g.M.Machine.state c.args.machine.now).host in
     λ key code. sym (emulators_seen h key code) ∙ emulators_kept (view h).parts key code ∙ ap (λ (k : GuestOf). maps.get k.parts key) (sym c.in_ok-settle.ensures.seen)

@@ -6,34 +6,34 @@ use Rattle.mig_dirtysave.proofs.Streams.{early_stays, held_there, kind_stays, sa
 use Rattle.mig_dirtysave.proofs.Wrappers.{begun_as_host, emulators_stay, opening_stays, opens_as_host}
 use Rattle.mig_dirtysave.proofs.saver.save.Goals as goal
 
-pub returns-in_err-begin-clause-ends : goal.returns-in_err-begin-clause-ends
-returns-in_err-begin-clause-ends g c =
+pub returns-in_err-write_opening-clause-ends : goal.returns-in_err-write_opening-clause-ends
+returns-in_err-write_opening-clause-ends g c =
     let s = g.M.Machine.state c.args.machine.now in
-    ends_unwritten s s _ _ c.from_residual.result _ c.from_residual.ensures.1 c.in_err-begin.ensures.which
+    ends_unwritten s s _ _ c.from_residual.result c.from_residual.ensures.1
     (leaves s s _ _ _ refl
-    (stopped_opening _ _ s.host.parts c.args.settings.now.parts _ (opens_as_host s.host _ c.args.settings.now c.requires.made refl) (nothing_left s c.requires.unread) c.in_err-begin.ensures.part))
+    (stopped_opening _ _ s.host.parts c.args.settings.now.parts _ (opens_as_host s.host _ c.args.settings.now c.requires.made refl) (nothing_left s c.requires.unread) c.in_err-write_opening.ensures.bytes))
 
-pub returns-in_err-begin-clause-later : goal.returns-in_err-begin-clause-later
-returns-in_err-begin-clause-later g c = g.met.M.Machine.later_self _
+pub returns-in_err-write_opening-clause-later : goal.returns-in_err-write_opening-clause-later
+returns-in_err-write_opening-clause-later g c = g.met.M.Machine.later_self _
 
-pub returns-in_err-open-clause-ends : goal.returns-in_err-open-clause-ends
-returns-in_err-open-clause-ends g c =
+pub returns-in_err-write_before-clause-ends : goal.returns-in_err-write_before-clause-ends
+returns-in_err-write_before-clause-ends g c =
     let s = g.M.Machine.state c.args.machine.now in
-    ends_unwritten s s _ _ c.from_residual-in_err-open.result _ c.from_residual-in_err-open.ensures.1 c.in_err-open.ensures.which
+    ends_unwritten s s _ _ c.from_residual-in_err-write_before.result c.from_residual-in_err-write_before.ensures.1
     (leaves s s _ _ _ refl
-    (stopped_first _ (g.K.Sink.written c.begin.new.sink) _ s.host.parts
-    (begun_as_host _ _ s.host _ c.args.settings.now c.requires.made refl c.in_ok-begin.ensures.begun) c.args.early.now c.requires.formed _ (nothing_left s c.requires.unread) c.in_err-open.ensures.part))
+    (stopped_first _ (g.K.Sink.written c.write_opening.new.sink) _ s.host.parts
+    (begun_as_host _ _ s.host _ c.args.settings.now c.requires.made refl c.in_ok-write_opening.ensures.bytes) c.args.early.now c.requires.formed _ (nothing_left s c.requires.unread) c.in_err-write_before.ensures.bytes))
 
-pub returns-in_err-open-clause-later : goal.returns-in_err-open-clause-later
-returns-in_err-open-clause-later g c = g.met.M.Machine.later_self _
+pub returns-in_err-write_before-clause-later : goal.returns-in_err-write_before-clause-later
+returns-in_err-write_before-clause-later g c = g.met.M.Machine.later_self _
 
 pub returns-in_err-sent-clause-ends : goal.returns-in_err-sent-clause-ends
 returns-in_err-sent-clause-ends g c =
     let s = g.M.Machine.state c.args.machine.now in
     ends_unjudged s (g.M.Machine.state c.send.new.machine) _ _ c.from_residual-in_err-sent.result _ c.from_residual-in_err-sent.ensures.1 c.in_err-sent.ensures.unjudged
     (leaves s (g.M.Machine.state c.send.new.machine) _ _ _ refl
-    (stopped_frames _ (g.K.Sink.written c.begin.new.sink) (g.K.Sink.written c.open.new.sink) s.host.parts
-    (begun_as_host _ _ s.host _ c.args.settings.now c.requires.made refl c.in_ok-begin.ensures.begun) c.args.early.now c.requires.formed c.in_ok-open.ensures.opened _ _ c.in_err-sent.ensures.behind))
+    (stopped_frames _ (g.K.Sink.written c.write_opening.new.sink) (g.K.Sink.written c.write_before.new.sink) s.host.parts
+    (begun_as_host _ _ s.host _ c.args.settings.now c.requires.made refl c.in_ok-write_opening.ensures.bytes) c.args.early.now c.requires.formed c.in_ok-write_before.ensures.bytes _ _ c.in_err-sent.ensures.behind))
 
 pub returns-in_err-close-clause-ends : goal.returns-in_err-close-clause-ends
 returns-in_err-close-clause-ends g c =
@@ -44,27 +44,27 @@ returns-in_err-close-clause-ends g c =
     ends_judged s m t looks _ _ c.from_residual-in_err-close.result _ c.from_residual-in_err-close.ensures.1 (pauses s m t looks c.in_ok-sent.ensures.paused c.in_ok-sent.ensures.rounds c.send.ensures.kept)
     c.in_err-close.ensures.first c.in_err-close.ensures.stands
     (leaves s t _ _ _ (sym (total_stays m t looks s.host.width))
-    (stopped_last _ (g.K.Sink.written c.begin.new.sink) (g.K.Sink.written c.open.new.sink) s.host.parts
-    (begun_as_host _ _ s.host _ c.args.settings.now c.requires.made refl c.in_ok-begin.ensures.begun) c.args.early.now c.requires.formed c.in_ok-open.ensures.opened (g.K.Sink.written c.send.new.sink)
+    (stopped_last _ (g.K.Sink.written c.write_opening.new.sink) (g.K.Sink.written c.write_before.new.sink) s.host.parts
+    (begun_as_host _ _ s.host _ c.args.settings.now c.requires.made refl c.in_ok-write_opening.ensures.bytes) c.args.early.now c.requires.formed c.in_ok-write_before.ensures.bytes (g.K.Sink.written c.send.new.sink)
     m c.in_ok-sent.sent.unsound _ (ap (λ (w : ℕ). entries_read w m.history) (sym c.send.ensures.kept.shape.width)) c.in_ok-sent.ensures.frames _ c.in_err-close.ensures.stops))
 
 pub returns-in_err-close-clause-later : goal.returns-in_err-close-clause-later
 returns-in_err-close-clause-later g c = g.met.M.Machine.later_on _ _ _ c.send.ensures.later c.close.ensures.later
 
-pub returns-in_err-end-clause-ends : goal.returns-in_err-end-clause-ends
-returns-in_err-end-clause-ends g c =
+pub returns-in_err-write_closing-clause-ends : goal.returns-in_err-write_closing-clause-ends
+returns-in_err-write_closing-clause-ends g c =
     let s = g.M.Machine.state c.args.machine.now in
     let m = g.M.Machine.state c.send.new.machine in
     let t = g.M.Machine.state c.close.new.machine in
-    ends_unwritten s t _ _ c.from_residual-in_err-end.result _ c.from_residual-in_err-end.ensures.1 c.in_err-end.ensures.which
+    ends_unwritten s t _ _ c.from_residual-in_err-write_closing.result c.from_residual-in_err-write_closing.ensures.1
     (leaves s t _ _ _ (sym (total_stays m t c.close.ensures.looks s.host.width))
-    (stopped_closing _ (g.K.Sink.written c.begin.new.sink) (g.K.Sink.written c.open.new.sink) s.host.parts
-    (begun_as_host _ _ s.host _ c.args.settings.now c.requires.made refl c.in_ok-begin.ensures.begun) c.args.early.now c.requires.formed c.in_ok-open.ensures.opened (g.K.Sink.written c.send.new.sink)
+    (stopped_closing _ (g.K.Sink.written c.write_opening.new.sink) (g.K.Sink.written c.write_before.new.sink) s.host.parts
+    (begun_as_host _ _ s.host _ c.args.settings.now c.requires.made refl c.in_ok-write_opening.ensures.bytes) c.args.early.now c.requires.formed c.in_ok-write_before.ensures.bytes (g.K.Sink.written c.send.new.sink)
     m c.in_ok-sent.sent.unsound _ (ap (λ (w : ℕ). entries_read w m.history) (sym c.send.ensures.kept.shape.width)) c.in_ok-sent.ensures.frames (g.K.Sink.written c.close.new.sink) c.in_ok-close.ensures.closed _
-    c.close.new.settings c.in_ok-close.ensures.formed (emulators_stay s m c.send.ensures.kept c.close.new.settings c.in_ok-close.ensures.emulators) c.in_err-end.ensures.part))
+    c.close.new.settings c.in_ok-close.ensures.formed (emulators_stay s m c.send.ensures.kept c.close.new.settings c.in_ok-close.ensures.emulators) c.in_err-write_closing.ensures.bytes))
 
-pub returns-in_err-end-clause-later : goal.returns-in_err-end-clause-later
-returns-in_err-end-clause-later g c = g.met.M.Machine.later_on _ _ _ c.send.ensures.later c.close.ensures.later
+pub returns-in_err-write_closing-clause-later : goal.returns-in_err-write_closing-clause-later
+returns-in_err-write_closing-clause-later g c = g.met.M.Machine.later_on _ _ _ c.send.ensures.later c.close.ensures.later
 
 pub returns-clause-later : goal.returns-clause-later
 returns-clause-later g c = g.met.M.Machine.later_on _ _ _ c.send.ensures.later c.close.ensures.later
@@ -78,19 +78,19 @@ returns-clause-ends g c =
     let early = c.args.early.now in
     let kind = kind_stays s m _ early c.send.ensures.kept c.requires.made refl in
     let width = width_stays s m _ c.args.room c.send.ensures.kept c.requires.made refl in
-    let begun = begun_as_host _ _ s.host _ c.args.settings.now c.requires.made refl c.in_ok-begin.ensures.begun in
+    let begun = begun_as_host _ _ s.host _ c.args.settings.now c.requires.made refl c.in_ok-write_opening.ensures.bytes in
     record {
       pause = pauses s m t looks c.in_ok-sent.ensures.paused c.in_ok-sent.ensures.rounds c.send.ensures.kept;
       exact = tight_stay m t looks (c.in_ok-sent.ensures.exact c.in_ok-close.ensures.none);
       sound = λ trusted. ap unsoundness looks.host ∙ c.in_ok-close.ensures.sound (trust_stays m t looks trusted);
-      stream = stream_stays m t looks (g.K.Sink.written c.args.sink.now) (g.K.Sink.written c.end.new.sink)
+      stream = stream_stays m t looks (g.K.Sink.written c.args.sink.now) (g.K.Sink.written c.write_closing.new.sink)
           (save_is_stream m c.send.ensures.valid c.in_ok-sent.sent.unsound c.in_ok-close.ensures.none (λ honest. c.in_ok-close.ensures.sound (inl honest))
           early c.requires.formed kind (top_held is_early _ _ early (held_there is_early _ _ _ _ _ kind width c.requires.early))
           (early_stays s m _ early c.send.ensures.kept c.requires.made refl)
-          (g.K.Sink.written c.begin.new.sink) (g.K.Sink.written c.open.new.sink) (g.K.Sink.written c.send.new.sink) (g.K.Sink.written c.close.new.sink) c.in_ok-open.ensures.opened c.in_ok-sent.ensures.frames c.in_ok-close.ensures.closed
-          (g.K.Sink.written c.args.sink.now) (g.K.Sink.written c.end.new.sink)
-          (subst (Appends (g.K.Sink.written c.args.sink.now) (g.K.Sink.written c.begin.new.sink)) (sym (opening_stays s m c.send.ensures.kept)) begun)
-          (subst (Appends (g.K.Sink.written c.close.new.sink) (g.K.Sink.written c.end.new.sink)) (sym (closing_alike m.host.parts c.close.new.settings.parts c.in_ok-close.ensures.emulators)) c.in_ok-end.ensures.ended));
+          (g.K.Sink.written c.write_opening.new.sink) (g.K.Sink.written c.write_before.new.sink) (g.K.Sink.written c.send.new.sink) (g.K.Sink.written c.close.new.sink) c.in_ok-write_before.ensures.bytes c.in_ok-sent.ensures.frames c.in_ok-close.ensures.closed
+          (g.K.Sink.written c.args.sink.now) (g.K.Sink.written c.write_closing.new.sink)
+          (subst (Appends (g.K.Sink.written c.args.sink.now) (g.K.Sink.written c.write_opening.new.sink)) (sym (opening_stays s m c.send.ensures.kept)) begun)
+          (subst (Appends (g.K.Sink.written c.close.new.sink) (g.K.Sink.written c.write_closing.new.sink)) (sym (closing_alike m.host.parts c.close.new.settings.parts c.in_ok-close.ensures.emulators)) c.in_ok-write_closing.ensures.bytes));
       rounds = c.in_ok-sent.ensures.report ∙ sym looks.live;
       entries = entries_are s m t looks _ _ _ _ c.in_ok-sent.ensures.frames c.in_ok-sent.ensures.entries;
     }
