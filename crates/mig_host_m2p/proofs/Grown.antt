@@ -10,6 +10,15 @@ unfolding below_on
 same_below c e z o zero = z
 same_below c e z o (suc b) = o
 
+-- a way goes on as it did, where depths stay, and bits as far as they lead
+next_stays : (c e d f : Cell) (machine : ℕ) → IsNext c machine e → f.used ≡ e.used → d.depth ≡ c.depth → f.depth ≡ e.depth → Agree c.depth d.machine c.machine → Agree e.depth f.machine e.machine → IsNext d machine f
+next_stays c e d f machine next used deep deeper front far = record {
+  used = used ∙ next.used;
+  depth = omega (arith, deep, deeper, next.depth);
+  agrees = λ k lt. far k (omega (arith, lt, deep, next.depth)) ∙ next.agrees k (omega (arith, lt, deep)) ∙ sym (front k (omega (arith, lt, deep)));
+  side = far d.depth (omega (arith, deep, next.depth)) ∙ subst (λ x. bit_at e.machine x ≡ bit_at machine x) (sym deep) next.side;
+}
+
 -- ---- the same but for PFNs
 
 pub record IsLike (c e : Cell) : Type 0 where
@@ -40,12 +49,7 @@ module _ (at now : ℕ → Cell) (g : IsGrown at) (like : (q : ℕ) → IsLike (
       let on = onward_like (at i) (now i) (like i) machine in
       let next : IsNext (at i) machine (at (next_cell (now i) machine)) = next_is at g i machine (next_cell (now i) machine) (was i used) (sym on) some in
       let j = next_cell (now i) machine in
-      record {
-        used = (like j).used ∙ next.used;
-        depth = omega (arith, (like j).depth, (like i).depth, next.depth);
-        agrees = λ k lt. ap (λ m. bit_at m k) (like j).machine ∙ next.agrees k (omega (arith, lt, (like i).depth)) ∙ ap (λ m. bit_at m k) (sym (like i).machine);
-        side = ap (λ m. bit_at m (now i).depth) (like j).machine ∙ subst (λ d. bit_at (at j).machine d ≡ bit_at machine d) (sym (like i).depth) next.side;
-      }
+      next_stays (at i) (at j) (now i) (now j) machine next (like j).used (like i).depth (like j).depth (λ k _. ap (λ m. bit_at m k) (like i).machine) (λ k _. ap (λ m. bit_at m k) (like j).machine)
 
   like_above : (j : ℕ) → 0 < j → (now j).used ≡ true → HasAbove now j
   like_above j some used =
@@ -119,12 +123,7 @@ module _ (at now : ℕ → Cell) (g : IsGrown at) (p n machine pfn : ℕ) (h : H
       let j = next_cell (now q) m in
       let next : IsNext (at q) m (at j) = next_is at g q m j (old q ne used) (sym e) lt in
       let ne_j = other j next.used in
-      record {
-        used = h.used j ne_j ∙ next.used;
-        depth = omega (arith, h.depth j ne_j, h.depth q ne, next.depth);
-        agrees = λ k l. ap (λ x. bit_at x k) (h.machines j ne_j) ∙ next.agrees k (omega (arith, l, h.depth q ne)) ∙ ap (λ x. bit_at x k) (sym (h.machines q ne));
-        side = ap (λ x. bit_at x (now q).depth) (h.machines j ne_j) ∙ subst (λ d. bit_at (at j).machine d ≡ bit_at m d) (sym (h.depth q ne)) next.side;
-      }
+      next_stays (at q) (at j) (now q) (now j) m next (h.used j ne_j) (h.depth q ne) (h.depth j ne_j) (λ k _. ap (λ x. bit_at x k) (h.machines q ne)) (λ k _. ap (λ x. bit_at x k) (h.machines j ne_j))
 
   hung_next : (q m : ℕ) → (now q).used ≡ true → 0 < next_cell (now q) m → IsNext (now q) m (now (next_cell (now q) m))
   hung_next q m used lt = by (cases_eq q n)
@@ -263,12 +262,7 @@ module _ (at now : ℕ → Cell) (g : IsGrown at) (i l : ℕ) (h : Lifted at now
           let on : j ≡ next_cell (at q) m = h.kept q m ne (before q used) non in
           let ne_j : j ≢ l = λ e. non (sym on ∙ e) in
           let next : IsNext (at q) m (at j) = next_is at g q m j (before q used) (sym on) lt in
-          record {
-            used = h.used j ne_j ∙ next.used;
-            depth = omega (arith, h.depth j ne_j, h.depth q ne, next.depth);
-            agrees = λ k low. bits j ne_j k (omega (arith, low, next.depth, h.depth q ne)) ∙ next.agrees k (omega (arith, low, h.depth q ne)) ∙ sym (bits q ne k (omega (arith, low, h.depth q ne)));
-            side = bits j ne_j (now q).depth (omega (arith, next.depth, h.depth q ne)) ∙ subst (λ d. bit_at (at j).machine d ≡ bit_at m d) (sym (h.depth q ne)) next.side;
-          }
+          next_stays (at q) (at j) (now q) (now j) m next (h.used j ne_j) (h.depth q ne) (h.depth j ne_j) (bits q ne) (bits j ne_j)
 
   lifted_above : (j : ℕ) → 0 < j → (now j).used ≡ true → HasAbove now j
   lifted_above j lt used =
