@@ -1,7 +1,5 @@
 -- Sets of which one number, or each word, was changed.
-use Rattle.mig_guest.proofs.Common.{bit_at, bit_not, eqb-true, cases_lt, get_or_past, bit_at_set_same, bit_at_set_other, bit_at_clear_same, bit_at_clear_other, bit_at_or, bit_at-lt, bit_at-zero, common_steps, Pfns, pfns_of_words, no_pfns, with_pfn, joined, put_pfn, without_pfn}
-use Rattle.std.proofs.Common.{arith, ◌≡◌, ◌≢◌, ℕ, ◌*◌, ◌^◌, ◌/◌, ◌%◌, ◌<◌, List, length, get_or, slice_set, bit_and, bit_or, w64, Bool, true, false, cond, nat_eq, refl, sym, ap, ◌∙◌, inl, inr}
-use Rattle.std.specs.Prelude.{◌||◌, ◌==◌, max}
+use Rattle.mig_guest.proofs.Common.{bit_at, bit_not, eqb-true, cases_lt, get_or_past, bit_at_set_same, bit_at_set_other, bit_at_clear_same, bit_at_clear_other, bit_at_or, bit_at-lt, bit_at-zero, common_steps, Pfns, pfns_of_words, no_pfns, with_pfn, joined, put_pfn, without_pfn, arith, ◌≡◌, ◌≢◌, ℕ, ◌*◌, ◌^◌, ◌/◌, ◌%◌, ◌<◌, List, length, get_or, slice_set, bit_and, bit_or, w64, Bool, true, false, cond, nat_eq, refl, sym, ap, ◌∙◌, inl, inr, ◌||◌, ◌==◌, max}
 use Rattle.std.proofs.lemmas.Bool.Decides.{nat_tests}
 use Rattle.std.proofs.Math.Path.{fun_ext}
 

@@ -1,5 +1,5 @@
 -- Names that many proofs of this crate use.
-pub use Rattle.std.proofs.Common.{Bool, Global, IfNone, IfSome, IsSome, List, MutBor, None, Option, Some, [], ap, append-nil, append_assoc, arith, bit_or, cond, drop, drop-drop, false, filter, get_or, inl, inr, is_some, le-leb, length, length-append, length-drop, lit<, map, nat_eq, nat_le, not, refl, rules, subst, suc, sym, take, true, zero, ℕ, ◌%◌, ◌*◌, ◌++◌, ◌+◌, ◌/◌, ◌<◌, ◌^◌, ◌∙◌, ◌∷◌, ◌≡◌, ◌≢◌, ◌≤◌}
+pub use Rattle.std.proofs.Common.{Bool, Global, IfNone, IfSome, IsSome, List, MutBor, None, Option, Some, [], ap, append-nil, append_assoc, arith, bit_and, bit_or, cond, drop, drop-drop, false, filter, get_or, inl, inr, is_some, le-leb, length, length-append, length-drop, lit<, map, nat_eq, nat_le, not, refl, rules, slice_set, subst, suc, sym, take, true, w64, zero, ℕ, ◌%◌, ◌*◌, ◌++◌, ◌+◌, ◌-◌, ◌/◌, ◌<◌, ◌^◌, ◌∙◌, ◌∷◌, ◌≡◌, ◌≢◌, ◌≤◌}
 pub use Rattle.std.proofs.lemmas.Bool.{and_parts, and_right, cases_lt, eq-eqb, eqb-true, le-ltb, leb-true, lt-ltb, ltb-true}
 pub use Rattle.std.proofs.lemmas.Cmp.{eq_by_cmp_equiv, nat_cmp_total, on_total, ranked, then_total, tied_itself}
 pub use Rattle.std.proofs.lemmas.Grind.{common_steps}
@@ -9,9 +9,9 @@ pub use Rattle.std.specs.FinMap.{FinMap, IsAntisymmetric, entries-from_sorted, f
 pub use Rattle.std.specs.FinMap.Entries.{below_all, find-where_key, is_sorted-where_key, where_key}
 pub use Rattle.std.specs.List.{All, AllByRecursion, flat_map, range_with_len}
 pub use Rattle.std.specs.Map.{keys_of, lookup}
-pub use Rattle.std.specs.Option.{ghost_name_of, option_copied, option_copied_mut, option_map, option_or}
+pub use Rattle.std.specs.Option.{ghost_name_of, option_and_then, option_copied, option_copied_mut, option_map, option_or, unwrap_or}
 pub use Rattle.std.specs.Ordering.{eq_by_cmp, is_eq, is_le, is_lt, nat_cmp, ordering_then}
-pub use Rattle.std.specs.Prelude.{T, nat_lt, replicate, ◌&&◌, ◌==◌}
+pub use Rattle.std.specs.Prelude.{T, max, nat_lt, replicate, ◌&&◌, ◌==◌, ◌||◌}
 pub use Rattle.std.specs.declared.cmp.Ordering.{Ordering}
 pub use Rattle.std.specs.declared.cmp.Ordering.TheVariants.{Equal, Greater, Less}
 pub use Rattle.mig_guest.specs.Formed.{AreParts, HasNoEmulators, IsContent, IsFormed, IsGuestFrame, IsInside, IsPart, IsRawContent, IsRowPart, IsTop, is_emulator_code, is_policy, width_of}

@@ -1,7 +1,6 @@
 -- Sets of all numbers below a width.
-use Rattle.mig_guest.proofs.Common.{bit_at, cases_lt, lt-ltb, le-ltb, get_or_past, one_shl, bit_at-zero, bit_at_ones, bit_at_ones_above, common_steps, pfns_of_words, all_below}
+use Rattle.mig_guest.proofs.Common.{bit_at, cases_lt, lt-ltb, le-ltb, get_or_past, one_shl, bit_at-zero, bit_at_ones, bit_at_ones_above, common_steps, pfns_of_words, all_below, ◌==◌}
 use Rattle.std.proofs.Common.{arith, ◌≡◌, ◌≢◌, ℕ, ◌+◌, ◌-◌, ◌*◌, ◌/◌, ◌%◌, ◌^◌, ◌≤◌, ◌<◌, List, length, get_or, slice_set, false, nat_lt, sym, ap, ◌∙◌, inl, inr}
-use Rattle.std.specs.Prelude.{◌==◌}
 use Rattle.std.proofs.Math.Path.{fun_ext}
 
 -- ---- a word

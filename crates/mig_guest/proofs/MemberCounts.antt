@@ -1,6 +1,5 @@
 -- A word has as many members as bits that are set.
-use Rattle.mig_guest.proofs.Common.{arith, ◌≡◌, ℕ, zero, suc, ◌+◌, ◌*◌, ◌/◌, ◌%◌, ◌^◌, ◌≤◌, ◌<◌, List, get_or, Bool, true, false, refl, sym, ap, ◌∙◌, bit_at, ones-le, ones_cat, shr_split, shr_below, bit_at_cat_low, Pfns, size, pfns_of_words}
-use Rattle.std.specs.Prelude.{◌==◌}
+use Rattle.mig_guest.proofs.Common.{arith, ◌≡◌, ℕ, zero, suc, ◌+◌, ◌*◌, ◌/◌, ◌%◌, ◌^◌, ◌≤◌, ◌<◌, List, get_or, Bool, true, false, refl, sym, ap, ◌∙◌, bit_at, ones-le, ones_cat, shr_split, shr_below, bit_at_cat_low, Pfns, size, pfns_of_words, ◌==◌}
 use Rattle.std.specs.Int.Count.{ones, ones_in}
 use Rattle.mig_guest.proofs.Sizes.{next, size_more, size_stays, same_size}
 

@@ -1,7 +1,5 @@
 -- The pages of frames one behind another are those of the entries from a number on.
-use Rattle.mig_guest.proofs.Common.{◌≡◌, ℕ, suc, ◌+◌, ◌<◌, ◌≤◌, List, [], ◌∷◌, Option, Some, None, refl, sym, ap, ◌∙◌, arith, entries_from, flat_map}
-use Rattle.std.proofs.Common.{◌++◌, length, take, drop}
-use Rattle.std.specs.Option.{option_and_then, unwrap_or}
+use Rattle.mig_guest.proofs.Common.{◌≡◌, ℕ, suc, ◌+◌, ◌<◌, ◌≤◌, List, [], ◌∷◌, Option, Some, None, refl, sym, ap, ◌∙◌, arith, entries_from, flat_map, ◌++◌, length, take, drop, option_and_then, unwrap_or}
 use Rattle.std.specs.FinMap as maps
 use Rattle.mig_pagestore.specs.Frames.{FrameOf, FrameMap, IsRun}
 use Rattle.mig_guest.proofs.NextEntries.{first_from}

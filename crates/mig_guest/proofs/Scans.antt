@@ -1,7 +1,5 @@
 -- The least member from a frame number on.
-use Rattle.mig_guest.proofs.Common.{bit_at, trailing_zeros, cases_lt, get_or_past, shr-shr, shr_le, bit_at-zero, bit_at_above, bit_at-trailing_zeros, pfns_of_words}
-use Rattle.std.proofs.Common.{arith, ◌≡◌, ℕ, ◌+◌, ◌-◌, ◌*◌, ◌/◌, ◌%◌, ◌^◌, ◌≤◌, ◌<◌, List, length, get_or, false, w64, refl, sym, ap, ◌∙◌, inl, inr}
-use Rattle.std.specs.Prelude.{◌==◌}
+use Rattle.mig_guest.proofs.Common.{bit_at, trailing_zeros, cases_lt, get_or_past, shr-shr, shr_le, bit_at-zero, bit_at_above, bit_at-trailing_zeros, pfns_of_words, arith, ◌≡◌, ℕ, ◌+◌, ◌-◌, ◌*◌, ◌/◌, ◌%◌, ◌^◌, ◌≤◌, ◌<◌, List, length, get_or, false, w64, refl, sym, ap, ◌∙◌, inl, inr, ◌==◌}
 
 -- ---- a bit of a word
 

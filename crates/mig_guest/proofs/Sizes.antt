@@ -1,6 +1,5 @@
 -- How many members sets have.
-use Rattle.mig_guest.proofs.Common.{range_with_len, map-id, filter_of_map_range_with_len_more, length-range_with_len, cases_lt, Pfns, members, size, IsBelow}
-use Rattle.std.proofs.Common.{arith, ◌≡◌, ℕ, zero, suc, ◌+◌, ◌-◌, ◌≤◌, ◌<◌, [], ◌∷◌, ◌++◌, length, filter, Bool, true, false, cond, refl, sym, ap, ◌∙◌, inl, inr, append-nil, length-append}
+use Rattle.mig_guest.proofs.Common.{range_with_len, map-id, filter_of_map_range_with_len_more, length-range_with_len, cases_lt, Pfns, members, size, IsBelow, arith, ◌≡◌, ℕ, zero, suc, ◌+◌, ◌-◌, ◌≤◌, ◌<◌, [], ◌∷◌, ◌++◌, length, filter, Bool, true, false, cond, refl, sym, ap, ◌∙◌, inl, inr, append-nil, length-append}
 use Rattle.std.proofs.lemmas.List.Sums.{length-filter, count_by-le-length}
 
 members_more : (set : Pfns) (i : ℕ) → members (i + 1) set ≡ members i set ++ cond (set i) (i ∷ []) []

@@ -13,6 +13,7 @@ ghost use Rattle.mig_guest.specs.Rounds.{Rounds, all_read, most_rounds};
 /// A frame number without a frame has no footprint. A frame's own machine frame isn't in its footprint: a frame that gets
 /// another one keeps its footprint, where its slots name the frame numbers that they named. An entry of a table names the
 /// frame number that has its machine frame, and a frame that is no table names none.
+#[tactic(auto, using(crate::proofs::Prints::own, crate::proofs::Prints::names))]
 pub fn footprint_laws()
     ensures absent { (frames : HostFrames) (pfn : ℕ) → maps.get frames pfn ≡ None → footprint frames pfn ≡ None }
     ensures own { (frames now : HostFrames) (pfn machine : ℕ) (frame : HostFrame) → maps.get frames pfn ≡ Some frame → maps.get now pfn ≡ Some (record frame { machine = machine })

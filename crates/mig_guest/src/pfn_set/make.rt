@@ -13,6 +13,7 @@ fn low_bits(bits: u64) -> u64
 }
 
 /// All frame numbers below the width become members, and no others.
+#[tactic(auto, using(crate::proofs::Fills::filled_more, crate::proofs::Fills::all_filled))]
 fn fill(words: &mut [u64], width: u64)
     requires { length words.old ≡ (width + 63) / 64 }
     ensures { pfns_of_words words.new ≡ all_below width }

@@ -19,6 +19,7 @@ fn bit_from(word: u64, from: u64) -> Option<u64>
 }
 
 /// The least member from a frame number on; words of zeros are passed over whole.
+#[tactic(auto, using(crate::proofs::Scans::none_yet))]
 pub fn next_from(words: &[u64], pfn: u64) -> Option<u64>
     requires { length words.now < 2 ^ 58 }
     ensures found { IfSome result (λ p. (pfn ≤ p) × (pfns_of_words words.now p ≡ true)) }

@@ -11,6 +11,7 @@ pub fn contains(words: &[u64], pfn: u64) -> bool
 }
 
 /// A frame number becomes a member.
+#[tactic(auto, using(crate::proofs::Changed::inserted))]
 pub fn insert(words: &mut [u64], pfn: u64)
     requires { pfn / 64 < length words.old }
     ensures { pfns_of_words words.new ≡ with_pfn pfn (pfns_of_words words.old) }
@@ -19,6 +20,7 @@ pub fn insert(words: &mut [u64], pfn: u64)
 }
 
 /// A frame number is no longer a member.
+#[tactic(auto, using(crate::proofs::Changed::removed))]
 pub fn remove(words: &mut [u64], pfn: u64)
     requires { pfn / 64 < length words.old }
     ensures { pfns_of_words words.new ≡ without_pfn pfn (pfns_of_words words.old) }
