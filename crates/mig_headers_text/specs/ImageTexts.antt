@@ -7,46 +7,29 @@ use Rattle.mig_headers.specs.declared.image_fault.ImageCause.{ImageCause}
 use Rattle.mig_headers.specs.declared.image_fault.ImageCause.TheVariants.{Truncated, NotImage, BadKind, Reserved, Width, FrameCount, BadPageType, FrameOrder, FrameOutside, MachineFrame, MachineTwice, PartKey, PartOrder, PartMany, PartLength, PartBytes, PartPadding, ZeroPage}
 use Rattle.mig_headers_text.specs.Texts.{spaced}
 
--- the name of a cause
-abbrev pub name_of_image_cause : ImageCause → List ℕ
-name_of_image_cause Truncated = codes "Truncated"
-name_of_image_cause NotImage = codes "NotImage"
-name_of_image_cause (BadKind _) = codes "BadKind"
-name_of_image_cause Reserved = codes "Reserved"
-name_of_image_cause (Width _) = codes "Width"
-name_of_image_cause (FrameCount _) = codes "FrameCount"
-name_of_image_cause (BadPageType _) = codes "BadPageType"
-name_of_image_cause (FrameOrder _) = codes "FrameOrder"
-name_of_image_cause (FrameOutside _) = codes "FrameOutside"
-name_of_image_cause (MachineFrame _) = codes "MachineFrame"
-name_of_image_cause (MachineTwice _) = codes "MachineTwice"
-name_of_image_cause (PartKey _) = codes "PartKey"
-name_of_image_cause (PartOrder _) = codes "PartOrder"
-name_of_image_cause (PartMany _) = codes "PartMany"
-name_of_image_cause (PartLength _) = codes "PartLength"
-name_of_image_cause PartBytes = codes "PartBytes"
-name_of_image_cause PartPadding = codes "PartPadding"
-name_of_image_cause (ZeroPage _) = codes "ZeroPage"
-
--- the arguments of a cause
-abbrev pub arguments_of_image_cause : ImageCause → List (List ℕ)
-arguments_of_image_cause (BadKind kind) = decimal kind ∷ []
-arguments_of_image_cause (Width width) = decimal width ∷ []
-arguments_of_image_cause (FrameCount count) = decimal count ∷ []
-arguments_of_image_cause (BadPageType type) = decimal type ∷ []
-arguments_of_image_cause (FrameOrder pfn) = decimal pfn ∷ []
-arguments_of_image_cause (FrameOutside pfn) = decimal pfn ∷ []
-arguments_of_image_cause (MachineFrame mfn) = decimal mfn ∷ []
-arguments_of_image_cause (MachineTwice mfn) = decimal mfn ∷ []
-arguments_of_image_cause (PartKey code) = decimal code ∷ []
-arguments_of_image_cause (PartOrder code) = decimal code ∷ []
-arguments_of_image_cause (PartMany code) = decimal code ∷ []
-arguments_of_image_cause (PartLength length) = decimal length ∷ []
-arguments_of_image_cause (ZeroPage pfn) = decimal pfn ∷ []
-arguments_of_image_cause _ = []
+-- the words of a cause: its name, and its arguments
+abbrev pub words_of_image_cause : ImageCause → List (List ℕ)
+words_of_image_cause Truncated = codes "Truncated" ∷ []
+words_of_image_cause NotImage = codes "NotImage" ∷ []
+words_of_image_cause (BadKind kind) = codes "BadKind" ∷ decimal kind ∷ []
+words_of_image_cause Reserved = codes "Reserved" ∷ []
+words_of_image_cause (Width width) = codes "Width" ∷ decimal width ∷ []
+words_of_image_cause (FrameCount count) = codes "FrameCount" ∷ decimal count ∷ []
+words_of_image_cause (BadPageType type) = codes "BadPageType" ∷ decimal type ∷ []
+words_of_image_cause (FrameOrder pfn) = codes "FrameOrder" ∷ decimal pfn ∷ []
+words_of_image_cause (FrameOutside pfn) = codes "FrameOutside" ∷ decimal pfn ∷ []
+words_of_image_cause (MachineFrame mfn) = codes "MachineFrame" ∷ decimal mfn ∷ []
+words_of_image_cause (MachineTwice mfn) = codes "MachineTwice" ∷ decimal mfn ∷ []
+words_of_image_cause (PartKey code) = codes "PartKey" ∷ decimal code ∷ []
+words_of_image_cause (PartOrder code) = codes "PartOrder" ∷ decimal code ∷ []
+words_of_image_cause (PartMany code) = codes "PartMany" ∷ decimal code ∷ []
+words_of_image_cause (PartLength length) = codes "PartLength" ∷ decimal length ∷ []
+words_of_image_cause PartBytes = codes "PartBytes" ∷ []
+words_of_image_cause PartPadding = codes "PartPadding" ∷ []
+words_of_image_cause (ZeroPage pfn) = codes "ZeroPage" ∷ decimal pfn ∷ []
 
 abbrev pub text_of_image_cause : ImageCause → List ℕ
-text_of_image_cause cause = decimal (number_of_image_cause cause) ++ spaced (name_of_image_cause cause ∷ arguments_of_image_cause cause)
+text_of_image_cause cause = decimal (number_of_image_cause cause) ++ spaced (words_of_image_cause cause)
 
 abbrev pub text_of_image_place : ImagePlace → List ℕ
 text_of_image_place Head = codes "Head"

@@ -8,47 +8,6 @@ use Rattle.mig_headers.specs.declared.fault.ContextFault.TheVariants.{NoHeader, 
 use Rattle.mig_headers.specs.declared.fault.Cause.{Cause}
 use Rattle.mig_headers.specs.declared.fault.Cause.TheVariants.{Truncated, NotStream, BadId, BadVersion, BigEndian, BadKind, BadPageShift, BodyTooLong, Unsupported, UnknownMandatory, WrongKind, OutOfOrder, BadLength, NoPages, BadPageType, PfnOutside, Superpage, EntryOutside, Pv32, BadPvInfo, P2mStart, VcpuId, GdtEnts, BadContext, ParamIndex, Missing, P2mFrame, TargetAbsent, VcpuFrame, TooManyRecords, TooManyFrames, BadPairs, BadKey, BadEmulator, EmulatorForPv, ContextCount, TooManyPairs, EmulatorIndex}
 
--- the name of a cause
-abbrev pub name_of : Cause → List ℕ
-name_of Truncated = codes "Truncated"
-name_of NotStream = codes "NotStream"
-name_of BadId = codes "BadId"
-name_of (BadVersion _) = codes "BadVersion"
-name_of BigEndian = codes "BigEndian"
-name_of (BadKind _) = codes "BadKind"
-name_of (BadPageShift _) = codes "BadPageShift"
-name_of (BodyTooLong _) = codes "BodyTooLong"
-name_of (Unsupported _) = codes "Unsupported"
-name_of (UnknownMandatory _) = codes "UnknownMandatory"
-name_of (WrongKind _) = codes "WrongKind"
-name_of (OutOfOrder _) = codes "OutOfOrder"
-name_of (BadLength _) = codes "BadLength"
-name_of NoPages = codes "NoPages"
-name_of (BadPageType _ _) = codes "BadPageType"
-name_of (PfnOutside _ _) = codes "PfnOutside"
-name_of (Superpage _ _) = codes "Superpage"
-name_of (EntryOutside _ _ _) = codes "EntryOutside"
-name_of Pv32 = codes "Pv32"
-name_of BadPvInfo = codes "BadPvInfo"
-name_of (P2mStart _) = codes "P2mStart"
-name_of (VcpuId _) = codes "VcpuId"
-name_of (GdtEnts _) = codes "GdtEnts"
-name_of (BadContext _) = codes "BadContext"
-name_of (ParamIndex _) = codes "ParamIndex"
-name_of (Missing _) = codes "Missing"
-name_of (P2mFrame _) = codes "P2mFrame"
-name_of (TargetAbsent _ _) = codes "TargetAbsent"
-name_of (VcpuFrame _ _) = codes "VcpuFrame"
-name_of TooManyRecords = codes "TooManyRecords"
-name_of TooManyFrames = codes "TooManyFrames"
-name_of (BadPairs _) = codes "BadPairs"
-name_of (BadKey _) = codes "BadKey"
-name_of (BadEmulator _) = codes "BadEmulator"
-name_of EmulatorForPv = codes "EmulatorForPv"
-name_of ContextCount = codes "ContextCount"
-name_of TooManyPairs = codes "TooManyPairs"
-name_of (EmulatorIndex _) = codes "EmulatorIndex"
-
 -- the name and the number of what is wrong with a chain of HVM context entries
 abbrev pub words_of_context : ContextFault → List (List ℕ)
 words_of_context NoHeader = codes "NoHeader" ∷ []
@@ -56,35 +15,46 @@ words_of_context (HeaderSize len) = codes "HeaderSize" ∷ decimal len ∷ []
 words_of_context (ShortEntry offset) = codes "ShortEntry" ∷ decimal offset ∷ []
 words_of_context NoEnd = codes "NoEnd" ∷ []
 
--- the arguments of a cause
-abbrev pub arguments_of : Cause → List (List ℕ)
-arguments_of (BadVersion version) = decimal version ∷ []
-arguments_of (BadKind kind) = decimal kind ∷ []
-arguments_of (BadPageShift shift) = decimal shift ∷ []
-arguments_of (BodyTooLong len) = decimal len ∷ []
-arguments_of (Unsupported type) = decimal type ∷ []
-arguments_of (UnknownMandatory type) = decimal type ∷ []
-arguments_of (WrongKind type) = decimal type ∷ []
-arguments_of (OutOfOrder rule) = decimal rule ∷ []
-arguments_of (BadLength len) = decimal len ∷ []
-arguments_of (BadPageType entry nibble) = decimal entry ∷ decimal nibble ∷ []
-arguments_of (PfnOutside entry pfn) = decimal entry ∷ decimal pfn ∷ []
-arguments_of (Superpage entry slot) = decimal entry ∷ decimal slot ∷ []
-arguments_of (EntryOutside entry slot pfn) = decimal entry ∷ decimal slot ∷ decimal pfn ∷ []
-arguments_of (P2mStart first) = decimal first ∷ []
-arguments_of (VcpuId id) = decimal id ∷ []
-arguments_of (GdtEnts count) = decimal count ∷ []
-arguments_of (BadContext fault) = words_of_context fault
-arguments_of (ParamIndex index) = decimal index ∷ []
-arguments_of (Missing type) = decimal type ∷ []
-arguments_of (P2mFrame index) = decimal index ∷ []
-arguments_of (TargetAbsent pfn slot) = decimal pfn ∷ decimal slot ∷ []
-arguments_of (VcpuFrame id field) = decimal id ∷ decimal field ∷ []
-arguments_of (BadPairs offset) = decimal offset ∷ []
-arguments_of (BadKey offset) = decimal offset ∷ []
-arguments_of (BadEmulator id) = decimal id ∷ []
-arguments_of (EmulatorIndex index) = decimal index ∷ []
-arguments_of _ = []
+-- the words of a cause: its name, and its arguments
+abbrev pub words_of_cause : Cause → List (List ℕ)
+words_of_cause Truncated = codes "Truncated" ∷ []
+words_of_cause NotStream = codes "NotStream" ∷ []
+words_of_cause BadId = codes "BadId" ∷ []
+words_of_cause (BadVersion version) = codes "BadVersion" ∷ decimal version ∷ []
+words_of_cause BigEndian = codes "BigEndian" ∷ []
+words_of_cause (BadKind kind) = codes "BadKind" ∷ decimal kind ∷ []
+words_of_cause (BadPageShift shift) = codes "BadPageShift" ∷ decimal shift ∷ []
+words_of_cause (BodyTooLong len) = codes "BodyTooLong" ∷ decimal len ∷ []
+words_of_cause (Unsupported type) = codes "Unsupported" ∷ decimal type ∷ []
+words_of_cause (UnknownMandatory type) = codes "UnknownMandatory" ∷ decimal type ∷ []
+words_of_cause (WrongKind type) = codes "WrongKind" ∷ decimal type ∷ []
+words_of_cause (OutOfOrder rule) = codes "OutOfOrder" ∷ decimal rule ∷ []
+words_of_cause (BadLength len) = codes "BadLength" ∷ decimal len ∷ []
+words_of_cause NoPages = codes "NoPages" ∷ []
+words_of_cause (BadPageType entry nibble) = codes "BadPageType" ∷ decimal entry ∷ decimal nibble ∷ []
+words_of_cause (PfnOutside entry pfn) = codes "PfnOutside" ∷ decimal entry ∷ decimal pfn ∷ []
+words_of_cause (Superpage entry slot) = codes "Superpage" ∷ decimal entry ∷ decimal slot ∷ []
+words_of_cause (EntryOutside entry slot pfn) = codes "EntryOutside" ∷ decimal entry ∷ decimal slot ∷ decimal pfn ∷ []
+words_of_cause Pv32 = codes "Pv32" ∷ []
+words_of_cause BadPvInfo = codes "BadPvInfo" ∷ []
+words_of_cause (P2mStart first) = codes "P2mStart" ∷ decimal first ∷ []
+words_of_cause (VcpuId id) = codes "VcpuId" ∷ decimal id ∷ []
+words_of_cause (GdtEnts count) = codes "GdtEnts" ∷ decimal count ∷ []
+words_of_cause (BadContext fault) = codes "BadContext" ∷ words_of_context fault
+words_of_cause (ParamIndex index) = codes "ParamIndex" ∷ decimal index ∷ []
+words_of_cause (Missing type) = codes "Missing" ∷ decimal type ∷ []
+words_of_cause (P2mFrame index) = codes "P2mFrame" ∷ decimal index ∷ []
+words_of_cause (TargetAbsent pfn slot) = codes "TargetAbsent" ∷ decimal pfn ∷ decimal slot ∷ []
+words_of_cause (VcpuFrame id field) = codes "VcpuFrame" ∷ decimal id ∷ decimal field ∷ []
+words_of_cause TooManyRecords = codes "TooManyRecords" ∷ []
+words_of_cause TooManyFrames = codes "TooManyFrames" ∷ []
+words_of_cause (BadPairs offset) = codes "BadPairs" ∷ decimal offset ∷ []
+words_of_cause (BadKey offset) = codes "BadKey" ∷ decimal offset ∷ []
+words_of_cause (BadEmulator id) = codes "BadEmulator" ∷ decimal id ∷ []
+words_of_cause EmulatorForPv = codes "EmulatorForPv" ∷ []
+words_of_cause ContextCount = codes "ContextCount" ∷ []
+words_of_cause TooManyPairs = codes "TooManyPairs" ∷ []
+words_of_cause (EmulatorIndex index) = codes "EmulatorIndex" ∷ decimal index ∷ []
 
 -- each word after a space
 abbrev pub spaced : List (List ℕ) → List ℕ
@@ -92,7 +62,7 @@ spaced [] = []
 spaced (word ∷ words) = (codes " " ++ word) ++ spaced words
 
 abbrev pub text_of_cause : Cause → List ℕ
-text_of_cause cause = decimal (number_of_cause cause) ++ spaced (name_of cause ∷ arguments_of cause)
+text_of_cause cause = decimal (number_of_cause cause) ++ spaced (words_of_cause cause)
 
 abbrev pub text_of_place : Place → List ℕ
 text_of_place ImageHeader = codes "ImageHeader"

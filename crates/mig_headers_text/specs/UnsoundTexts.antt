@@ -14,25 +14,15 @@ number_of_unsound (GdtEnts _ _) = 5
 number_of_unsound (VcpuFrame _ _) = 6
 number_of_unsound (BadContext _) = 7
 
--- the name of a cause
-abbrev pub name_of_unsound : Unsound → List ℕ
-name_of_unsound (Missing _) = codes "Missing"
-name_of_unsound (P2mFrame _) = codes "P2mFrame"
-name_of_unsound (Superpage _ _) = codes "Superpage"
-name_of_unsound (NoFrame _ _) = codes "NoFrame"
-name_of_unsound (GdtEnts _ _) = codes "GdtEnts"
-name_of_unsound (VcpuFrame _ _) = codes "VcpuFrame"
-name_of_unsound (BadContext _) = codes "BadContext"
-
--- the arguments of a cause
-abbrev pub arguments_of_unsound : Unsound → List (List ℕ)
-arguments_of_unsound (Missing type) = decimal type ∷ []
-arguments_of_unsound (P2mFrame index) = decimal index ∷ []
-arguments_of_unsound (Superpage pfn slot) = decimal pfn ∷ decimal slot ∷ []
-arguments_of_unsound (NoFrame pfn slot) = decimal pfn ∷ decimal slot ∷ []
-arguments_of_unsound (GdtEnts id count) = decimal id ∷ decimal count ∷ []
-arguments_of_unsound (VcpuFrame id field) = decimal id ∷ decimal field ∷ []
-arguments_of_unsound (BadContext fault) = words_of_context fault
+-- the words of a cause: its name, and its arguments
+abbrev pub words_of_unsound : Unsound → List (List ℕ)
+words_of_unsound (Missing type) = codes "Missing" ∷ decimal type ∷ []
+words_of_unsound (P2mFrame index) = codes "P2mFrame" ∷ decimal index ∷ []
+words_of_unsound (Superpage pfn slot) = codes "Superpage" ∷ decimal pfn ∷ decimal slot ∷ []
+words_of_unsound (NoFrame pfn slot) = codes "NoFrame" ∷ decimal pfn ∷ decimal slot ∷ []
+words_of_unsound (GdtEnts id count) = codes "GdtEnts" ∷ decimal id ∷ decimal count ∷ []
+words_of_unsound (VcpuFrame id field) = codes "VcpuFrame" ∷ decimal id ∷ decimal field ∷ []
+words_of_unsound (BadContext fault) = codes "BadContext" ∷ words_of_context fault
 
 abbrev pub text_of_unsound : Unsound → List ℕ
-text_of_unsound unsound = decimal (number_of_unsound unsound) ++ spaced (name_of_unsound unsound ∷ arguments_of_unsound unsound)
+text_of_unsound unsound = decimal (number_of_unsound unsound) ++ spaced (words_of_unsound unsound)

@@ -1,5 +1,5 @@
 ghost use Rattle.mig_headers_text.specs.Common.{Puts, FaultHasCause, number_of_image_cause};
-ghost use Rattle.mig_headers_text.specs.ImageTexts.{name_of_image_cause, arguments_of_image_cause, text_of_image_cause, text_of_image_place};
+ghost use Rattle.mig_headers_text.specs.ImageTexts.{words_of_image_cause, text_of_image_cause, text_of_image_place};
 
 use crate::text::{Arguments, Printed, put_numbered, put_words};
 use mig_bytes::{Sink, WriteFailed, put_all};
@@ -8,9 +8,7 @@ use mig_headers::{ImageCause, ImagePlace};
 impl Printed for ImageCause {
     ghost number_told = { number_of_image_cause };
 
-    ghost name_told = { name_of_image_cause };
-
-    ghost arguments_told = { arguments_of_image_cause };
+    ghost words_told = { words_of_image_cause };
 
     fn words(self) -> (u64, &'static str, Arguments) {
         match self {

@@ -1,5 +1,5 @@
 ghost use Rattle.mig_headers_text.specs.Common.{Puts, FaultHasCause, number_of_legacy_cause};
-ghost use Rattle.mig_headers_text.specs.LegacyTexts.{name_of_legacy_cause, arguments_of_legacy_cause, text_of_legacy_cause, text_of_legacy_place};
+ghost use Rattle.mig_headers_text.specs.LegacyTexts.{words_of_legacy_cause, text_of_legacy_cause, text_of_legacy_place};
 
 use crate::text::{Arguments, Printed, put_numbered, put_words};
 use mig_bytes::{Sink, WriteFailed, put_all};
@@ -8,9 +8,7 @@ use mig_headers::{LegacyCause, LegacyPlace};
 impl Printed for LegacyCause {
     ghost number_told = { number_of_legacy_cause };
 
-    ghost name_told = { name_of_legacy_cause };
-
-    ghost arguments_told = { arguments_of_legacy_cause };
+    ghost words_told = { words_of_legacy_cause };
 
     fn words(self) -> (u64, &'static str, Arguments) {
         match self {

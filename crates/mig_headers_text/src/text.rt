@@ -3,7 +3,7 @@
 ghost use Rattle.std.specs.Prelude.{◌≡◌, ℕ, List, [], ◌∷◌, ◌++◌, codes, decimal};
 ghost use Rattle.mig_headers_text.specs.Common.{Puts, FaultHasCause, number_of_cause};
 ghost use Rattle.mig_headers_text.specs.Arguments.{argument_texts};
-ghost use Rattle.mig_headers_text.specs.Texts.{name_of, arguments_of, words_of_context, spaced, text_of_cause, text_of_place};
+ghost use Rattle.mig_headers_text.specs.Texts.{words_of_cause, words_of_context, spaced, text_of_cause, text_of_place};
 
 use itoa::Buffer;
 use mig_bytes::{Sink, WriteFailed, put_all};
@@ -40,25 +40,19 @@ pub trait Printed: Copy {
     /// Its number.
     ghost number_told: { Self → ℕ };
 
-    /// Its name.
-    ghost name_told: { Self → List ℕ };
-
-    /// The texts of its arguments.
-    ghost arguments_told: { Self → List (List ℕ) };
+    /// Its name and the texts of its arguments.
+    ghost words_told: { Self → List (List ℕ) };
 
     /// The number of this cause, its name, and what stands behind its name.
     fn words(self) -> (u64, &'static str, Arguments)
         ensures number { result.0 ≡ number_told self }
-        ensures name { result.1.now ≡ name_told self }
-        ensures arguments { argument_texts result.2 ≡ arguments_told self };
+        ensures words { (result.1.now ∷ argument_texts result.2) ≡ words_told self };
 }
 
 impl Printed for Cause {
     ghost number_told = { number_of_cause };
 
-    ghost name_told = { name_of };
-
-    ghost arguments_told = { arguments_of };
+    ghost words_told = { words_of_cause };
 
     fn words(self) -> (u64, &'static str, Arguments) {
         match self {
@@ -145,7 +139,7 @@ pub fn put_cause<K: Sink>(sink: &mut K, cause: Cause) -> Result<(), WriteFailed>
 
 /// Writes a number, a name and arguments, parted by one space.
 pub(crate) fn put_words<K: Sink, C: Printed>(sink: &mut K, cause: C) -> Result<(), WriteFailed>
-    ensures bytes { Puts (decimal (C.number_told cause) ++ spaced (C.name_told cause ∷ C.arguments_told cause)) (K.written sink.old) (K.written sink.new) result }
+    ensures bytes { Puts (decimal (C.number_told cause) ++ spaced (C.words_told cause)) (K.written sink.old) (K.written sink.new) result }
     ensures cause { FaultHasCause (K.faults sink.old) (K.faults sink.new) result }
 {
     let (number, name, arguments) = cause.words();

@@ -1,5 +1,5 @@
 ghost use Rattle.mig_headers_text.specs.Common.{Puts, FaultHasCause};
-ghost use Rattle.mig_headers_text.specs.UnsoundTexts.{number_of_unsound, name_of_unsound, arguments_of_unsound, text_of_unsound};
+ghost use Rattle.mig_headers_text.specs.UnsoundTexts.{number_of_unsound, words_of_unsound, text_of_unsound};
 
 use crate::text::{Arguments, Printed, put_words};
 use mig_bytes::{Sink, WriteFailed};
@@ -8,9 +8,7 @@ use mig_headers::Unsound;
 impl Printed for Unsound {
     ghost number_told = { number_of_unsound };
 
-    ghost name_told = { name_of_unsound };
-
-    ghost arguments_told = { arguments_of_unsound };
+    ghost words_told = { words_of_unsound };
 
     fn words(self) -> (u64, &'static str, Arguments) {
         match self {
