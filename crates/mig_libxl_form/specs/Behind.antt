@@ -2,6 +2,7 @@
 use Rattle.std.specs.Prelude.{◌≡◌, ◌≤◌, ◌<◌, ℕ, true, false, List, length, Option, Some, None, IsSome}
 use Rattle.mig_libxl_form.specs.Common.{most_body, Kind, Pv, most_records, ImageOf}
 use Rattle.mig_libxl_form.specs.Content.{LibxlRecord}
+use Rattle.mig_libxl_form.specs.LibxlTypes.{libxc_context_type, libxl_end_type}
 use Rattle.mig_libxl_form.specs.Among.{has_emulator, image_among}
 use Rattle.mig_libxl_form.specs.Judging.{allows_length}
 use Rattle.mig_libxl_form.specs.declared.head.RecordsBehind.{RecordsBehind}
@@ -23,6 +24,6 @@ pub record MayFollow (behind : RecordsBehind) (type len : ℕ) : Type 0 where
   pub small : len ≤ most_body
   pub allowed : allows_length type len ≡ true
   pub room : behind.records < most_records
-  pub first : type ≡ 1 → behind.image ≡ None
-  pub ends : type ≡ 0 → IsSome behind.image
-  pub alone : type ≡ 0 → behind.image ≡ Some Pv → behind.emulated ≡ false
+  pub first : type ≡ libxc_context_type → behind.image ≡ None
+  pub ends : type ≡ libxl_end_type → IsSome behind.image
+  pub alone : type ≡ libxl_end_type → behind.image ≡ Some Pv → behind.emulated ≡ false

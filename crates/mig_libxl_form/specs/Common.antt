@@ -6,7 +6,9 @@ pub use Rattle.mig_bytes.specs.Judged.Judged.{Faulty, Passes}
 pub use Rattle.mig_bytes.specs.Sequences.{Spells, sequence_at}
 pub use Rattle.mig_guest.specs.Guests.{GuestOf}
 pub use Rattle.mig_guest.specs.Limits.{most_pairs}
+pub use Rattle.mig_guest.specs.PartCodes.{code_number}
 pub use Rattle.mig_guest.specs.Parts.{Part, PartMap, parts_code, put_parts}
+pub use Rattle.mig_guest.specs.declared.part_code.PartCode.TheVariants.{EmulatorContext, EmulatorPairs}
 pub use Rattle.mig_guest.specs.declared.part_key.PartKey.{PartKey}
 pub use Rattle.mig_headers.specs.Headers.{IsLibxlHeader, fault_of_libxl, libxl_ident}
 pub use Rattle.mig_headers.specs.Pairs.{Pair}

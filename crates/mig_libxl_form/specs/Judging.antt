@@ -1,10 +1,11 @@
 -- Judging a record of a libxl stream: its parts in their order, and the causes that are tried in each, in the order of
 -- their numbers.
 use Rattle.std.specs.Prelude.{ℕ, Bool, true, false, List, [], ◌∷◌, length, drop, Option, Some, None, is_some, is_none, ◌==◌, ◌&&◌, ◌||◌, not, nat_le, nat_lt, if◌then◌else◌}
-use Rattle.mig_libxl_form.specs.Common.{option_or, padding_len, le32, Passes, is_optional, most_body, Kind, Pv, Hvm, Cause, Truncated, BodyTooLong, Unsupported, UnknownMandatory, BadLength, TooManyRecords, EmulatorForPv, ContextCount, BadEmulator, TooManyPairs, EmulatorIndex, Place, PartKey, most_pairs, pairs_fault, pairs_in, most_records, ImageOf, image_at}
+use Rattle.mig_libxl_form.specs.Common.{option_or, code_number, EmulatorContext, EmulatorPairs, padding_len, le32, Passes, is_optional, most_body, Kind, Pv, Hvm, Cause, Truncated, BodyTooLong, Unsupported, UnknownMandatory, BadLength, TooManyRecords, EmulatorForPv, ContextCount, BadEmulator, TooManyPairs, EmulatorIndex, Place, PartKey, most_pairs, pairs_fault, pairs_in, most_records, ImageOf, image_at}
 use Rattle.mig_bytes.specs.Judged.{Judged, ◌>>=◌, part, placed, said_at, plain_at}
 use Rattle.mig_headers.specs.Rows.{first_fault}
 use Rattle.mig_headers.specs.declared.fault.Place.TheVariants.{LibxlRecord as AtRecord}
+use Rattle.mig_libxl_form.specs.LibxlTypes.{libxl_end_type, libxc_context_type, emulator_pairs_type, emulator_context_type, checkpoint_end_type, checkpoint_state_type, is_emulator_type}
 use Rattle.mig_libxl_form.specs.Content.{LibxlRecord, LibxlContent}
 use Rattle.mig_libxl_form.specs.Among.{has_emulator, image_among}
 use Rattle.mig_libxl_form.specs.Content.LibxlContent.{Nothing, Image, Pairs, Context}
@@ -14,11 +15,11 @@ use Rattle.mig_libxl_form.specs.Emulators.{EmulatorsOf, emulators_of, spelled_wi
 
 -- CHECKPOINT_END and CHECKPOINT_STATE
 abbrev pub is_unsupported : ℕ → Bool
-is_unsupported type = (type == 4) || (type == 5)
+is_unsupported type = (type == checkpoint_end_type) || (type == checkpoint_state_type)
 
 -- END and LIBXC_CONTEXT have no body, and a body of an emulator begins with its id and its index
 abbrev pub allows_length : ℕ → ℕ → Bool
-allows_length type len = if (type == 0) || (type == 1) then len == 0 else if (type == 2) || (type == 3) then nat_le 8 len else true
+allows_length type len = if (type == libxl_end_type) || (type == libxc_context_type) then len == 0 else if is_emulator_type type then nat_le 8 len else true
 
 abbrev pub is_pv_kind : Kind → Bool
 is_pv_kind Pv = true
@@ -31,14 +32,14 @@ is_pv (Some image) = is_pv_kind image.opening.kind
 
 -- a second image, or the end of a stream without one
 abbrev pub is_miscounted : ℕ → Option ImageOf → Bool
-is_miscounted type image = ((type == 1) && is_some image) || ((type == 0) && is_none image)
+is_miscounted type image = ((type == libxc_context_type) && is_some image) || ((type == libxl_end_type) && is_none image)
 
 -- the causes of a head of this type and length, whatever stands before it
 abbrev pub field_rows : ℕ → ℕ → List (Bool × Cause)
 field_rows type len =
     (nat_lt most_body len, BodyTooLong len)
     ∷ (is_unsupported type, Unsupported type)
-    ∷ (nat_lt 5 type && not (is_optional type), UnknownMandatory type)
+    ∷ (nat_lt checkpoint_state_type type && not (is_optional type), UnknownMandatory type)
     ∷ (not (allows_length type len), BadLength len)
     ∷ []
 
@@ -46,7 +47,7 @@ field_rows type len =
 abbrev pub order_rows : List LibxlRecord → ℕ → List (Bool × Cause)
 order_rows records type =
     (nat_le most_records (length records), TooManyRecords)
-    ∷ ((type == 0) && (is_pv (image_among records) && has_emulator records), EmulatorForPv)
+    ∷ ((type == libxl_end_type) && (is_pv (image_among records) && has_emulator records), EmulatorForPv)
     ∷ (is_miscounted type (image_among records), ContextCount)
     ∷ []
 
@@ -73,7 +74,7 @@ fault_of_pairs e body =
     option_or (pairs_fault (drop 8 body))
     (first_fault (
     (nat_le 3 (le32 body 0), BadEmulator (le32 body 0))
-    ∷ (nat_lt most_pairs (spelled_with e (emulator_key 258 body) (pairs_in (drop 8 body))), TooManyPairs)
+    ∷ (nat_lt most_pairs (spelled_with e (emulator_key (code_number EmulatorPairs) body) (pairs_in (drop 8 body))), TooManyPairs)
     ∷ (nat_le 256 (le32 body 4), EmulatorIndex (le32 body 4))
     ∷ []))
 
@@ -81,10 +82,10 @@ unfoldable pub fault_of_context : List ℕ → Option Cause
 fault_of_context body = first_fault ((nat_le 3 (le32 body 0), BadEmulator (le32 body 0)) ∷ (nat_le 256 (le32 body 4), EmulatorIndex (le32 body 4)) ∷ [])
 
 abbrev pub pairs_at : EmulatorsOf → ℕ → List ℕ → Judged Cause LibxlContent
-pairs_at e len input = said_at Truncated (fault_of_pairs e) (λ body. Pairs (emulator_key 258 body) (pairs_in (drop 8 body))) len input
+pairs_at e len input = said_at Truncated (fault_of_pairs e) (λ body. Pairs (emulator_key (code_number EmulatorPairs) body) (pairs_in (drop 8 body))) len input
 
 abbrev pub context_at : ℕ → List ℕ → Judged Cause LibxlContent
-context_at len input = said_at Truncated fault_of_context (λ body. Context (emulator_key 259 body) (drop 8 body)) len input
+context_at len input = said_at Truncated fault_of_context (λ body. Context (emulator_key (code_number EmulatorContext) body) (drop 8 body)) len input
 
 -- a body of which nothing is kept
 abbrev pub skipped_at : ℕ → List ℕ → Judged Cause LibxlContent
@@ -100,11 +101,11 @@ inner_at input = do
 
 -- the body of a record of this type, behind these emulators
 abbrev pub body_of_type : EmulatorsOf → ℕ → ℕ → List ℕ → Judged Cause LibxlContent
-body_of_type e type len input = if type == 2 then pairs_at e len input else if type == 3 then context_at len input else skipped_at len input
+body_of_type e type len input = if type == emulator_pairs_type then pairs_at e len input else if type == emulator_context_type then context_at len input else skipped_at len input
 
 -- what stands behind the head of a record of this type: a body, or the image behind LIBXC_CONTEXT
 abbrev pub libxl_content_at : List LibxlRecord → ℕ → ℕ → List ℕ → Judged (Place × Cause) LibxlContent
-libxl_content_at records type len input = if type == 1 then inner_at input else placed (AtRecord (length records)) (body_of_type (emulators_of records) type len input)
+libxl_content_at records type len input = if type == libxc_context_type then inner_at input else placed (AtRecord (length records)) (body_of_type (emulators_of records) type len input)
 
 -- a record behind these records
 unfoldable pub libxl_record_at : List LibxlRecord → List ℕ → Judged (Place × Cause) LibxlRecord

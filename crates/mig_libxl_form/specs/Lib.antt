@@ -1,4 +1,5 @@
 mod Common
+pub mod LibxlTypes
 pub mod Content
 pub mod Emulators
 pub mod Formed

@@ -1,8 +1,9 @@
 -- The spelling of a stream of either form, in the words of the format (libxl migration stream, "Header" and "Records").
 use Rattle.std.specs.Prelude.{◌≡◌, ◌≤◌, ◌<◌, ◌^◌, ℕ, ⊤, true, false, Bool, List, [], ◌++◌, length, Some, None}
-use Rattle.mig_libxl_form.specs.Common.{le32, Spells, most_body, IsLibxlHeader, Pair, Pv, GuestOf, PartKey, most_pairs, SpellPairs, most_records, ImageOf}
+use Rattle.mig_libxl_form.specs.Common.{code_number, EmulatorContext, EmulatorPairs, le32, Spells, most_body, IsLibxlHeader, Pair, Pv, GuestOf, PartKey, most_pairs, SpellPairs, most_records, ImageOf}
 use Rattle.mig_records.specs.Records.{IsRecord}
 use Rattle.mig_restore_form.specs.Spelled.{IsImage}
+use Rattle.mig_libxl_form.specs.LibxlTypes.{libxl_end_type, libxc_context_type, emulator_pairs_type, emulator_context_type}
 use Rattle.mig_libxl_form.specs.Content.{LibxlRecord, LibxlContent}
 use Rattle.mig_libxl_form.specs.Among.{is_libxl_ended, has_emulator, image_among}
 use Rattle.mig_libxl_form.specs.Content.LibxlContent.{Nothing, Image, Pairs, Context}
@@ -22,13 +23,13 @@ pub record IsFront (code : ℕ) (front : List ℕ) (key : PartKey) : Type 0 wher
 -- a body of this type, and what it says
 pub data HasLibxlContent : ℕ → List ℕ → LibxlContent → Type 0 where
   optional : (type : ℕ) (body : List ℕ) → 2 ^ 31 ≤ type → HasLibxlContent type body Nothing
-  ends : HasLibxlContent 0 [] Nothing
-  pairs : (front text : List ℕ) (key : PartKey) (ps : List Pair) → IsFront 258 front key → SpellPairs text ps → HasLibxlContent 2 (front ++ text) (Pairs key ps)
-  context : (front bytes : List ℕ) (key : PartKey) → IsFront 259 front key → HasLibxlContent 3 (front ++ bytes) (Context key bytes)
+  ends : HasLibxlContent libxl_end_type [] Nothing
+  pairs : (front text : List ℕ) (key : PartKey) (ps : List Pair) → IsFront (code_number EmulatorPairs) front key → SpellPairs text ps → HasLibxlContent emulator_pairs_type (front ++ text) (Pairs key ps)
+  context : (front bytes : List ℕ) (key : PartKey) → IsFront (code_number EmulatorContext) front key → HasLibxlContent emulator_context_type (front ++ bytes) (Context key bytes)
 
 -- the bytes of a record: LIBXC_CONTEXT has no body, and an image follows it; of any other, its head, body and padding
 pub data IsLibxlRecord : LibxlRecord → List ℕ → Type 0 where
-  image : (head text : List ℕ) (i : ImageOf) → IsRecord 1 [] head → IsImage text i.opening i.records [] → IsLibxlRecord (record { type = 1; content = Image i }) (head ++ text)
+  image : (head text : List ℕ) (i : ImageOf) → IsRecord libxc_context_type [] head → IsImage text i.opening i.records [] → IsLibxlRecord (record { type = libxc_context_type; content = Image i }) (head ++ text)
   body : (type : ℕ) (body bytes : List ℕ) (c : LibxlContent) → IsRecord type body bytes → length body ≤ most_body → HasLibxlContent type body c → IsLibxlRecord (record { type = type; content = c }) bytes
 
 -- no emulator has more pairs than it may have, once these are added
@@ -48,8 +49,8 @@ pub record FollowsLibxl (records : List LibxlRecord) (r : LibxlRecord) (bytes : 
   pub fits : EmulatorsFit records r.content
   pub few : length records < most_records
   pub not_ended : is_libxl_ended records ≡ false
-  pub one_image : r.type ≡ 1 → image_among records ≡ None
-  pub complete : r.type ≡ 0 → IsLibxlComplete records
+  pub one_image : r.type ≡ libxc_context_type → image_among records ≡ None
+  pub complete : r.type ≡ libxl_end_type → IsLibxlComplete records
 
 -- a libxl stream without a fault: its header, records of which the last is END, and then what follows
 pub record IsWrapped (input : List ℕ) (records : List LibxlRecord) (rest : List ℕ) : Type 0 where

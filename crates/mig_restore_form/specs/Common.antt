@@ -21,7 +21,7 @@ pub use Rattle.mig_headers.specs.declared.fault.Place.{Place}
 pub use Rattle.mig_headers.specs.declared.kind.Kind.{Kind}
 pub use Rattle.mig_headers.specs.declared.kind.Kind.TheVariants.{Hvm, Pv}
 pub use Rattle.mig_headers.specs.declared.record_type.RecordType.{RecordType}
-pub use Rattle.mig_headers.specs.declared.record_type.RecordType.TheVariants.{PageData, Verify, X86PvInfo, X86PvP2mFrames}
+pub use Rattle.mig_headers.specs.declared.record_type.RecordType.TheVariants.{End, PageData, StaticDataEnd, Verify, X86PvInfo, X86PvP2mFrames}
 pub use Rattle.mig_order.specs.Order.{IsInOrder, fault_of_type, some_earlier}
 pub use Rattle.mig_pagetypes.specs.FrameWords.{word_has_data, word_pfn, word_type}
 pub use Rattle.mig_pagetypes.specs.PageTypes.{level_of, number_of, type_has_data, type_of, type_or_none}

@@ -1,6 +1,6 @@
 -- Judging a record: its parts in their order, and the causes that are tried in each, in the order of their numbers.
 use Rattle.std.specs.Prelude.{ℕ, ◌+◌, ◌*◌, ◌^◌, List, [], ◌∷◌, ◌++◌, length, drop, Option, Some, None, ◌==◌, not, nat_le, if◌then◌else◌}
-use Rattle.mig_restore_form.specs.Common.{option_or, padding_len, le32, Passes, type_number, type_of_number, is_optional, Kind, RecordType, PageData, X86PvInfo, X86PvP2mFrames, Cause, BadLength, TooManyRecords, Truncated, PageType, type_of, type_or_none, level_of, word_type, word_pfn, word_has_data, GuestOf, fault_of_long, fault_of_length, fault_of_count, fault_of_words, words, data_len_of, fault_of_type, PartCode, code_of_number, fault_of_pv_info, fault_of_p2m, fault_of_body, parts_of_body}
+use Rattle.mig_restore_form.specs.Common.{option_or, padding_len, le32, Passes, type_number, type_of_number, is_optional, Kind, RecordType, End, PageData, X86PvInfo, X86PvP2mFrames, Cause, BadLength, TooManyRecords, Truncated, PageType, type_of, type_or_none, level_of, word_type, word_pfn, word_has_data, GuestOf, fault_of_long, fault_of_length, fault_of_count, fault_of_words, words, data_len_of, fault_of_type, PartCode, code_of_number, fault_of_pv_info, fault_of_p2m, fault_of_body, parts_of_body}
 use Rattle.mig_bytes.specs.Judged.{Judged, ◌>>=◌, part, tried, said_at, plain_at, each}
 use Rattle.mig_headers.specs.Rows.{first_fault}
 use Rattle.mig_pvtables.specs.Faults.{fault_of_guest}
@@ -161,7 +161,7 @@ record_at b input = do
 
 -- asked at END
 abbrev pub fault_at_end : ℕ → GuestOf → Option Cause
-fault_at_end type g = if type == 0 then fault_of_guest g else None
+fault_at_end type g = if type == type_number End then fault_of_guest g else None
 
 -- a record behind these records; the one that ends the image asks that what all of them sent has no fault
 unfoldable pub next_at : Opening → List StreamRecord → List ℕ → Judged Cause StreamRecord

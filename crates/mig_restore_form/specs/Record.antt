@@ -1,6 +1,6 @@
 -- The records of an image, and what they say (libxc migration stream, "Records").
 use Rattle.std.specs.Prelude.{ℕ, List, [], ◌∷◌, map, Option, Bool, ◌==◌, if◌then◌else◌}
-use Rattle.mig_restore_form.specs.Common.{list_any, Verify, some_earlier, PageType, PartCode, Part}
+use Rattle.mig_restore_form.specs.Common.{list_any, End, Verify, type_number, some_earlier, PageType, PartCode, Part}
 
 -- an entry of a PAGE_DATA record: a frame number and a type, and the page where the type has data
 pub record FrameEntry : Type 0 where
@@ -35,4 +35,4 @@ placed_content verified said = said
 
 -- whether some record ends the image
 abbrev pub is_ended : List StreamRecord → Bool
-is_ended records = list_any (λ t. t == 0) (types_of records)
+is_ended records = list_any (λ t. t == type_number End) (types_of records)

@@ -1,6 +1,6 @@
 -- The spelling of an image, in the words of the format: headers, then records one after the other.
 use Rattle.std.specs.Prelude.{◌≡◌, ℕ, ◌*◌, ◌≤◌, ◌<◌, ◌^◌, true, false, Bool, List, [], ◌∷◌, ◌++◌, length, Option, Some, None, IsSome}
-use Rattle.mig_restore_form.specs.Common.{All, le32, Spells, IsImageHeader, IsDomainHeader, Kind, Pv, Hvm, word_pfn, word_has_data, GuestOf, context_key, IsRecord, words, has_reserved_type, names_outside, IsInOrder, record_row_of, type_number, most_body, RecordType, PartCode, IsPvInfo, IsP2m, IsBody, IsFew, Part}
+use Rattle.mig_restore_form.specs.Common.{All, le32, Spells, IsImageHeader, IsDomainHeader, Kind, Pv, Hvm, word_pfn, word_has_data, GuestOf, context_key, IsRecord, words, has_reserved_type, names_outside, IsInOrder, record_row_of, type_number, most_body, RecordType, End, PageData, StaticDataEnd, Verify, X86PvInfo, X86PvP2mFrames, PartCode, IsPvInfo, IsP2m, IsBody, IsFew, Part}
 use Rattle.std.specs.FinMap as maps
 use Rattle.mig_pvtables.specs.WholePv.{IsCompletePv}
 use Rattle.mig_guest.specs.Tables.{EachEntry, IsWithin}
@@ -50,13 +50,13 @@ pub record IsBatch (kind : Kind) (top : ℕ) (body : List ℕ) (es : List FrameE
 -- a body of this type in a stream of this kind, with frame numbers up to top, and what it says
 pub data HasContent (kind : Kind) (top : ℕ) : ℕ → List ℕ → Content → Type 0 where
   optional : (type : ℕ) (body : List ℕ) → 2 ^ 31 ≤ type → HasContent kind top type body Nothing
-  ends : HasContent kind top 0 [] Nothing
-  pages : (body : List ℕ) (es : List FrameEntry) → IsBatch kind top body es → HasContent kind top 1 body (Frames es)
+  ends : HasContent kind top (type_number End) [] Nothing
+  pages : (body : List ℕ) (es : List FrameEntry) → IsBatch kind top body es → HasContent kind top (type_number PageData) body (Frames es)
   sets : (this : RecordType) (code : PartCode) (body : List ℕ) (ps : List Part) → code_of_type this ≡ Some code → (record_row_of this).allows (length body) ≡ true → IsBody code body ps → HasContent kind top (type_number this) body (Sets code ps)
-  info : (body : List ℕ) → length body ≡ 8 → IsPvInfo body → HasContent kind top 2 body Nothing
-  p2m_frames : (last : ℕ) (frames body : List ℕ) → IsP2m last frames body → HasContent kind top 3 body (Lists last frames)
-  static_end : HasContent kind top 0x10 [] Nothing
-  verify : HasContent kind top 0xD [] Nothing
+  info : (body : List ℕ) → length body ≡ 8 → IsPvInfo body → HasContent kind top (type_number X86PvInfo) body Nothing
+  p2m_frames : (last : ℕ) (frames body : List ℕ) → IsP2m last frames body → HasContent kind top (type_number X86PvP2mFrames) body (Lists last frames)
+  static_end : HasContent kind top (type_number StaticDataEnd) [] Nothing
+  verify : HasContent kind top (type_number Verify) [] Nothing
 
 -- what END asks of the guest: of an HVM guest its context and not too many frames, of a PV guest all that makes it whole
 abbrev pub IsComplete : Kind → GuestOf → Type 0
@@ -74,7 +74,7 @@ pub record Follows (o : Opening) (records : List StreamRecord) (r : StreamRecord
   pub ordered : IsInOrder o.version o.kind (types_of records) r.type
   pub few : length records < most_records
   pub not_ended : is_ended records ≡ false
-  pub complete : r.type ≡ 0 → IsComplete o.kind (sent o.kind (records ++ r ∷ []))
+  pub complete : r.type ≡ type_number End → IsComplete o.kind (sent o.kind (records ++ r ∷ []))
 
 -- an image without a fault: its headers, records of which the last is END, and then what follows
 pub record IsImage (input : List ℕ) (o : Opening) (records : List StreamRecord) (rest : List ℕ) : Type 0 where

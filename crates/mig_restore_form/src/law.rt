@@ -1,5 +1,5 @@
 ghost use Rattle.std.specs.Prelude.{◌≡◌, ◌≢◌, ◌≤◌, ◌⊎◌, ◌↔◌, [], ◌∷◌, ◌++◌, ℕ, List, option_and_then, unwrap_or, true, Some, None};
-ghost use Rattle.mig_restore_form.specs.Common.{All, Contains, AreBytes, Cause, Place, Kind, HasNoEmulators, FrameMap, p2m_key, blank, IsOfBytes, GuestOf, listed, PartKey, IsRecord, Passes};
+ghost use Rattle.mig_restore_form.specs.Common.{All, Contains, AreBytes, Cause, Place, Kind, HasNoEmulators, FrameMap, p2m_key, blank, IsOfBytes, GuestOf, listed, PartKey, IsRecord, PageData, Passes, Verify, type_number};
 ghost use Rattle.std.specs.FinMap as maps;
 ghost use Rattle.mig_pvtables.specs.Whole.{IsWhole};
 ghost use Rattle.mig_restore_form.specs.Judging.{Opening};
@@ -84,29 +84,29 @@ pub fn entry_agrees()
 
 /// The entries that the body of a PAGE_DATA has are sent where no record before it is a VERIFY, and compared where one is.
 pub fn page_data_is_sent_or_compared()
-    ensures { (o : Opening) (records : List StreamRecord) (r : StreamRecord) (bytes : List ℕ) → Follows o records r bytes → r.type ≡ 1 →
-        (body : List ℕ) × (es : List FrameEntry) × IsRecord 1 body bytes × IsBatch o.kind (sent o.kind records).top body es
-        × (All (λ q. q.type ≢ 0xD) records → (entries_in r.content ≡ es) × (checked_in r.content ≡ []))
-        × ((All (λ q. q.type ≢ 0xD) records → ⊥) → (entries_in r.content ≡ []) × (checked_in r.content ≡ es)) }
+    ensures { (o : Opening) (records : List StreamRecord) (r : StreamRecord) (bytes : List ℕ) → Follows o records r bytes → r.type ≡ type_number PageData →
+        (body : List ℕ) × (es : List FrameEntry) × IsRecord (type_number PageData) body bytes × IsBatch o.kind (sent o.kind records).top body es
+        × (All (λ q. q.type ≢ type_number Verify) records → (entries_in r.content ≡ es) × (checked_in r.content ≡ []))
+        × ((All (λ q. q.type ≢ type_number Verify) records → ⊥) → (entries_in r.content ≡ []) × (checked_in r.content ≡ es)) }
 {}
 
 /// Of an image with a VERIFY the entries before it are those that are sent, and the entries behind it those that are
 /// compared.
 pub fn verify_parts_entries()
     ensures { (input : List ℕ) (o : Opening) (before behind : List StreamRecord) (v : StreamRecord) (rest : List ℕ) →
-        IsImage input o (before ++ v ∷ behind) rest → v.type ≡ 0xD →
+        IsImage input o (before ++ v ∷ behind) rest → v.type ≡ type_number Verify →
         (entries_of (before ++ v ∷ behind) ≡ entries_of before) × (checked_of (before ++ v ∷ behind) ≡ checked_of behind) }
 {}
 
 /// Of an image with a VERIFY those entries behind it are counted that differ from the frames that were sent before it.
 pub fn entries_behind_verify_are_counted()
     ensures { (input : List ℕ) (o : Opening) (before behind : List StreamRecord) (v : StreamRecord) (rest : List ℕ) →
-        IsImage input o (before ++ v ∷ behind) rest → v.type ≡ 0xD →
+        IsImage input o (before ++ v ∷ behind) rest → v.type ≡ type_number Verify →
         differs_of o.kind (before ++ v ∷ behind) ≡ Some (differing o.kind (sent o.kind before).frames (checked_of behind)) }
 {}
 
 /// There is no such number exactly where no record is a VERIFY.
 #[tactic(auto, using(crate::proofs::VerifyLaws::no_number))]
 pub fn only_verify_is_counted()
-    ensures { (kind : Kind) (records : List StreamRecord) → (differs_of kind records ≡ None) ↔ All (λ r. r.type ≢ 0xD) records }
+    ensures { (kind : Kind) (records : List StreamRecord) → (differs_of kind records ≡ None) ↔ All (λ r. r.type ≢ type_number Verify) records }
 {}
