@@ -4,6 +4,7 @@ use Rattle.mig_relay_bodies.specs.Common.{option_or, fault_of_pv_info, fault_of_
 use Rattle.mig_guest.specs.declared.part_code.PartCode.{PartCode}
 use Rattle.mig_headers.specs.declared.record_type.RecordType.{RecordType}
 use Rattle.mig_libxl_form.specs.Judging.{fault_of_context}
+use Rattle.mig_libxl_form.specs.LibxlTypes.{emulator_pairs_type, emulator_context_type}
 use Rattle.mig_restore_form.specs.Record.{Content}
 use Rattle.mig_restore_form.specs.Record.Content.{Nothing, Sets}
 
@@ -48,4 +49,4 @@ fault_of_pair_body body = option_or (pairs_fault (drop 8 body)) (fault_of_contex
 
 -- of any other record nothing is asked
 abbrev pub fault_of_libxl_body : ℕ → List ℕ → Option Cause
-fault_of_libxl_body type body = if type == 2 then fault_of_pair_body body else if type == 3 then fault_of_context body else None
+fault_of_libxl_body type body = if type == emulator_pairs_type then fault_of_pair_body body else if type == emulator_context_type then fault_of_context body else None
