@@ -1,6 +1,5 @@
 pub mod Common
 pub mod Floats
-pub mod Spacing
 pub mod Stages
 pub mod Passing
 pub mod Sights
