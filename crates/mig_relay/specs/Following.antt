@@ -1,7 +1,7 @@
 -- Which part comes next behind one that was passed on (libxc migration stream, "Headers" and "Records"; libxl migration
 -- stream, "Header" and "Records"), and how many bytes of the record in hand are still to come.
 use Rattle.std.specs.Prelude.{◌≡◌, ◌≢◌, ◌≤◌, ◌+◌, ◌-◌, ◌*◌, ⊤, ℕ, true, false, List, [], ◌∷◌, ◌++◌, length, count_by, Option, Some, None}
-use Rattle.mig_relay.specs.Common.{padding_len, le32, LibxlRecord, type_number, Place, End, PageData, image_among, image_in, StreamOf, word_has_data, head_in, RecordHead, Opening, StreamRecord, ImageOf}
+use Rattle.mig_relay.specs.Common.{padding_len, le32, LibxlRecord, libxl_end_type, libxc_context_type, type_number, Place, End, PageData, image_among, image_in, StreamOf, word_has_data, head_in, RecordHead, Opening, StreamRecord, ImageOf}
 use Rattle.mig_headers.specs.declared.fault.Place.TheVariants.{ImageHeader, DomainHeader, Record, LibxlHeader, LibxlRecord as AtRecord}
 use Rattle.mig_records.specs.Words.{words}
 use Rattle.mig_relay.specs.Parts.{Next, AtMarker, AtVersion, AtKind, AtHead, AtBody, AtFront, AtWords, AtPages, AtPadding}
@@ -110,9 +110,9 @@ FillsBody _ piece head = ⊤
 -- what comes behind a whole record of this type, whose head stood there: the next record, or nothing behind END; behind
 -- LIBXC_CONTEXT, of which there is one, an image, and behind that image the next record of the libxl stream around it
 pub data ComesBehind : Spot → ℕ → Spot → Type 0 where
-  libxl_next : (records : List LibxlRecord) (r : LibxlRecord) (type : ℕ) → type ≢ 0 → type ≢ 1 → image_in r.content ≡ None → ComesBehind (AtLibxlHead records) type (AtLibxlHead (records ++ r ∷ []))
-  libxl_context : (records : List LibxlRecord) (type : ℕ) → type ≡ 1 → image_among records ≡ None → ComesBehind (AtLibxlHead records) type (InImage (Behind records) AtMarker)
-  libxl_end : (records : List LibxlRecord) (type : ℕ) (s : StreamOf) → type ≡ 0 → ComesBehind (AtLibxlHead records) type (AtEnd s)
+  libxl_next : (records : List LibxlRecord) (r : LibxlRecord) (type : ℕ) → type ≢ libxl_end_type → type ≢ libxc_context_type → image_in r.content ≡ None → ComesBehind (AtLibxlHead records) type (AtLibxlHead (records ++ r ∷ []))
+  libxl_context : (records : List LibxlRecord) (type : ℕ) → type ≡ libxc_context_type → image_among records ≡ None → ComesBehind (AtLibxlHead records) type (InImage (Behind records) AtMarker)
+  libxl_end : (records : List LibxlRecord) (type : ℕ) (s : StreamOf) → type ≡ libxl_end_type → ComesBehind (AtLibxlHead records) type (AtEnd s)
   image_next : (outer : Outer) (o : Opening) (records : List StreamRecord) (r : StreamRecord) (type : ℕ) → type ≢ type_number End → ComesBehind (InImage outer (AtHead o records)) type (InImage outer (AtHead o (records ++ r ∷ [])))
   image_end : (o : Opening) (records : List StreamRecord) (type : ℕ) (s : StreamOf) → type ≡ type_number End → ComesBehind (InImage Alone (AtHead o records)) type (AtEnd s)
   inner_end : (around : List LibxlRecord) (o : Opening) (records : List StreamRecord) (type : ℕ) (image : ImageOf) → type ≡ type_number End → ComesBehind (InImage (Behind around) (AtHead o records)) type (AtLibxlHead (around ++ image_record image ∷ []))

@@ -1,7 +1,7 @@
 -- What a relay keeps of the front that it has behind it. It keeps no pages and no bodies.
 use Rattle.std.specs.Prelude.{◌≡◌, ◌≢◌, ◌<◌, ◌≤◌, ◌+◌, ◌*◌, ◌^◌, ◌==◌, ◌||◌, ◌&&◌, not, ℕ, true, false, List, [], ◌∷◌, ◌++◌, length, drop, slice_index, Option, Some, None, ⊤, if◌then◌else◌}
 use Rattle.mig_records.specs.PvBodies.{greater}
-use Rattle.mig_relay.specs.Common.{padding_len, le32, LibxlRecord, most_body, type_number, End, PageData, Cause, is_libxl_ended, image_in, image_among, StreamOf, image_of_stream, word_has_data, IsBegunBody, piece_len, fault_of_record_body, fault_of_libxl_body, RecordHead, Opening, before, fault_of_fields, most_records, with_places, StreamRecord, FrameEntry, types_of, is_ended, ImageOf}
+use Rattle.mig_relay.specs.Common.{padding_len, le32, LibxlRecord, most_body, type_number, End, PageData, X86PvP2mFrames, is_emulator_type, libxc_context_type, libxl_end_type, Cause, is_libxl_ended, image_in, image_among, StreamOf, image_of_stream, word_has_data, IsBegunBody, piece_len, fault_of_record_body, fault_of_libxl_body, RecordHead, Opening, before, fault_of_fields, most_records, with_places, StreamRecord, FrameEntry, types_of, is_ended, ImageOf}
 use Rattle.mig_libxl_form.specs.Behind.{AreBehind}
 use Rattle.mig_libxl_form.specs.declared.head.RecordsBehind.{RecordsBehind}
 use Rattle.mig_restore_form.specs.Seen.{IsSeen}
@@ -36,7 +36,7 @@ pub record KeepsBody (r : Relay) (head : RecordHead) (fault : List ℕ → Optio
 -- the greatest frame number, with that in the first bytes of a list of P2M frames
 abbrev pub top_with : ℕ → List ℕ → ℕ → ℕ
 top_with type [] top = top
-top_with type (b ∷ bytes) top = if type == 3 then greater top (le32 (b ∷ bytes) 4) else top
+top_with type (b ∷ bytes) top = if type == type_number X86PvP2mFrames then greater top (le32 (b ∷ bytes) 4) else top
 
 -- a head without fault, which isn't that of a PAGE_DATA
 pub record IsOther (o : Opening) (records : List StreamRecord) (head : RecordHead) : Type 0 where
@@ -49,8 +49,8 @@ fault_of_empty head = if (head.len == 0) && not (head.kind == type_number PageDa
 
 -- both frame numbers of a list of P2M frames come in its first piece
 pub record KeepsFirst (r : Relay) (head : RecordHead) (begun : List ℕ) : Type 0 where
-  pub coming : head.kind ≡ 3 → begun ≡ [] → 8 ≤ piece_len r.body
-  pub come : head.kind ≡ 3 → 0 < length begun → 8 ≤ length begun
+  pub coming : head.kind ≡ type_number X86PvP2mFrames → begun ≡ [] → 8 ≤ piece_len r.body
+  pub come : head.kind ≡ type_number X86PvP2mFrames → 0 < length begun → 8 ≤ length begun
 
 -- the head of a PAGE_DATA, of a length that is allowed
 pub record IsPages (head : RecordHead) : Type 0 where
@@ -101,7 +101,7 @@ KeepsOpen r records = KeepsGoing r records × (length records < most_records)
 
 -- the same with one more of this type, which isn't LIBXC_CONTEXT
 abbrev pub with_one : ℕ → RecordsBehind → RecordsBehind
-with_one type behind = record { records = behind.records + 1; emulated = behind.emulated || ((type == 2) || (type == 3)); image = behind.image }
+with_one type behind = record { records = behind.records + 1; emulated = behind.emulated || is_emulator_type type; image = behind.image }
 
 abbrev pub KeepsOuter : Relay → Outer → Type 0
 KeepsOuter r Alone = r.wrapper ≡ None
@@ -113,7 +113,7 @@ HasRecords n s = (image : ImageOf) × (image_of_stream s ≡ Some image) × (n �
 
 -- a head that is neither END's nor LIBXC_CONTEXT's
 abbrev pub IsBodied : RecordHead → Type 0
-IsBodied head = (head.kind ≢ 0) × (head.kind ≢ 1)
+IsBodied head = (head.kind ≢ libxl_end_type) × (head.kind ≢ libxc_context_type)
 
 -- What a relay keeps where this comes next, and these first bytes of it were taken: of what is judged at once, none.
 abbrev pub Keeps : Relay → Spot → List ℕ → Type 0

@@ -1,6 +1,6 @@
 -- Where a stream of either form goes on behind a faultless front (libxl migration stream, "Header" and "Records").
 use Rattle.std.specs.Prelude.{ℕ, ◌*◌, ◌==◌, ◌&&◌, nat_le, Bool, List, [], ◌∷◌, ◌++◌, length, take, Option, None, if◌then◌else◌}
-use Rattle.mig_relay.specs.Common.{padding_len, be64, Passes, LibxlRecord, LibxlContent, Image, libxl_ident, fault_of_marker, Cause, Truncated, Place, StreamOf, Bare, RecordHead, ImageOf}
+use Rattle.mig_relay.specs.Common.{padding_len, be64, Passes, LibxlRecord, LibxlContent, Image, libxc_context_type, libxl_ident, fault_of_marker, Cause, Truncated, Place, StreamOf, Bare, RecordHead, ImageOf}
 use Rattle.mig_bytes.specs.Judged.{Judged, ◌>>=◌, part, placed}
 use Rattle.mig_headers.specs.declared.fault.Place.TheVariants.{LibxlRecord as AtRecord}
 use Rattle.mig_relay.specs.Streams.{open_stream_at, open_wrapped, open_libxl_records, open_body}
@@ -24,7 +24,7 @@ pub data Spot : Type 0 where
 
 -- the record of LIBXC_CONTEXT with this image
 abbrev pub image_record : ImageOf → LibxlRecord
-image_record image = record { type = 1; content = Image image }
+image_record image = record { type = libxc_context_type; content = Image image }
 
 -- what follows a whole image
 abbrev pub carry : Outer → ImageOf × List ℕ → Judged (Place × Cause) StreamOf

@@ -1,6 +1,6 @@
 -- Judging a stream of either form but for what END asks of the whole guest, and for how many bytes an emulator's pairs spell.
 use Rattle.std.specs.Prelude.{◌≡◌, ℕ, ◌&&◌, ◌==◌, List, [], length, drop, nat_le, if◌then◌else◌}
-use Rattle.mig_relay.specs.Common.{padding_len, le32, be64, Passes, Faulty, onward, LibxlRecord, LibxlContent, Image, Pairs, libxl_ident, Cause, Truncated, Place, is_libxl_ended, StreamOf, header_at, Bare, Wrapped, fault_of_pair_body}
+use Rattle.mig_relay.specs.Common.{code_number, EmulatorPairs, emulator_pairs_type, emulator_context_type, libxc_context_type, padding_len, le32, be64, Passes, Faulty, onward, LibxlRecord, LibxlContent, Image, Pairs, libxl_ident, Cause, Truncated, Place, is_libxl_ended, StreamOf, header_at, Bare, Wrapped, fault_of_pair_body}
 use Rattle.mig_bytes.specs.Judged.{Judged, ◌>>=◌, part, placed, said_at}
 use Rattle.mig_headers.specs.declared.fault.Place.TheVariants.{LibxlHeader, LibxlRecord as AtRecord}
 use Rattle.mig_libxl_form.specs.Judging.{emulator_key, context_at, skipped_at, libxl_head_at}
@@ -8,10 +8,10 @@ use Rattle.mig_policy.specs.PairMaps.{pairs_in}
 use Rattle.mig_relay.specs.Images.{open_image_at}
 
 abbrev pub open_pairs_at : ℕ → List ℕ → Judged Cause LibxlContent
-open_pairs_at len input = said_at Truncated fault_of_pair_body (λ body. Pairs (emulator_key 258 body) (pairs_in (drop 8 body))) len input
+open_pairs_at len input = said_at Truncated fault_of_pair_body (λ body. Pairs (emulator_key (code_number EmulatorPairs) body) (pairs_in (drop 8 body))) len input
 
 abbrev pub open_body : ℕ → ℕ → List ℕ → Judged Cause LibxlContent
-open_body type len input = if type == 2 then open_pairs_at len input else if type == 3 then context_at len input else skipped_at len input
+open_body type len input = if type == emulator_pairs_type then open_pairs_at len input else if type == emulator_context_type then context_at len input else skipped_at len input
 
 abbrev pub open_inner : List ℕ → Judged (Place × Cause) LibxlContent
 open_inner input = do
@@ -20,7 +20,7 @@ open_inner input = do
 
 -- what stands behind the head of a record of this type: a body, or the image behind LIBXC_CONTEXT
 abbrev pub open_content : List LibxlRecord → ℕ → ℕ → List ℕ → Judged (Place × Cause) LibxlContent
-open_content records type len input = if type == 1 then open_inner input else placed (AtRecord (length records)) (open_body type len input)
+open_content records type len input = if type == libxc_context_type then open_inner input else placed (AtRecord (length records)) (open_body type len input)
 
 -- a record behind these records
 unfoldable pub open_libxl_record : List LibxlRecord → List ℕ → Judged (Place × Cause) LibxlRecord

@@ -1,5 +1,5 @@
 ghost use Rattle.std.specs.Prelude.{◌≡◌, ◌≢◌, ◌<◌, ◌≤◌, ◌+◌, [], ◌∷◌, ◌++◌, List, ℕ, None, Some, length, IfSome, IsSome};
-ghost use Rattle.mig_relay.specs.Common.{padding_len, LibxlRecord, LibxlContent, image_in, piece_len, fault_of_record_body, fault_of_libxl_body, Opening, before, most_records, StreamRecord, Content};
+ghost use Rattle.mig_relay.specs.Common.{End, type_number, padding_len, LibxlRecord, LibxlContent, image_in, piece_len, fault_of_record_body, fault_of_libxl_body, Opening, before, most_records, StreamRecord, Content};
 ghost use Rattle.mig_relay.specs.Keeping.{KeepsBody, KeepsHead, KeepsOpen, KeepsOuter, KeepsFirst, IsBodied, IsOther, top_with, with_one};
 ghost use Rattle.mig_relay.specs.Parts.{AtBody, AtPadding, record_with};
 ghost use Rattle.mig_relay.specs.Spots.{Outer, AtLibxlBody, AtLibxlPadding, InImage};
@@ -9,12 +9,12 @@ ghost use Rattle.mig_relay.specs.declared.state.Coming.TheVariants as comes;
 use crate::answer::{RelayAnswer, Step};
 use crate::state::{Coming, Relay, answer};
 use mig_bytes::{Sink, Source, pad_len, take_part, u32_le};
-use mig_headers::{Cause, Place};
+use mig_headers::{Cause, Place, RecordType};
 use mig_libxl_form::RecordsBehind;
 use mig_records::RecordHead;
 
 /// The type of the records that list P2M frames.
-const X86_PV_P2M_FRAMES: u32 = 3;
+const X86_PV_P2M_FRAMES: u32 = RecordType::X86PvP2mFrames as u32;
 
 /// The most bytes of a piece.
 const PIECE: usize = 4096;
@@ -33,7 +33,7 @@ fn behind_body(head: RecordHead) -> Coming
 
 /// The greatest frame number behind the first piece of a body, which has the last frame number of a list of P2M frames.
 fn top_behind(top: u64, head: RecordHead, taken: u32, piece: &[u8]) -> u64
-    requires { head.kind ≡ 3 → taken ≡ 0 → 8 ≤ length piece.now }
+    requires { head.kind ≡ X86_PV_P2M_FRAMES → taken ≡ 0 → 8 ≤ length piece.now }
     ensures first { taken ≡ 0 → 0 < length piece.now → result ≡ top_with head.kind piece.now top }
     ensures later { 0 < taken → result ≡ top }
 {
@@ -55,7 +55,7 @@ impl Relay {
         requires coming { self.old.coming ≡ comes.Body head }
         requires less { self.old.body.taken < self.old.body.len }
         requires len { self.old.body.len ≡ head.len }
-        requires front { head.kind ≡ 3 → self.old.body.taken ≡ 0 → 8 ≤ piece_len self.old.body }
+        requires front { head.kind ≡ X86_PV_P2M_FRAMES → self.old.body.taken ≡ 0 → 8 ≤ piece_len self.old.body }
         requires count { 0 < self.old.seen.records }
         ensures moved { (outer : Outer) (o : Opening) (records : List StreamRecord) (begun : List ℕ) → KeepsOuter self.old outer → KeepsHead self.old o records head (top_with head.kind begun (before o records).top) → IsOther o records head → KeepsFirst self.old head begun
             → KeepsBody self.old head (fault_of_record_body head.kind) begun
@@ -93,7 +93,7 @@ impl Relay {
     ) -> Result<Step, RelayAnswer>
         requires some { 0 < padding_len head.len }
         requires count { 0 < self.old.seen.records }
-        ensures moved { (outer : Outer) (o : Opening) (records : List StreamRecord) (content : Content) → KeepsOuter self.old outer → KeepsHead self.old o records head (before o (records ++ record_with records head content ∷ [])).top → head.kind ≢ 0
+        ensures moved { (outer : Outer) (o : Opening) (records : List StreamRecord) (content : Content) → KeepsOuter self.old outer → KeepsHead self.old o records head (before o (records ++ record_with records head content ∷ [])).top → head.kind ≢ type_number End
             → StepMoved (InImage outer (AtPadding o records head content)) [] self.old self.new (S.left src.old) (S.left src.new) (K.written sink.old) (K.written sink.new) result }
         ensures faults { RisesOnFault (S.faults src.old) (S.faults src.new) (K.faults sink.old) (K.faults sink.new) result }
     {

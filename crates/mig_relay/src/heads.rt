@@ -1,5 +1,5 @@
 ghost use Rattle.std.specs.Prelude.{min, ◌≡◌, ◌≢◌, ◌<◌, ◌≤◌, ◌+◌, [], List, false, true, None, Some, IfSome, IsSome};
-ghost use Rattle.mig_relay.specs.Common.{LibxlRecord, most_body, IsBegunBody, piece_len, fault_of_record_body, fault_of_libxl_body, Opening, before, most_records, StreamRecord, types_of};
+ghost use Rattle.mig_relay.specs.Common.{LibxlRecord, X86PvP2mFrames, most_body, type_number, IsBegunBody, piece_len, fault_of_record_body, fault_of_libxl_body, Opening, before, most_records, StreamRecord, types_of};
 ghost use Rattle.mig_libxl_form.specs.Judging.{allows_length as length_allowed};
 ghost use Rattle.mig_records.specs.Faults.{fault_of_length};
 ghost use Rattle.mig_relay.specs.Keeping.{KeepsOuter, KeepsGoing, KeepsRecords, fault_of_empty, with_one};
@@ -67,7 +67,7 @@ impl Relay {
         ensures body { head.kind ≢ PAGE_DATA → 0 < head.len → self.new.coming ≡ comes.Body head }
         ensures begun { head.kind ≢ PAGE_DATA → 0 < head.len → IsBegunBody self.new.body (fault_of_record_body head.kind) [] }
         ensures len { head.kind ≢ PAGE_DATA → 0 < head.len → self.new.body.len ≡ head.len }
-        ensures p2m { head.kind ≡ 3 → 0 < head.len → piece_len self.new.body ≡ min head.len 4096 }
+        ensures p2m { head.kind ≡ type_number X86PvP2mFrames → 0 < head.len → piece_len self.new.body ≡ min head.len 4096 }
         ensures mark { head.kind ≢ PAGE_DATA → head.len ≡ 0 → head.kind ≢ END → self.new.coming ≡ comes.Head }
         ensures wrapper { (head.kind ≡ END → 0 < head.len) → self.new.wrapper ≡ self.old.wrapper }
         ensures alone { head.kind ≡ END → head.len ≡ 0 → self.old.wrapper ≡ None → (self.new.coming ≡ comes.End) × (self.new.wrapper ≡ None) }
