@@ -1,5 +1,5 @@
 -- From what a relay keeps to the bytes that it stands for.
-use Rattle.mig_relay.proofs.Common.{◌≡◌, ◌≢◌, ℕ, ◌≤◌, Bool, true, false, List, [], ◌∷◌, ◌++◌, length, take, drop, min, ◌+◌, ◌-◌, ◌^◌, ◌<◌, Option, Some, None, Result, Ok, Err, refl, sym, ap, subst, ◌∙◌, arith, append_assoc, append-nil, length-append, length-drop, take-append-drop, Consumes, Appends, AppendsPart, Judged, Passes, passes_not, Cause, Truncated, Place, StreamOf, IsPassable, fault_of_record_body, record_content, bodies_are_parts, before, with_places, ImageOf, in_hand, place_of_spot, Keeps, KeepsNext, HasRecords, Next, AtMarker, AtVersion, AtKind, AtHead, AtBody, AtFront, AtWords, AtPages, AtPadding, judged_next, BeginsWithPart, HasPassed, IsRelayed, Turned, RisesOnAnswer, WritesOnReadFault, Outer, Spot, AtStart, AtLibxlHeader, AtLibxlHead, AtLibxlBody, AtLibxlPadding, InImage, AtEnd, spot, held, carry, FrontsAreCut, PassedPiece, IsUnfinished, is_judged_first, Refuses, Stops, StepMoved, MovedBy, counted, Fits, RelayAnswer, Refused, WriteFault, Memory, Relayed, Step, Coming, Relay, is_some, places_len, head_of_next, Stands, RisesOnFault, EndsInside, WritesSome, may_wait, most_waiting, ReadFault}
+use Rattle.mig_relay.proofs.Common.{◌≡◌, ◌≢◌, ℕ, ◌≤◌, Bool, true, false, List, [], ◌∷◌, ◌++◌, length, take, drop, min, ◌+◌, ◌-◌, ◌^◌, ◌<◌, Option, Some, None, Result, Ok, Err, refl, sym, ap, subst, ◌∙◌, arith, append_assoc, append-nil, length-append, length-drop, take-append-drop, Consumes, Appends, AppendsPart, Judged, Passes, passes_not, Cause, Truncated, Place, StreamOf, IsPassable, fault_of_record_body, record_content, bodies_are_parts, before, with_places, ImageOf, in_hand, place_of_spot, Keeps, KeepsNext, HasRecords, Next, AtMarker, AtVersion, AtKind, AtHead, AtBody, AtFront, AtWords, AtPages, AtPadding, BeginsWithPart, HasPassed, IsRelayed, Turned, RisesOnAnswer, WritesOnReadFault, Outer, Spot, AtStart, AtLibxlHeader, AtLibxlHead, AtLibxlBody, AtLibxlPadding, InImage, AtEnd, spot, held, carry, FrontsAreCut, PassedPiece, IsUnfinished, is_judged_first, Refuses, Stops, StepMoved, MovedBy, counted, Fits, RelayAnswer, Refused, WriteFault, Memory, Relayed, Step, Coming, Relay, is_some, places_len, Stands, RisesOnFault, EndsInside, WritesSome, may_wait, most_waiting, ReadFault}
 use mathlib.Core.Logic.{inl, inr}
 use Rattle.std.specs.Io.KnownBytes.{Keeps as Stays}
 use Rattle.mig_bytes.specs.Faults.{Rose}
@@ -25,81 +25,61 @@ still_cut here {place} {size} {fault} {follows} is begun less = (place, cut here
 none_cut : (here : Spot) {place : Place} {size : ℕ} {fault : List ℕ → Option Cause} {follows : List ℕ → List ℕ → Judged (Place × Cause) StreamOf} → BeginsWithPart (spot here) place size fault follows → (begun : List ℕ) → begun ≡ [] → EndsInside (spot here begun)
 none_cut here is begun none = subst (λ l. EndsInside (spot here l)) (sym none) (still_cut here is [] is.some)
 
-module _ (r : Relay) (outer : Outer) where
-  -- a part of an image that is taken at once
-  once : (next : Next) {place : Place} {size : ℕ} {fault : List ℕ → Option Cause} {follows : List ℕ → List ℕ → Judged (Place × Cause) ImageOf} → BeginsWithPart (judged_next next) place size fault follows → (begun : List ℕ) → begun ≡ [] → EndsInside (spot (InImage outer next) begun)
-  once next is = none_cut (InImage outer next) (lifted (carry outer) is)
-
-  image_cut : (next : Next) (begun : List ℕ) → KeepsNext r next begun → EndsInside (spot (InImage outer next) begun)
-  image_cut AtMarker begun (is, none) = once AtMarker marker_is begun none
-  image_cut AtVersion begun (is, none) = once AtVersion version_is begun none
-  image_cut (AtKind version) begun (is, none) = once (AtKind version) (kind_is version) begun none
-  image_cut (AtHead o records) begun (is, kept, none) = once (AtHead o records) (head_is o records kept.going) begun none
-  image_cut (AtBody o records head) begun (is, kept, other, first, body) =
-      still_cut (InImage outer (AtBody o records head))
-      (lifted (carry outer) (body_is o records head (fault_of_record_body head.kind) (record_content head.kind) (bodies_are_parts (before o records) head.kind head.len other.fine other.other) (omega (arith, body.less)))) begun body.less
-  image_cut (AtFront o records head) begun (is, kept, pages, none) = none_cut (InImage outer (AtFront o records head)) (front_is outer o records head) begun none
-  image_cut (AtWords o records head n) begun (is, kept, pages, count, none) = none_cut (InImage outer (AtWords o records head n)) (words_is outer o records head n count.0) begun none
-  image_cut (AtPages o records head coming stood) begun (is, kept, pages, whole, words, none) = none_cut (InImage outer (AtPages o records head coming stood)) (page_is outer o records head r coming stood words) begun none
-  image_cut (AtPadding o records head content) begun (is, kept, some, other, none) = once (AtPadding o records head content) (padding_is o records head content some) begun none
-
 -- a truth value isn't both
 apart : true ≡ false → ⊥
 apart e = cc
 
--- what is judged at a place that is kept is cut, but for the end
-pub keeps_cut : (r : Relay) (here : Spot) (begun : List ℕ) → Keeps r here begun → is_at_end r.coming ≡ false → EndsInside (spot here begun)
-keeps_cut r AtStart begun (is, alone, none) going = none_cut AtStart start_is begun none
-keeps_cut r AtLibxlHeader begun (is, kept, none) going = none_cut AtLibxlHeader header_is begun none
-keeps_cut r (AtLibxlHead records) begun (is, kept, none) going = none_cut (AtLibxlHead records) (libxl_head_is records kept.1) begun none
-keeps_cut r (AtLibxlBody records head) begun (is, kept, bodied, body) going = still_cut (AtLibxlBody records head) (libxl_body_is records head (omega (arith, body.less))) begun body.less
-keeps_cut r (AtLibxlPadding records head content) begun (is, kept, bodied, image, some, none) going = none_cut (AtLibxlPadding records head content) (libxl_padding_is records head content some) begun none
-keeps_cut r (InImage outer next) begun (around, k) going = image_cut r outer next begun k
-keeps_cut r (AtEnd s) begun (is, has, none) going = absurd (apart (sym (ap is_at_end is) ∙ going))
+-- the words from this one on
+all_come : (ws : List ℕ) (page : ℕ) (coming : List (ℕ × ℕ)) → coming ≡ with_places page (drop page ws) → page ≤ length ws → page + length coming ≡ length ws
+all_come ws page coming is within = omega (arith, within, ap length is, places_len page (drop page ws), length-drop page ws)
 
--- ---- a record in hand
+-- What is so wherever a relay stands. What is judged there is cut, but for the end; what comes next tells whether a record is
+-- in hand; of what is judged at once no byte was passed on; and no more than may wait, and the part that comes next, is no
+-- more than may wait with it.
+record IsAt (r : Relay) (here : Spot) (begun : List ℕ) : Type 0 where
+  cut : is_at_end r.coming ≡ false → EndsInside (spot here begun)
+  within : is_within r.coming ≡ is_some (in_hand here)
+  unbegun : is_judged_first here ≡ true → begun ≡ []
+  room : may_wait r.coming (length r.words.items) + held here ≤ most_waiting here
 
-within_image : (r : Relay) (next : Next) (begun : List ℕ) → KeepsNext r next begun → is_within r.coming ≡ is_some (head_of_next next)
-within_image r AtMarker begun k = ap is_within k.0
-within_image r AtVersion begun k = ap is_within k.0
-within_image r (AtKind version) begun k = ap is_within k.0
-within_image r (AtHead o records) begun k = ap is_within k.0
-within_image r (AtBody o records head) begun k = ap is_within k.0
-within_image r (AtFront o records head) begun k = ap is_within k.0
-within_image r (AtWords o records head n) begun k = ap is_within k.0
-within_image r (AtPages o records head coming stood) begun k = ap is_within k.0
-within_image r (AtPadding o records head content) begun k = ap is_within k.0
+module _ (r : Relay) where
+  -- a part that is taken at once
+  once : (here : Spot) (begun : List ℕ) (c : Coming) {place : Place} {size : ℕ} {fault : List ℕ → Option Cause} {follows : List ℕ → List ℕ → Judged (Place × Cause) StreamOf} → BeginsWithPart (spot here) place size fault follows → r.coming ≡ c → begun ≡ []
+      → is_within c ≡ is_some (in_hand here) → may_wait c (length r.words.items) + held here ≤ most_waiting here → IsAt r here begun
+  once here begun c is comes none within room = record { cut = λ _. none_cut here is begun none; within = ap is_within comes ∙ within; unbegun = λ _. none; room = rw comes room }
 
--- it is known by what comes next
+  is_at_next : (outer : Outer) (next : Next) (begun : List ℕ) → KeepsNext r next begun → IsAt r (InImage outer next) begun
+  is_at_next outer AtMarker begun (is, none) = once (InImage outer AtMarker) begun comes.Marker (lifted (carry outer) marker_is) is none refl (omega arith)
+  is_at_next outer AtVersion begun (is, none) = once (InImage outer AtVersion) begun comes.Version (lifted (carry outer) version_is) is none refl (omega arith)
+  is_at_next outer (AtKind version) begun (is, none) = once (InImage outer (AtKind version)) begun (comes.Kind version) (lifted (carry outer) (kind_is version)) is none refl (omega arith)
+  is_at_next outer (AtHead o records) begun (is, kept, none) = once (InImage outer (AtHead o records)) begun comes.Head (lifted (carry outer) (head_is o records kept.going)) is none refl (omega arith)
+  is_at_next outer (AtBody o records head) begun (is, kept, other, first, body) = record {
+    cut = λ _.
+        still_cut (InImage outer (AtBody o records head))
+        (lifted (carry outer) (body_is o records head (fault_of_record_body head.kind) (record_content head.kind) (bodies_are_parts (before o records) head.kind head.len other.fine other.other) (omega (arith, body.less)))) begun body.less;
+    within = ap is_within is;
+    unbegun = λ judged. absurd (apart (sym judged));
+    room = rw is (omega arith);
+  }
+  is_at_next outer (AtFront o records head) begun (is, kept, pages, none) = once (InImage outer (AtFront o records head)) begun (comes.Front head) (front_is outer o records head) is none refl (omega arith)
+  is_at_next outer (AtWords o records head n) begun (is, kept, pages, count, none) = once (InImage outer (AtWords o records head n)) begun (comes.Words head n) (words_is outer o records head n count.0) is none refl (omega arith)
+  is_at_next outer (AtPages o records head coming stood) begun (is, kept, pages, whole, words, none) =
+      once (InImage outer (AtPages o records head coming stood)) begun (comes.Page head) (page_is outer o records head r coming stood words) is none refl (omega (arith, words.behind, all_come r.words.items r.page coming words.left (omega (arith, words.some))))
+  is_at_next outer (AtPadding o records head content) begun (is, kept, some, other, none) = once (InImage outer (AtPadding o records head content)) begun (comes.Padding head) (lifted (carry outer) (padding_is o records head content some)) is none refl (omega arith)
+
+  is_at : (here : Spot) (begun : List ℕ) → Keeps r here begun → IsAt r here begun
+  is_at AtStart begun (is, alone, none) = once AtStart begun comes.Start start_is is none refl (omega arith)
+  is_at AtLibxlHeader begun (is, kept, none) = once AtLibxlHeader begun comes.LibxlHeader header_is is none refl (omega arith)
+  is_at (AtLibxlHead records) begun (is, kept, none) = once (AtLibxlHead records) begun comes.LibxlHead (libxl_head_is records kept.1) is none refl (omega arith)
+  is_at (AtLibxlBody records head) begun (is, kept, bodied, body) =
+      record { cut = λ _. still_cut (AtLibxlBody records head) (libxl_body_is records head (omega (arith, body.less))) begun body.less; within = ap is_within is; unbegun = λ judged. absurd (apart (sym judged)); room = rw is (omega arith) }
+  is_at (AtLibxlPadding records head content) begun (is, kept, bodied, image, some, none) = once (AtLibxlPadding records head content) begun (comes.LibxlPadding head) (libxl_padding_is records head content some) is none refl (omega arith)
+  is_at (InImage outer next) begun (around, k) = is_at_next outer next begun k
+  is_at (AtEnd s) begun (is, has, none) = record { cut = λ going. absurd (apart (sym (ap is_at_end is) ∙ going)); within = ap is_within is; unbegun = λ _. none; room = rw is (omega arith) }
+
+-- a record in hand is known by what comes next
 pub within : (r : Relay) (here : Spot) (begun : List ℕ) → Keeps r here begun → is_within r.coming ≡ is_some (in_hand here)
-within r AtStart begun k = ap is_within k.0
-within r AtLibxlHeader begun k = ap is_within k.0
-within r (AtLibxlHead records) begun k = ap is_within k.0
-within r (AtLibxlBody records head) begun k = ap is_within k.0
-within r (AtLibxlPadding records head content) begun k = ap is_within k.0
-within r (InImage outer next) begun (around, k) = within_image r next begun k
-within r (AtEnd s) begun k = ap is_within k.0
-
--- of what is judged at once no byte was passed on
-unbegun_next : (r : Relay) (outer : Outer) (next : Next) (begun : List ℕ) → KeepsNext r next begun → is_judged_first (InImage outer next) ≡ true → begun ≡ []
-unbegun_next r outer AtMarker begun k judged = k.1
-unbegun_next r outer AtVersion begun k judged = k.1
-unbegun_next r outer (AtKind version) begun k judged = k.1
-unbegun_next r outer (AtHead o records) begun k judged = k.2
-unbegun_next r outer (AtBody o records head) begun k judged = absurd (apart (sym judged))
-unbegun_next r outer (AtFront o records head) begun k judged = k.3
-unbegun_next r outer (AtWords o records head n) begun k judged = k.4
-unbegun_next r outer (AtPages o records head coming stood) begun k judged = k.5
-unbegun_next r outer (AtPadding o records head content) begun k judged = k.4
-
-unbegun : (r : Relay) (here : Spot) (begun : List ℕ) → Keeps r here begun → is_judged_first here ≡ true → begun ≡ []
-unbegun r AtStart begun k judged = k.2
-unbegun r AtLibxlHeader begun k judged = k.2
-unbegun r (AtLibxlHead records) begun k judged = k.2
-unbegun r (AtLibxlBody records head) begun k judged = absurd (apart (sym judged))
-unbegun r (AtLibxlPadding records head content) begun k judged = k.5
-unbegun r (InImage outer next) begun k judged = unbegun_next r outer next begun k.1 judged
-unbegun r (AtEnd s) begun k judged = k.2
+within r here begun k = (is_at r here begun k).within
 
 -- ---- the end
 
@@ -136,7 +116,7 @@ module _ (here : Spot) (begun : List ℕ) (r t : Relay) (old new before now : Op
     where
       by : (b : Bool) → is_at_end r.coming ≡ b → is_at_end r.coming ≡ true
       by true e = e
-      by false going = let c = keeps_cut r here begun k going in passes_not m.is.0 [] (c.0, Truncated) [] (sym (m.is.1 []) ∙ ap (spot here) (append-nil begun) ∙ c.1)
+      by false going = let c = (is_at r here begun k).cut going in passes_not m.is.0 [] (c.0, Truncated) [] (sym (m.is.1 []) ∙ ap (spot here) (append-nil begun) ∙ c.1)
 
 -- a step from what comes next, at each place where it may
 pub moved_from : (r t : Relay) (old new before now : Option (List ℕ)) (result : Result Step RelayAnswer) (c : Coming) → r.coming ≡ c → Told r (λ here begun. StepMoved here begun r t old new before now result) c → (here : Spot) (begun : List ℕ) → Keeps r here begun → StepMoved here begun r t old new before now result
@@ -175,7 +155,7 @@ module _ {r : Relay} {bytes : List ℕ} (s : StandsForBytes r bytes) where
   -- a list that isn't passable ends inside a part
   pub is_front : is_at_end r.coming ≡ false → EndsInside (open_stream_at bytes)
   is_front going =
-      let c = keeps_cut r s.here s.begun s.keeps going in
+      let c = (is_at r s.here s.begun s.keeps).cut going in
       (c.0, ap open_stream_at (sym (append-nil bytes)) ∙ s.same [] ∙ ap (spot s.here) (append-nil s.begun) ∙ c.1)
 
   -- passable bytes stand at the end
@@ -376,33 +356,6 @@ module _ (old new before now later : Option (List ℕ)) (waiting : List ℕ) (pu
   ended WriteFault e = cut_written e
   ended Memory e = cut_written e
 
--- ---- where no more waits than may
-
--- the words from this one on
-all_come : (ws : List ℕ) (page : ℕ) (coming : List (ℕ × ℕ)) → coming ≡ with_places page (drop page ws) → page ≤ length ws → page + length coming ≡ length ws
-all_come ws page coming is within = omega (arith, within, ap length is, places_len page (drop page ws), length-drop page ws)
-
--- no more than may wait, and the part that comes next, is no more than may wait with it
-room_in : (r : Relay) (outer : Outer) (next : Next) (begun : List ℕ) → KeepsNext r next begun → may_wait r.coming (length r.words.items) + held (InImage outer next) ≤ most_waiting (InImage outer next)
-room_in r outer AtMarker begun k = rw k.0 (omega arith)
-room_in r outer AtVersion begun k = rw k.0 (omega arith)
-room_in r outer (AtKind version) begun k = rw k.0 (omega arith)
-room_in r outer (AtHead o records) begun k = rw k.0 (omega arith)
-room_in r outer (AtBody o records head) begun k = rw k.0 (omega arith)
-room_in r outer (AtFront o records head) begun k = rw k.0 (omega arith)
-room_in r outer (AtWords o records head n) begun k = rw k.0 (omega arith)
-room_in r outer (AtPages o records head coming stood) begun (is, kept, pages, whole, words, none) = rw is (omega (arith, words.behind, all_come r.words.items r.page coming words.left (omega (arith, words.some))))
-room_in r outer (AtPadding o records head content) begun k = rw k.0 (omega arith)
-
-room : (r : Relay) (here : Spot) (begun : List ℕ) → Keeps r here begun → may_wait r.coming (length r.words.items) + held here ≤ most_waiting here
-room r AtStart begun k = rw k.0 (omega arith)
-room r AtLibxlHeader begun k = rw k.0 (omega arith)
-room r (AtLibxlHead records) begun k = rw k.0 (omega arith)
-room r (AtLibxlBody records head) begun k = rw k.0 (omega arith)
-room r (AtLibxlPadding records head content) begun k = rw k.0 (omega arith)
-room r (InImage outer next) begun (around, k) = room_in r outer next begun k
-room r (AtEnd s) begun k = rw k.0 (omega arith)
-
 -- ---- a turn
 
 -- where a front of two lists ends: inside the first, or behind it
@@ -481,7 +434,7 @@ module _ (r t : Relay) (waiting waits : List ℕ) (old mid new before now : Opti
     cuts = cuts_on piece is cuts;
     taken = subst (Consumes old new) (sym (append_assoc (h.wrote ++ waiting) piece rest) ∙ ap (λ l. l ++ rest) (longer piece is)) (consumed_on old mid new (h.wrote ++ waiting) (piece ++ rest) h.taken taken);
     written = h.written;
-    few = omega (arith, few, fits, room r s.here s.begun s.keeps, ap length is, length-append waiting piece);
+    few = omega (arith, few, fits, (is_at r s.here s.begun s.keeps).room, ap length is, length-append waiting piece);
     rest_few = omega (arith, few);
   }
 
@@ -509,7 +462,7 @@ module _ (r t : Relay) (waiting waits : List ℕ) (old mid new before now : Opti
     refused = refused_on old place cause h.taken f;
     unfinished = (fault, rest, ap open_stream_at (sym (longer wrote w.written)) ∙ s.same wrote ∙ is);
     at = at;
-    unbegun = λ judged. ap (λ l. s.begun ++ l) (first judged) ∙ append-nil s.begun ∙ unbegun r s.here s.begun s.keeps judged;
+    unbegun = λ judged. ap (λ l. s.begun ++ l) (first judged) ∙ append-nil s.begun ∙ (is_at r s.here s.begun s.keeps).unbegun judged;
     cut = λ judged. subst (λ l. EndsInside (open_stream_at l)) (sym (append-nil (h.wrote ++ waiting)) ∙ ap (λ l. (h.wrote ++ waiting) ++ l) (sym (first judged)) ∙ longer wrote w.written) (is_front s (before_end r s.here s.begun place s.keeps at));
   }
 
