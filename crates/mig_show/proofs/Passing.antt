@@ -8,7 +8,7 @@ use Rattle.mig_records.specs.Words.{words}
 use Rattle.mig_restore_form.specs.Judging.{Opening}
 use Rattle.mig_restore_form.specs.Record.{StreamRecord}
 use Rattle.mig_relay.proofs.Paging.{words_number}
-use Rattle.mig_show.proofs.Stages.{Has, HandOf, HasSome, InHand, IsAround, IsAroundImage, finished, head_around, head_layer, head_place, is_libxl, is_start, more_some, opened, stood}
+use Rattle.mig_show.proofs.Stages.{Has, HandOf, HasSome, InHand, IsAround, IsAroundImage, finished, is_libxl, is_start, more_some, opened, same_at_head, stood}
 use Rattle.mig_relay.specs.declared.answer.Step.TheVariants as steps
 
 apart : true ≡ false → ⊥
@@ -381,9 +381,9 @@ more_passed here next begun bytes piece front head seen t hand hand_next same_sp
     let later : SeenState = with_step seen step (words_in_hand t) in
     let i = g.grown in
     let long : 8 ≤ length bytes = h.long (hand_goes_on here head hand) in
-    let layer : i.shown.wrapped ≡ is_libxl next = i.layer ∙ sym (head_layer here) ∙ ap is_libxl (sym same_spot) ∙ head_layer next in
-    let around : IsAround next seen.front = subst (λ (T : Type 0). T) (head_around next seen.front) (subst (λ (s : Spot). IsAround s seen.front) (sym same_spot) (subst (λ (T : Type 0). T) (sym (head_around here seen.front)) h.around)) in
-    let place : place_of_spot here ≡ place_of_spot next = sym (head_place here) ∙ ap place_of_spot (sym same_spot) ∙ head_place next in
+    let layer : i.shown.wrapped ≡ is_libxl next = i.layer ∙ sym (same_at_head here).layer ∙ ap is_libxl (sym same_spot) ∙ (same_at_head next).layer in
+    let around : IsAround next seen.front = subst (λ (T : Type 0). T) ((same_at_head next).around seen.front) (subst (λ (s : Spot). IsAround s seen.front) (sym same_spot) (subst (λ (T : Type 0). T) (sym ((same_at_head here).around seen.front)) h.around)) in
+    let place : place_of_spot here ≡ place_of_spot next = sym (same_at_head here).place ∙ ap place_of_spot (sym same_spot) ∙ (same_at_head next).place in
     let own : InHand head NothingDue (to_come next) (is_libxl next) front (h.part ++ piece) i.shown =
     record { first = i.first; inner = i.inner; whole = i.whole_is; first_len = i.first_len; headed = i.is_head; kind = i.kind_is; len = i.len_is; layer = layer; size = omega (arith, i.size, size); words = i.words_are } in
     subst (λ b. Has next front (bytes ++ piece) (with_end b later)) (sym (ap is_some hand_next))
@@ -399,10 +399,10 @@ whole_passed here next begun bytes piece head seen t hand counted full size behi
     let later : SeenState = with_step seen step (words_in_hand t) in
     let i = g.grown in
     let long : 8 ≤ length bytes = h.long (hand_goes_on here head hand) in
-    let around : IsAround (head_spot here) seen.front = subst (λ (T : Type 0). T) (sym (head_around here seen.front)) h.around in
-    let layer : i.shown.wrapped ≡ is_libxl (head_spot here) = i.layer ∙ sym (head_layer here) in
+    let around : IsAround (head_spot here) seen.front = subst (λ (T : Type 0). T) (sym ((same_at_head here).around seen.front)) h.around in
+    let layer : i.shown.wrapped ≡ is_libxl (head_spot here) = i.layer ∙ sym (same_at_head here).layer in
     ended behind bytes piece h.front h.part later i.shown h.split long (ap (λ (f : ShownFront). f.wrapper) g.front ∙ h.form)
-    (subst (λ (f : ShownFront). StandsBefore h.front f (place_of_spot (head_spot here))) (sym g.front) (subst (StandsBefore h.front seen.front) (sym (head_place here)) h.stands))
+    (subst (λ (f : ShownFront). StandsBefore h.front f (place_of_spot (head_spot here))) (sym g.front) (subst (StandsBefore h.front seen.front) (sym (same_at_head here).place) h.stands))
     (subst (IsAround (head_spot here)) (sym g.front) around)
     (finished head (is_libxl (head_spot here)) i.first i.inner (h.part ++ piece) i.shown i.whole_is i.first_len i.is_head i.kind_is i.len_is layer (omega (arith, i.size, size)) i.words_are) i.kind_is i.is
 

@@ -95,32 +95,20 @@ next_place outer (AtWords o records head n) = refl
 next_place outer (AtPages o records head coming stood) = refl
 next_place outer (AtPadding o records head content) = refl
 
-pub head_place : (here : Spot) → place_of_spot (head_spot here) ≡ place_of_spot here
-head_place AtStart = refl
-head_place AtLibxlHeader = refl
-head_place (AtLibxlHead records) = refl
-head_place (AtLibxlBody records head) = refl
-head_place (AtLibxlPadding records head content) = refl
-head_place (InImage outer next) = next_place outer next
-head_place (AtEnd s) = refl
+-- what is so there is so where the head stood
+pub record IsSameAtHead (here : Spot) : Type 1 where
+  pub place : place_of_spot (head_spot here) ≡ place_of_spot here
+  pub layer : is_libxl (head_spot here) ≡ is_libxl here
+  pub around : (front : ShownFront) → IsAround (head_spot here) front ≡ IsAround here front
 
-pub head_layer : (here : Spot) → is_libxl (head_spot here) ≡ is_libxl here
-head_layer AtStart = refl
-head_layer AtLibxlHeader = refl
-head_layer (AtLibxlHead records) = refl
-head_layer (AtLibxlBody records head) = refl
-head_layer (AtLibxlPadding records head content) = refl
-head_layer (InImage outer next) = refl
-head_layer (AtEnd s) = refl
-
-pub head_around : (here : Spot) (front : ShownFront) → IsAround (head_spot here) front ≡ IsAround here front
-head_around AtStart front = refl
-head_around AtLibxlHeader front = refl
-head_around (AtLibxlHead records) front = refl
-head_around (AtLibxlBody records head) front = refl
-head_around (AtLibxlPadding records head content) front = refl
-head_around (InImage outer next) front = refl
-head_around (AtEnd s) front = refl
+pub same_at_head : (here : Spot) → IsSameAtHead here
+same_at_head AtStart = record { place = refl; layer = refl; around = λ _. refl }
+same_at_head AtLibxlHeader = record { place = refl; layer = refl; around = λ _. refl }
+same_at_head (AtLibxlHead records) = record { place = refl; layer = refl; around = λ _. refl }
+same_at_head (AtLibxlBody records head) = record { place = refl; layer = refl; around = λ _. refl }
+same_at_head (AtLibxlPadding records head content) = record { place = refl; layer = refl; around = λ _. refl }
+same_at_head (InImage outer next) = record { place = next_place outer next; layer = refl; around = λ _. refl }
+same_at_head (AtEnd s) = record { place = refl; layer = refl; around = λ _. refl }
 
 -- ---- a whole record
 
