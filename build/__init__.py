@@ -1,1 +1,1 @@
-"""What proves, links and packs the program. Nothing of it is installed."""
+"""What proves, links and packs the programs. Nothing of it is installed."""

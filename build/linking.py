@@ -1,4 +1,4 @@
-"""Links the program with nothing that it would have to find on a machine: the C library is inside."""
+"""Links a program with nothing that it would have to find on a machine: the C library is inside."""
 import os
 import re
 import shutil
@@ -11,20 +11,20 @@ LINKER = 'gcc'
 LIBRARIES = 'libos_c.a', 'liblibc_c.a'               # of the kit: what its std calls of the system
 
 
-def link(kit, made, to):
-    """Links an object file to a program. Names and folders of this machine go nowhere into it."""
+def link(kit, name, made, to):
+    """Links an object file to the program of this name. Names and folders of this machine go nowhere into it."""
     with tempfile.TemporaryDirectory(prefix='mig-link-') as room:
-        shutil.copy(made, os.path.join(room, 'mig_tool.o'))
-        for name in LIBRARIES:
-            shutil.copy(os.path.join(kit.folder, 'c', name), room)
-        words = [LINKER, '-static', '-o', 'mig_tool', 'mig_tool.o'] + list(LIBRARIES)
+        shutil.copy(made, os.path.join(room, name + '.o'))
+        for library_name in LIBRARIES:
+            shutil.copy(os.path.join(kit.folder, 'c', library_name), room)
+        words = [LINKER, '-static', '-o', name, name + '.o'] + list(LIBRARIES)
         try:
             ended = subprocess.run(words, cwd=room, stdin=subprocess.DEVNULL, stdout=subprocess.PIPE, stderr=subprocess.STDOUT)
         except OSError as fault:
-            raise NotBuilt('it is not linked: %s: %s' % (LINKER, fault.strerror)) from None
+            raise NotBuilt('%s is not linked: %s: %s' % (name, LINKER, fault.strerror)) from None
         if ended.returncode:
-            raise NotBuilt('it is not linked: %s failed' % LINKER, ended.stdout.decode(errors='replace').rstrip())
-        shutil.copyfile(os.path.join(room, 'mig_tool'), to)
+            raise NotBuilt('%s is not linked: %s failed' % (name, LINKER), ended.stdout.decode(errors='replace').rstrip())
+        shutil.copyfile(os.path.join(room, name), to)
     os.chmod(to, 0o755)
 
 

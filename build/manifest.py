@@ -1,16 +1,17 @@
-"""Writes a program into a folder, with the MANIFEST that front/resolve.py reads."""
+"""Writes the programs into a folder, with the MANIFEST that front/resolve.py reads."""
 import os
 import shutil
 
 from build import linking
+from build.proving import object_of
 from front import resolve
 from front.version import revision, said_by_git
 
 LICENCE = 'Apache-2.0'
 HEAD = '''\
-# What the program in this folder is. `sources` is the SHA-256 of all that it is made from: of the lines of crates.txt of the
-# crates that it stands on, by their names, and then of a line as sha256sum writes it for each file of src, specs and proofs of
-# these crates, by their paths in the order of their bytes. front/resolve.py reads this file.
+# What the programs in this folder are: the SHA-256 of each and of its object file. `sources` is that of all that they are made
+# from: of the lines of crates.txt of the crates that they stand on, by their names, and then of a line as sha256sum writes it for
+# each file of src, specs and proofs of these crates, by their paths in the order of their bytes. front/resolve.py reads this file.
 '''
 
 
@@ -44,21 +45,32 @@ def put_program(from_, path):
     put(path, made)
 
 
-def keep_own(program, made, kit, sources):
-    """Keeps a program that was proved here, with its object file; the manifest comes last, so what is half written doesn't fit."""
-    put_program(program, os.path.join(resolve.OWN, resolve.NAME))
-    put(os.path.join(resolve.OWN, resolve.NAME + '.o'), lambda part: shutil.copyfile(made, part))
+def sums_of(programs):
+    """The checksum of each of these programs, by its name."""
+    return {name: resolve.sum_of_file(path) for name, path in programs.items()}
+
+
+def keep_own(programs, kit, sources):
+    """Keeps the programs that were proved here, each by its name the path of one, with their object files; the manifest comes last,
+    so what is half written doesn't fit."""
+    for name, path in programs.items():
+        kept = os.path.join(resolve.OWN, name)
+        put_program(path, kept)
+        put(object_of(kept), lambda part: shutil.copyfile(object_of(path), part))
+    objects = {object_of(name): resolve.sum_of_file(object_of(path)) for name, path in programs.items()}
     put_text(os.path.join(resolve.OWN, 'MANIFEST'), text(
-        version=resolve.number(), licence=LICENCE, machine=resolve.MACHINE, program=resolve.sum_of_file(program),
-        object=resolve.sum_of_file(made), sources=sources, kit=kit.line, origin='proved on this machine'))
+        version=resolve.number(), licence=LICENCE, machine=resolve.MACHINE, **sums_of(programs), **objects, sources=sources,
+        kit=kit.line, origin='proved on this machine'))
 
 
-def ship(program, own):
-    """Puts a program that was linked of what was proved here where it's shipped from. Asks first of which commit it is: the program
-    that is put there is a change."""
+def ship(programs, own):
+    """Puts programs that were linked of what was proved here where they are shipped from. Asks first of which commit they are: the
+    programs that are put there are a change."""
     commit, at = said_by_git('rev-parse', 'HEAD') or 'unknown', revision()
-    put_program(program, os.path.join(resolve.SHIPPED, resolve.MACHINE, resolve.NAME))
+    for name, path in programs.items():
+        put_program(path, os.path.join(resolve.SHIPPED, resolve.MACHINE, name))
+    objects = {object_of(name): own[object_of(name)] for name in programs}
     put_text(os.path.join(resolve.SHIPPED, 'MANIFEST'), text(
-        version=resolve.number(), licence=LICENCE, machine=resolve.MACHINE, program=resolve.sum_of_file(program), object=own['object'],
+        version=resolve.number(), licence=LICENCE, machine=resolve.MACHINE, **sums_of(programs), **objects,
         sources=own['sources'], commit=commit, kit=own['kit'], linker=linking.linker(),
         library=linking.library(), origin='built from commit %s, shipped' % at))

@@ -1,4 +1,4 @@
-"""Proves the crates that the program stands on, and builds the program, by the commands of the Rattle kit.
+"""Proves the crates that the programs stand on, and builds the programs, by the commands of the Rattle kit.
 
 Each crate is proved when those below it are, as many side by side as there are cores, those first above which most is left.
 `rattle build` is called as `rattle build --help` documents it, and not `rt lib`: some kits' `rt` reads all files below a crate
@@ -20,11 +20,19 @@ from front import program, resolve
 TOP = resolve.TOP
 ROOM = os.path.join(TOP, 'out', 'proof')
 RLIBS, COPIES = os.path.join(ROOM, 'rlibs'), os.path.join(ROOM, 'sources')
-PROGRAM, OBJECT = os.path.join(ROOM, resolve.NAME), os.path.join(ROOM, resolve.NAME + '.o')
 TARGET = 'x86_64-unknown-linux-gnu'
 DISK = 2 << 30
 LITTLE_DISK = 64 << 20
 MOST_AT_ONCE = 4                                     # each takes up to 2.5 GB of memory
+
+
+def object_of(program):
+    """Where the object file of a program stands: beside it."""
+    return program + '.o'
+
+
+PROGRAMS = {name: os.path.join(ROOM, name) for name in resolve.NAMES}
+OBJECTS = {name: object_of(path) for name, path in PROGRAMS.items()}
 
 
 class NotBuilt(Exception):
@@ -86,7 +94,7 @@ def call(what, folder, *words):
 # ---- one crate
 
 class Crates:
-    """Copies of the crates that the program stands on, so that no edit meanwhile changes what is proved; and what each is made
+    """Copies of the crates that the programs stand on, so that no edit meanwhile changes what is proved; and what each is made
     from."""
 
     def __init__(self, kit):
@@ -110,7 +118,7 @@ class Crates:
     def words(self, crate, jobs, rooms=(RLIBS,)):
         """The words of `rattle build` for a crate whose libraries stand in these folders, but where what is made goes."""
         folder, (below, of_kit) = self.kit.folder, self.sources.libraries(crate)
-        words = ['--crate-name', crate, 'src/main.rt' if crate == resolve.NAME else 'src/lib.rt']
+        words = ['--crate-name', crate, 'src/main.rt' if crate in resolve.NAMES else 'src/lib.rt']
         for name in ['std'] + of_kit:
             words += ['--extern', '%s=%s/rlibs/%s.rlib' % (name, folder, name)]
         for name in below:
@@ -119,13 +127,13 @@ class Crates:
             words += ['-L', 'dependency=' + room]
         words += ['--antt-project', folder + '/rattle/logic/antt-project.json', '--logic-built', folder + '/logic_built']
         words += ['--links', crate + '=', '--jobs', str(jobs)]
-        if crate == resolve.NAME:
+        if crate in resolve.NAMES:
             return words + ['--toolchain', folder + '/toolchain', '--backend', 'llvm']
         return words + ['--statements']
 
     def prove(self, crate, jobs):
         """Proves and builds a crate whose lower ones are built; the seconds that it took, or None where nothing was left to do."""
-        made = OBJECT if crate == resolve.NAME else '%s/%s.rlib' % (RLIBS, crate)
+        made = OBJECTS.get(crate, '%s/%s.rlib' % (RLIBS, crate))
         kept = os.path.join(ROOM, crate + '.mark')
         if text_of(kept) == self.marks[crate] and os.path.exists(made):
             return None
@@ -153,7 +161,7 @@ def text_of(path):
 # ---- all
 
 def above(crates):
-    """How long the way from each crate up to the program is, in bytes of source."""
+    """How long the way from each crate up to a program is, in bytes of source."""
     long = {}
     for crate in reversed(crates.sources.needed):
         long[crate] = crates.size(crate) + max((long[it] for it in long if crate in crates.sources.below[it]), default=0)
@@ -181,8 +189,8 @@ def prove_all(crates, cores, tell):
 
 
 def build(kit, anew, tell):
-    """Proves all that the program stands on, and links it: PROGRAM and OBJECT are there then. Answers the checksum of what it was
-    made from. With `anew` nothing is taken from earlier runs."""
+    """Proves all that the programs stand on, and links them: PROGRAMS and OBJECTS are there then. Answers the checksum of what they
+    were made from. With `anew` nothing is taken from earlier runs."""
     free = shutil.disk_usage(TOP).free
     if free < DISK:
         raise NotBuilt('it is not built: building takes %.0f GB of disk, and %.1f are free at %s' % (DISK / 2 ** 30, free / 2 ** 30, TOP))
@@ -192,14 +200,16 @@ def build(kit, anew, tell):
     crates = Crates(kit)
     tell('proving and building its %d crates (only after a change; the first time takes minutes)' % len(crates.marks))
     prove_all(crates, min(len(os.sched_getaffinity(0)), MOST_AT_ONCE), tell)
-    words = '--target', TARGET, '--toolchain', kit.folder + '/toolchain', '-o', PROGRAM, OBJECT
-    call('the program', ROOM, kit.folder + '/bin/rattle-link', *words, kit.folder + '/c/libos_c.a', kit.folder + '/c/liblibc_c.a')
+    for name, path in PROGRAMS.items():
+        words = '--target', TARGET, '--toolchain', kit.folder + '/toolchain', '-o', path, OBJECTS[name]
+        call(name, ROOM, kit.folder + '/bin/rattle-link', *words, kit.folder + '/c/libos_c.a', kit.folder + '/c/liblibc_c.a')
     return crates.sources.checksum()
 
 
-def build_object(kit, rooms, made):
-    """Proves the program's own crate alone, over libraries that stand proved in these folders, and makes its object file."""
+def build_object(kit, name, rooms, made):
+    """Proves the own crate of the program of this name alone, over libraries that stand proved in these folders, and makes its
+    object file."""
     os.makedirs(ROOM, exist_ok=True)
     crates = Crates(kit)
-    words = crates.words(resolve.NAME, min(len(os.sched_getaffinity(0)), MOST_AT_ONCE), [os.path.abspath(it) for it in rooms])
-    call(resolve.NAME, os.path.join(COPIES, 'crates', resolve.NAME), kit.rattle, 'build', *words, '-o', os.path.abspath(made))
+    words = crates.words(name, min(len(os.sched_getaffinity(0)), MOST_AT_ONCE), [os.path.abspath(it) for it in rooms])
+    call(name, os.path.join(COPIES, 'crates', name), kit.rattle, 'build', *words, '-o', os.path.abspath(made))

@@ -1,4 +1,4 @@
-"""Runs the sources without any proof, by `rt try`: checks at run time stop what a proof would rule out. It is a first look, at
+"""Runs the sources of a program without any proof, by `rt try`: checks at run time stop what a proof would rule out. It is a first look, at
 a file of at most 64 MiB and an answer of at most 1 MiB, and says so each time. It builds nothing."""
 import os
 import re
@@ -16,8 +16,8 @@ class NoAnswer(Exception):
     """Why nothing is answered."""
 
 
-def run(words, tell):
-    """Runs the sources on standard input; the program's status."""
+def run(name, words, tell):
+    """Runs the sources of the program of this name on standard input; the program's status."""
     if shutil.which('rt') is None:
         raise NoAnswer("--unproved takes the command rt of the Rattle kit, which isn't on this machine")
     found = os.fstat(0)
@@ -25,7 +25,7 @@ def run(words, tell):
         raise NoAnswer('--unproved reads standard input from a file of at most 64 MiB')
     tell('--unproved: this run is checked as it goes, and nothing is proved')
     ended = subprocess.run(['rt', 'try', '--steps', '1', '--seconds', str(SECONDS), '--', *words],
-                           cwd=os.path.join(resolve.TOP, 'crates', resolve.NAME), stdout=subprocess.PIPE, stderr=subprocess.PIPE)
+                           cwd=os.path.join(resolve.TOP, 'crates', name), stdout=subprocess.PIPE, stderr=subprocess.PIPE)
     said = ended.stderr.decode(errors='replace').splitlines()
     ran = [re.fullmatch(r'run=ended status=(\d+)( .*)?', line) for line in said]
     if not any(ran):

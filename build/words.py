@@ -1,7 +1,11 @@
-"""Which words name a command of the program, for where there is none to ask yet."""
+"""Which words name a command of a program, for where there is none to ask yet."""
 import re
 
+from front import resolve
+
 USAGE = 'usage: restore [BASE] | verify | normalise | convert | save | exercise SEED FRAMES | walk VCPU ADDRESS | walkimage VCPU ADDRESS | relay | show'
+CHECK_USAGE = 'usage: mig_check [legacy]'
+USAGES = {resolve.TOOL: USAGE, resolve.CHECK: CHECK_USAGE}
 GREATEST_BASE, GREATEST_SEED = 2 ** 40 - 2 ** 24, 2 ** 64 - 1
 
 
@@ -10,8 +14,10 @@ def is_number(word, least, most):
     return re.fullmatch('0|[1-9][0-9]{0,19}', word) is not None and least <= int(word) <= most
 
 
-def names_a_command(words):
-    """Whether the words name a command."""
+def names_a_command(name, words):
+    """Whether the words name a command of the program of this name."""
+    if name == resolve.CHECK:
+        return words in ([], ['legacy'])
     if words in (['restore'], ['verify'], ['normalise'], ['convert'], ['save'], ['relay'], ['show']):
         return True
     if words[:1] == ['restore']:

@@ -2,12 +2,13 @@
 import collections
 import os
 import sys
-import threading
 
-from front import forms, program, sources, verdict
+from front import forms, program, resolve, sources, verdict
+from front.sharing import Memory
 from front.text import put_lines, shown
 
-BESIDE = 64 << 20                                    # what the program takes beside a guest's pages
+# What mig_check may take: 16 bytes for each of 2^24 frames, a 256th of their pages for page tables, and 64 MiB beside.
+MOST_TAKEN = (16 << 24) + (1 << 36 >> 8) + (64 << 20)
 COUNTED = verdict.OK, verdict.REFUSED, verdict.NO_SAVE, verdict.NOT_JUDGED, verdict.FAULT
 
 
@@ -48,54 +49,6 @@ def files_of(paths):
             yield sources.EmptyFolder(path)
 
 
-def need_of(name):
-    """How much memory a file may take, told by its size."""
-    if not os.path.isfile(name):
-        return 0
-    try:
-        with open(name, 'rb') as file:
-            size, front = os.fstat(file.fileno()).st_size, file.read(8)
-    except OSError:
-        return 0
-    need = size * sources.Packed.TIMES if forms.packer_of(front) else size
-    return need + need // 50 + BESIDE
-
-
-class Memory:
-    """Shares the memory out: a file waits until what its program may take is free, which is what it seems to need, and its share at
-    least."""
-
-    def __init__(self, at_once):
-        self.all = self.free = program.RUNNING.memory
-        self.share, self.running, self.changed = self.all // at_once, 0, threading.Condition()
-
-    def take(self, most):
-        with self.changed:
-            self.changed.wait_for(lambda: most <= self.free)
-            self.free, self.running = self.free - most, self.running + 1
-
-    def give_back(self, most):
-        with self.changed:
-            self.free, self.running = self.free + most, self.running - 1
-            self.changed.notify_all()
-
-    def check(self, name, path, judge):
-        """The verdict of a file; where its memory was short, it is checked once more with all, when no other is."""
-        most = min(max(need_of(name), self.share), self.all)
-        self.take(most)
-        try:
-            program.RUNNING.of_thread.most = most
-            found = verdict.of_file(name, path, judge)
-        finally:
-            self.give_back(most)
-        if found.status != program.NO_MEMORY or name == '-':
-            return found
-        with self.changed:
-            self.changed.wait_for(lambda: self.running == 0)
-            program.RUNNING.of_thread.most = self.all
-            return verdict.of_file(name, path, judge)
-
-
 class Progress:
     """A line on the terminal that says what is being checked; nowhere else."""
 
@@ -112,26 +65,26 @@ class Progress:
             print('\r\x1b[K', end='', file=sys.stderr, flush=True)
 
 
-def verdicts(names, path, at_once, judge=verdict.judged):
-    """The verdict of each file, in the order of the names."""
+def verdicts(names, at_once, judge):
+    """The verdict of each file, as a function of its name answers it, in the order of the names."""
     progress = Progress()
-    for done, (name, check) in enumerate(checks(names, path, at_once, judge)):
+    for done, (name, check) in enumerate(checks(names, at_once, judge)):
         progress.tell(done, name)
         found = check()
         progress.clear()
         yield found
 
 
-def checks(names, path, at_once, judge):
+def checks(names, at_once, judge):
     """Each name with a function that answers its verdict. Where several are checked at once, a few more are begun."""
     if at_once == 1:
-        yield from ((name, lambda name=name: verdict.of_file(name, path, judge)) for name in names)
+        yield from ((name, lambda name=name: judge(name)) for name in names)
         return
     from concurrent.futures import ThreadPoolExecutor
-    memory, begun, pool = Memory(at_once), collections.deque(), ThreadPoolExecutor(at_once)
+    begun, pool = collections.deque(), ThreadPoolExecutor(at_once)
     try:
         for name in names:
-            begun.append((name, pool.submit(memory.check, name, path, judge)))
+            begun.append((name, pool.submit(judge, name)))
             if len(begun) > 4 * at_once:
                 first, found = begun.popleft()
                 yield first, found.result
@@ -156,10 +109,31 @@ def status_of(statuses):
     return max(statuses, default=program.OK)
 
 
+class Checks:
+    """What is said of each file. mig_check judges it, which keeps no pages. With --compare mig_tool reads it once more where it has
+    frames that were sent again to be compared, and at once where it can't be read twice."""
+
+    def __init__(self, words):
+        self.path, self.memory = program.find(resolve.CHECK), Memory(words.jobs)
+        self.tool = program.find(resolve.TOOL) if words.compare else None
+
+    def judged(self, name):
+        return verdict.of_file(name, self.said)
+
+    def said(self, name, source):
+        if self.tool and not source.is_walkable and forms.form_of(source).kind == forms.STREAM:
+            return self.compared(name, source)
+        with self.memory.taken(MOST_TAKEN):
+            found = verdict.judged(name, self.path, source)
+        return self.compared(name, source) if self.tool and found.is_uncompared() else found
+
+    def compared(self, name, source):
+        return self.memory.given(name, lambda: verdict.compared(name, self.tool, source), source.is_walkable)
+
+
 def check(words):
-    path = program.find()
     counts, statuses = dict.fromkeys(COUNTED, 0), set()
-    for found in verdicts(files_of(words.paths), path, words.jobs):
+    for found in verdicts(files_of(words.paths), words.jobs, Checks(words).judged):
         counts[found.result] += 1
         statuses.add(found.status)
         if words.quiet and found.status == program.OK:

@@ -6,6 +6,7 @@ import re
 import sys
 
 from front import check, forms, program, sources, verdict
+from front.sharing import Memory
 from front.text import put_lines, shown, tell
 from front.write import Refused, put
 
@@ -13,6 +14,12 @@ LINE = re.compile(rb'(\\?)([0-9a-f]{64}) [ *](.+)', re.S)
 ESCAPED = {b'\\': b'\\\\', b'\n': b'\\n', b'\r': b'\\r'}  # as sha256sum does, with a backslash in front of the line
 UNESCAPED = {escaped: letter for letter, escaped in ESCAPED.items()}
 MOST_LINES = 64 << 20                                # bytes of a list
+
+
+def judge_of(path, at_once):
+    """A function that answers of a file what the program at a path says of it; so many run at once."""
+    memory = Memory(at_once)
+    return lambda name: memory.given(name, lambda: verdict.of_file(name, lambda name, source: judged(name, path, source)), name != '-')
 
 
 def judged(name, path, source):
@@ -60,7 +67,7 @@ def tell_of(found):
 def written(words, path):
     """Writes the digest of each file; the status."""
     statuses = set()
-    for found in check.verdicts(check.files_of(words.paths), path, words.jobs, judged):
+    for found in check.verdicts(check.files_of(words.paths), words.jobs, judge_of(path, words.jobs)):
         if found.digest:
             put(1, line_of(found))
         tell_of(found)
@@ -96,7 +103,7 @@ def compared(words, name, path):
     if not lines:
         tell('%s: it has no line' % shown(name))
     names = (sources.Found(file) for file, _ in wanted)
-    for found, (_, digest) in zip(check.verdicts(names, path, words.jobs, judged), wanted):
+    for found, (_, digest) in zip(check.verdicts(names, words.jobs, judge_of(path, words.jobs)), wanted):
         good = found.digest == digest
         if not good or not words.quiet:
             put_lines(['%s: %s' % (shown(found.name), 'OK' if good else 'FAILED')], sys.stdout)

@@ -136,7 +136,7 @@ class Words(argparse.ArgumentParser):
 
 
 class Version(argparse.Action):
-    """Says which release this is, and which program runs."""
+    """Says which release this is, and which programs run."""
 
     def __call__(self, parser, *_):
         from front import version
@@ -236,10 +236,10 @@ def walk(words):
 
 def parser():
     words = Words(prog='mig', description='Checks, normalises, converts, restores and compares saves of Xen guests, passes '
-                  'streams on and lists their records, by the proved program mig_tool.',
+                  'streams on and lists their records, by the proved programs mig_tool and mig_check.',
                   epilog='`mig help VERB` tells more of each.\n\n' + STATUSES,
                   formatter_class=argparse.RawDescriptionHelpFormatter)
-    words.add_argument('--version', action=Version, nargs=0, help='print the release, and which program runs and why')
+    words.add_argument('--version', action=Version, nargs=0, help='print the release, and which programs run and why')
     verbs = words.add_subparsers(dest='verb', metavar='VERB')
     verbs.required = True                            # python3.6 takes no such word above
     one = verb(verbs, 'check', 'say of each file whether it is a whole, well formed save',
@@ -249,6 +249,8 @@ def parser():
                      help='check up to N files at once, as far as memory allows')
     one.add_argument('--json', action='store_true', help='print one JSON object for each file, and no count')
     one.add_argument('-q', dest='quiet', action='store_true', help='print nothing of what was accepted but the count')
+    one.add_argument('--compare', action='store_true',
+                     help='compare the frames that were sent again to be compared (VERIFY); that takes memory for the pages')
     one.set_defaults(run=check)
     says = 'write the canonical stream of %s: two saves of the same guest state become the same bytes'
     writing_verb(verbs, 'normalise', says % 'a guest').set_defaults(run=write)

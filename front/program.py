@@ -1,4 +1,4 @@
-"""The proved program: where it is, and what it answers of an input."""
+"""The proved programs: where each is, and what it answers of an input."""
 import os
 import signal
 import subprocess
@@ -12,7 +12,7 @@ from front.text import shown
 
 BUILDER = os.path.join(resolve.TOP, 'bin', 'build-mig_tool')
 HUGE_PAGES = 'glibc.malloc.hugetlb'                  # of glibc 2.35 and newer; others pass it over
-KEEPS_NO_PAGES = 'relay', 'show'
+KEEPS_NO_PAGES = ['relay'], ['show'], [], ['legacy']  # words of mig_tool, and of mig_check all
 SIGNALS = signal.SIGINT, signal.SIGTERM, signal.SIGHUP
 OK, REFUSED, USAGE, READ_FAULT, WRITE_FAULT, NO_MEMORY, NOT_COMPARED, FAULTY, NO_PROGRAM = 0, 1, 2, 3, 4, 5, 6, 7, 125
 BY_OTHERS = 126, 127                                 # of a shell, or where a library of the program isn't found, or has no room
@@ -33,11 +33,11 @@ class Stopped(BaseException):
         self.status = 128 + number
 
 
-def surroundings(command):
-    """The program's environment. Its pages come in two thirds of the time where the C library asks for huge ones, which it
+def surroundings(words):
+    """A program's environment for these words. Its pages come in two thirds of the time where the C library asks for huge ones, which it
     does where GLIBC_TUNABLES says so; what is said there of huge pages already stays."""
     told = os.environ.get('GLIBC_TUNABLES', '')
-    if command in KEEPS_NO_PAGES or HUGE_PAGES in told:
+    if words in KEEPS_NO_PAGES or HUGE_PAGES in told:
         return None
     return {**os.environ, 'GLIBC_TUNABLES': ':'.join(filter(None, (told, HUGE_PAGES + '=1')))}
 
@@ -66,13 +66,13 @@ class Running:
         raise self.stopped
 
     def start(self, words, **streams):
-        """Starts a program, whose path is the first word. The program itself gets its name there, since it answers no words
-        behind a path that isn't UTF-8."""
+        """Starts a program, whose path is the first word. The program itself gets its name there, as it is shown, since it
+        answers no words behind a path that isn't UTF-8."""
         if self.stopped:
             raise self.stopped
         path, *rest = words
         try:
-            process = subprocess.Popen(['mig_tool', *rest], executable=path, env=surroundings(rest[0]),
+            process = subprocess.Popen([shown(os.path.basename(path)), *rest], executable=path, env=surroundings(rest),
                                        restore_signals=False, **streams)  # a limit of file sizes is a write fault, too
         except OSError as fault:
             raise NoProgram('%s does not start: %s' % (shown(path), fault.strerror)) from None
@@ -90,26 +90,27 @@ RUNNING = Running()
 Answer = namedtuple('Answer', 'status line')
 
 
-def find():
-    """The path of the program: that which MIG_TOOL names, or the one that fits these sources."""
-    named = os.environ.get('MIG_TOOL')
+def find(name=resolve.TOOL):
+    """The path of the program of this name: that which MIG_TOOL, or of mig_check MIG_CHECK, names, or the one that fits these
+    sources."""
+    named = os.environ.get(name.upper())
     if not named:
-        return resolved().path
+        return resolved(name).path
     if not os.path.isfile(named) or not os.access(named, os.X_OK):
-        raise NoProgram('MIG_TOOL names %s, which is no program' % shown(named))
+        raise NoProgram('%s names %s, which is no program' % (name.upper(), shown(named)))
     return named
 
 
-def resolved():
+def resolved(name):
     """The program that fits these sources, which is built first where none does."""
     try:
-        return resolve.present()
+        return resolve.present(name)
     except NoProgram as none:
         if not can_build():
             raise NoProgram('no program runs: %s' % none) from None
     build()
     try:
-        return resolve.present()
+        return resolve.present(name)
     except NoProgram as none:
         raise NoProgram('no program runs: %s; where a source was changed meanwhile, run it again' % none) from None
 
@@ -120,7 +121,7 @@ def can_build():
 
 
 def build():
-    """Has the program proved and built; what it says stands on standard error."""
+    """Has the programs proved and built; what is said of it stands on standard error."""
     building = subprocess.Popen([BUILDER], stdin=subprocess.DEVNULL, stdout=subprocess.DEVNULL)
     try:
         built = building.wait()

@@ -1,6 +1,6 @@
 """Which program runs: the one that was proved on this machine, or the shipped one, and only where its checksums fit.
 
-A program stands in a folder with a MANIFEST, which tells by checksums what the program is and what it was made from. There are
+The programs stand in a folder with a MANIFEST, which tells by checksums what each is and what they were made from. There are
 three such folders: out/built, where bin/build-mig_tool puts what it proved; dist, which is shipped with the sources; and the
 folder that bin/install made. Times of files decide nothing, since git keeps none."""
 import hashlib
@@ -10,11 +10,11 @@ from collections import namedtuple
 
 TOP = os.path.dirname(os.path.dirname(os.path.realpath(__file__)))
 IS_REPOSITORY = os.path.isdir(os.path.join(TOP, 'crates'))  # else a release that was unpacked, or PREFIX/lib/mig
-NAME = 'mig_tool'
+NAMES = TOOL, CHECK = 'mig_tool', 'mig_check'         # the programs, each of the crate of its name
 MACHINE = '%s-%s' % (os.uname().machine, sys.platform)
 OWN, SHIPPED = os.path.join(TOP, 'out', 'built'), os.path.join(TOP, 'dist')
 PARTS = 'src', 'specs', 'proofs'
-NEEDED = 'version', 'machine', 'program', 'sources', 'kit', 'origin'
+NEEDED = ('version', 'machine', *NAMES, 'sources', 'kit', 'origin')
 SETTLED = 2                                          # seconds; a file that was changed later could change again unseen
 SEEN, MOST_SEEN = os.path.join(TOP, 'out', 'seen'), 8
 
@@ -44,10 +44,10 @@ def number():
         return 'unknown'
 
 
-# ---- what the program is made from
+# ---- what the programs are made from
 
 class Sources:
-    """The crates that the program stands on, in a checkout."""
+    """The crates that the programs stand on, in a checkout."""
 
     def __init__(self, top=TOP):
         self.top, self.lines, self.below = top, {}, {}
@@ -57,15 +57,15 @@ class Sources:
                 name, colon, words = line.partition(':')
                 if colon:
                     self.lines[name.strip()], self.below[name.strip()] = line, words.split()
-        self.needed = self.stands_on(NAME)
+        self.needed = self.stands_on(NAMES)
 
     def libraries(self, crate):
         """The libraries of the checkout that a crate names in its line, and those of the kit."""
         named = self.below[crate]
         return [it for it in named if it in self.below], [it for it in named if it not in self.below]
 
-    def stands_on(self, name):
-        """All crates that this one stands on, each behind those that it stands on itself, and it as the last."""
+    def stands_on(self, names):
+        """These crates and all that they stand on, each behind those that it stands on itself."""
         found = {}
 
         def visit(crate):
@@ -74,7 +74,8 @@ class Sources:
                     visit(below)
                 found[crate] = None
 
-        visit(name)
+        for name in names:
+            visit(name)
         return list(found)
 
     def files(self, crate):
@@ -91,7 +92,7 @@ class Sources:
         return sorted(found)
 
     def checksum(self):
-        """The checksum of all that the program is made from: of the lines of crates.txt of the crates that it stands on, by their
+        """The checksum of all that the programs are made from: of the lines of crates.txt of the crates that it stands on, by their
         names, and then of a line as sha256sum writes it for each file of src, specs and proofs of these crates, by their paths."""
         files = sorted(path for crate in self.needed for path in self.files(crate))
 
@@ -173,7 +174,7 @@ def manifest(folder):
         told = {}
     missing = [name for name in NEEDED if not told.get(name)]
     if missing:
-        raise Unfit('%s is damaged: it has no %s' % (below_top(path), missing[0]))
+        raise Unfit('%s is damaged, or of another release: it has no %s' % (below_top(path), missing[0]))
     return told
 
 
@@ -183,12 +184,12 @@ def below_top(path):
 
 
 def program_in(folder, path):
-    """The program of a folder, where it is made from these sources, for this machine, and as it was made."""
+    """The program at a path, where it is as a folder's manifest tells: made from these sources, for this machine, and as it was made."""
     told = manifest(folder)
     if told['machine'] != MACHINE:
         raise Unfit('%s is for %s, and this machine is %s' % (below_top(path), told['machine'], MACHINE))
     try:
-        if kept_sum([path], lambda: sum_of_file(path)) != told['program']:
+        if kept_sum([path], lambda: sum_of_file(path)) != told[os.path.basename(path)]:
             raise Unfit('%s is cut or changed: it has not the checksum that its MANIFEST names' % below_top(path))
     except FileNotFoundError:
         raise Unfit('%s is not there' % below_top(path)) from None
@@ -209,35 +210,35 @@ def sum_here():
         raise Unfit("these sources can't be read: %s" % fault) from None
 
 
-def own():
-    """The program that was proved on this machine."""
-    return program_in(OWN, os.path.join(OWN, NAME))
+def own(name):
+    """The program of this name that was proved on this machine."""
+    return program_in(OWN, os.path.join(OWN, name))
 
 
-def shipped():
-    """The program that is shipped with these sources."""
+def shipped(name):
+    """The one that is shipped with these sources."""
     if not os.path.isdir(SHIPPED):
         raise Absent('no program is shipped with these sources')
     if not os.path.isdir(os.path.join(SHIPPED, MACHINE)):
         raise Absent('no program is shipped for this machine, %s: use one with a 64-bit processor of Intel or AMD' % MACHINE)
-    return program_in(SHIPPED, os.path.join(SHIPPED, MACHINE, NAME))
+    return program_in(SHIPPED, os.path.join(SHIPPED, MACHINE, name))
 
 
-def installed():
-    """The program that bin/install put beside bin/mig."""
+def installed(name):
+    """The one that bin/install put beside bin/mig."""
     try:
-        return program_in(TOP, os.path.join(TOP, 'bin', NAME))
+        return program_in(TOP, os.path.join(TOP, 'bin', name))
     except Unfit as unfit:
         raise Unfit('%s: install it again' % unfit) from None
 
 
-def present():
-    """The program that runs, where none is built first."""
+def present(name):
+    """The program of this name that runs, where none is built first."""
     is_installed = os.path.exists(os.path.join(TOP, 'MANIFEST'))
     whys = []
     for find in [installed] if is_installed else [own, shipped] if IS_REPOSITORY else [shipped]:
         try:
-            return find()
+            return find(name)
         except Unfit as unfit:
             whys.append(unfit)
     there = [why for why in whys if not isinstance(why, Absent)]

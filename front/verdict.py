@@ -10,7 +10,9 @@ from front.text import shown
 OK, REFUSED, NO_SAVE, NOT_JUDGED, FAULT = 'ok', 'refused', 'no save', 'not judged', 'fault'
 SCHEMA = 1                                           # of what --json prints: docs/verdict.schema.json
 REFUSAL = re.compile(r'refused: (\w+(?: \d+)?): (\d+) (\w+)')
-FACTS = re.compile(r'ok version (\d+) kind (\w+) frames (\d+) records (\d+)(?: differs (\d+))?')
+FACTS = re.compile(r'ok version (\d+) kind (\w+) frames (\d+) records (\d+)(?: differs (\d+|unknown))?')
+UNCOMPARED = 'unknown'
+LEGACY_FACTS = re.compile(r'ok legacy frames (\d+)')
 SAVED = re.compile(r'ok rounds (\d+) entries (\d+)')
 RELAYED = re.compile(r'ok records (\d+) bytes (\d+)')
 
@@ -40,11 +42,19 @@ class Verdict(Fields):
                 self.follows, ' and not passed on' if relayed else '')
 
     def differing(self):
-        """What the frames came to that were sent once more, to be compared, where some differ."""
+        """What the frames came to that were sent once more, to be compared, where some differ, or weren't compared."""
         said = FACTS.fullmatch(self.line)
-        if said and int(said[5] or 0):
+        if self.is_uncompared():
+            yield ('    the frames that were sent again to be compared (VERIFY) were not compared with those sent first; '
+                   '`mig check --compare` does that')
+        elif said and int(said[5] or 0):
             yield ('    %s of the frames that were sent again to be compared (VERIFY) differ from those sent first; the guest has '
                    'those sent first' % said[5])
+
+    def is_uncompared(self):
+        """Whether frames were sent once more, and not compared."""
+        said = FACTS.fullmatch(self.line)
+        return bool(said) and said[5] == UNCOMPARED
 
     def saved(self):
         """What a live save took."""
@@ -73,7 +83,10 @@ class Verdict(Fields):
         if said:
             found.update(version=int(said[1]), kind=said[2], frames=int(said[3]), records=int(said[4]))
         if said and said[5]:
-            found.update(differs=int(said[5]))
+            found.update(differs=None if self.is_uncompared() else int(said[5]))
+        said = LEGACY_FACTS.fullmatch(self.line)
+        if said:
+            found.update(frames=int(said[1]))
         said = SAVED.fullmatch(self.line)
         if said:
             found.update(rounds=int(said[1]), entries=int(said[2]))
@@ -128,22 +141,28 @@ def of_answer(name, source, form, command, answer):
 
 
 def judged(name, path, source):
-    """What `verify`, or for an old save `convert`, says of a source."""
+    """What mig_check at a path says of a source."""
     form = forms.form_of(source)
     early = without_program(name, form)
     if early:
         return early
-    command = 'convert' if form.kind == forms.LEGACY else 'verify'
-    answer = program.run(path, [command], source, form.begins)
-    return of_answer(name, source, form, command, answer)
+    is_legacy = form.kind == forms.LEGACY
+    answer = program.run(path, ['legacy'] * is_legacy, source, form.begins)
+    return of_answer(name, source, form, 'convert' if is_legacy else 'verify', answer)
 
 
-def of_file(name, path, judge=None):
-    """The verdict of a file with this name: what `judged` says, or another that looks at a source."""
+def compared(name, path, source):
+    """What `verify` of mig_tool at a path says of a stream: it compares the frames behind a VERIFY, too."""
+    form = forms.form_of(source)
+    return of_answer(name, source, form, 'verify', program.run(path, ['verify'], source, form.begins))
+
+
+def of_file(name, judge):
+    """The verdict of a file with this name, as a function answers it of a name and a source."""
     source = None
     try:
         source = sources.source_of(name)
-        return (judge or judged)(name, path, source)
+        return judge(name, source)
     except sources.Special:
         return Verdict(name, NOT_JUDGED, program.REFUSED, SPECIAL)
     except sources.Unreadable as unreadable:

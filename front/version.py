@@ -1,4 +1,4 @@
-"""What `mig --version` says: of which release these sources are, and which program runs."""
+"""What `mig --version` says: of which release these sources are, and which programs run."""
 import os
 import subprocess
 
@@ -6,20 +6,24 @@ from front import resolve
 
 
 def lines():
-    """The release, the program that runs and where it's from, and the kit that proved it."""
-    named = os.environ.get('MIG_TOOL')
-    try:
-        found = resolve.present()
-    except resolve.NoProgram as none:
-        told, program = {}, 'none yet: %s' % none
-    else:
-        told, program = found.told, 'sha256 %s, %s' % (found.told['program'], found.told['origin'])
-    if named:
-        told, program = {}, 'the one that MIG_TOOL names'
+    """The release, each program that runs and where it's from, and the kit that proved it."""
+    found = {name: program(name) for name in resolve.NAMES}
+    told = next((told for told, _ in found.values() if told), {})
     yield 'mig %s' % release(told)
-    yield 'program: ' + program
+    yield from ('%s: %s' % (name, line) for name, (_, line) in found.items())
     if told:
         yield 'kit: ' + told['kit']
+
+
+def program(name):
+    """What the manifest tells of the program of this name that runs, and a line on it."""
+    if os.environ.get(name.upper()):
+        return {}, 'the one that %s names' % name.upper()
+    try:
+        told = resolve.present(name).told
+    except resolve.NoProgram as none:
+        return {}, 'none yet: %s' % none
+    return told, 'sha256 %s, %s' % (told[name], told['origin'])
 
 
 def release(told):

@@ -1,5 +1,6 @@
-"""The program that the tests try, and how they say what they can't try here."""
+"""The programs that the tests try, and how they say what they can't try here."""
 import os
+import re
 import signal
 import sys
 
@@ -16,18 +17,34 @@ def heed_signals():
 
 
 def fitting():
-    """The path of the program that fits these sources, or None, and why there is none."""
+    """The path of the mig_tool that fits these sources, or None, and why there is none."""
     from front import resolve
     try:
-        return resolve.present().path, ''
+        return resolve.present(resolve.TOOL).path, ''
     except resolve.NoProgram as none:
         return None, str(none)
 
 
 def program(named=None):
-    """The path of the program to try: the named one, else the one that fits these sources. Where there is none, that has
+    """The path of the mig_tool to try: the named one, else the one that fits these sources. Where there is none, that has
     failed, and the test ends."""
     path, why = (os.path.abspath(named), '%s is no program' % named) if named else fitting()
+    return there(path, why)
+
+
+def check_of(tool):
+    """The path of the mig_check that was made with a mig_tool: beside it, or where `rt ci` has it."""
+    path = re.sub('mig_tool(?=/out/mig_tool|[^/]*$)', 'mig_check', tool)
+    return there(path, '%s is not there: dist has to ship both programs, and a built mig_tool has mig_check in its own place' % path)
+
+
+def around(tool):
+    """The environment in which bin/mig runs this mig_tool, and the mig_check that was made with it."""
+    return {**os.environ, 'MIG_TOOL': tool, 'MIG_CHECK': check_of(tool)}
+
+
+def there(path, why):
+    """The path, where a program is there; else the test ends, and has failed."""
     if path and os.path.isfile(path) and os.access(path, os.X_OK):
         return path
     print(why or '%s is no program' % path)

@@ -24,6 +24,7 @@ complete -c mig -n '__fish_seen_subcommand_from check digest' -s j -x -d 'up to 
 complete -c mig -n '__fish_seen_subcommand_from check digest' -s q -d 'print nothing of what is well'
 complete -c mig -n '__fish_seen_subcommand_from digest' -l check -d 'check a list of digests'
 complete -c mig -n '__fish_seen_subcommand_from check' -l json -d 'print one JSON object for each file'
+complete -c mig -n '__fish_seen_subcommand_from check' -l compare -d 'compare frames that were sent again'
 complete -c mig -n '__fish_seen_subcommand_from normalise convert restore save relay' -l force -d 'write over OUT where it is there'
 complete -c mig -n '__fish_seen_subcommand_from normalise convert' -l xl -d "put xl's header back in front"
 complete -c mig -n '__fish_seen_subcommand_from restore' -l base -x -d 'the first machine frame'

@@ -34,7 +34,7 @@ TESTS_IN = 'bookworm'                                # tests/run takes minutes; 
 USERS = {'root': (), 'nobody': ('--userspec=nobody:nogroup', '--groups=')}
 OK_SMALLEST = 'ok version 3 kind hvm frames 0 records 3\n'
 HEADER = b'Xen saved domain, xl format\n \0 \r' + bytes.fromhex('04030201 03000000 00000000 02000000') + b'{}'
-PAGES = ['/usr/local/share/man/man1/%s.1' % name for name in ('mig', 'mig_tool', 'xl-stream')]
+PAGES = ['/usr/local/share/man/man1/%s.1' % name for name in ('mig', 'mig_check', 'mig_tool', 'xl-stream')]
 
 
 def mounted(*words):
@@ -128,6 +128,7 @@ def works(inside, path, examples_at, user='nobody'):
     yield from fine(got, 'mig check')
     yield from wanted(got[1].splitlines()[-1:], ['%d files: %d ok' % (len(names), len(names))])
     yield from wanted(used('mig_tool', 'verify', data=smallest), (0, '', OK_SMALLEST))
+    yield from wanted(used('mig_check', data=smallest), (0, '', OK_SMALLEST))
     got = used('sh', '-c', 'xl-stream | mig_tool verify', data=HEADER + smallest)
     yield from wanted(got, (0, '', OK_SMALLEST))
     yield from names_a_checksum(used('mig', '--version'))
@@ -204,9 +205,9 @@ def version():
     with root() as inside:
         got = inside.run('bin/mig', '--version')
         yield from names_a_checksum(got)
-        sums = {hashlib.sha256(read(path)).hexdigest() for path in glob.glob(inside.at(CLONE) + '/dist/*/mig_tool')}
-        if not sums & set(re.findall(r'\b[0-9a-f]{64}\b', got[1])):
-            yield 'no shipped program has the sha256 that mig --version names: %r' % got[1]
+        sums = {hashlib.sha256(read(path)).hexdigest() for path in glob.glob(inside.at(CLONE) + '/dist/*/mig_*')}
+        if not sums >= set(re.findall(r'\b[0-9a-f]{64}\b', got[1])):
+            yield 'no shipped program has a sha256 that mig --version names: %r' % got[1]
 
 
 def installs_from(inside, top):
@@ -263,7 +264,7 @@ def without_python():
     """Each program says so in a line."""
     with root() as inside:
         inside.run('rm', '/usr/bin/python3')
-        for name in 'mig', 'mig_tool', 'xl-stream', 'install':
+        for name in 'mig', 'mig_tool', 'mig_check', 'xl-stream', 'install':
             status, out, err = inside.run('bin/' + name)
             yield from wanted((status, out, err.count('\n'), 'python3' in err), (125, '', 1, True))
 

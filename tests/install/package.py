@@ -6,7 +6,7 @@ import re
 import shutil
 
 import places
-from places import PATH, PROGRAMS, TOP, Copy, copy_and_prefix, folder, read, refused, run, skipped, tree, wanted, write
+from places import PATH, PROGRAMS, TOP, Copy, check_of, copy_and_prefix, folder, read, refused, run, skipped, tree, wanted, write
 from prefix import place_in, works
 
 NAME = 'mig-tool'
@@ -51,7 +51,7 @@ def fields():
 
 def libraries():
     """The packages of the libraries that the program names, as its own dynamic section and dpkg have them."""
-    for path in re.findall(r'=> (/\S+)', run('ldd', places.TOOL)[1]):
+    for path in re.findall(r'=> (/\S+)', run('ldd', places.TOOL, check_of(places.TOOL))[1]):
         names = path, os.path.realpath(path), '/usr' + path
         yield next(filter(None, (run('dpkg', '-S', name)[1].partition(':')[0] for name in names)))
 
@@ -201,9 +201,10 @@ def what_lintian_says():
 
 def refusals():
     with copy_and_prefix() as (copy, place):
-        script = os.path.join(copy.top, 'script')
-        write('#!/bin/sh\n', script)
-        os.chmod(script, 0o755)
+        script = os.path.join(copy.top, 'mig_tool')
+        for path in script, os.path.join(copy.top, 'mig_check'):
+            write('#!/bin/sh\n', path)
+            os.chmod(path, 0o755)
         program = os.path.join(copy.top, 'bin', 'debian-package')
         yield from refused(run(program, place, environment={'PATH': PATH, 'SOURCE_DATE_EPOCH': '1'}), 125, 'no program is installed')
         yield from refused(copy.package(place, tool=script), 125, 'is no program of this machine')

@@ -9,14 +9,16 @@ import sys
 import tempfile
 
 TOP = os.path.dirname(os.path.dirname(os.path.dirname(os.path.abspath(__file__))))
-TOOL = None                                          # the program that is tried; run sets it
+TOOL = None                                          # the mig_tool that is tried, with mig_check beside it; run sets it
 sys.path[:0] = [TOP, os.path.join(TOP, 'tests')]
+from build.words import CHECK_USAGE  # noqa: E402
 from front import resolve  # noqa: E402
 from front.text import shown  # noqa: E402
-from tried import program, skipped  # noqa: E402
+from tried import check_of, program, skipped  # noqa: E402
 
 COPIED = 'bin', 'build', 'completions', 'docs', 'examples', 'front'
-PROGRAMS = 'mig', 'mig_tool', 'xl-stream'
+PROGRAMS = 'mig', *resolve.NAMES, 'xl-stream'
+COMPLETED = 'mig', *resolve.NAMES
 PATH = os.pathsep.join([os.path.dirname(sys.executable), '/usr/sbin', '/usr/bin', '/sbin', '/bin'])  # without the Rattle kit
 STANDARD_PYTHON = any(os.access(os.path.join(folder, 'python3'), os.X_OK) for folder in ('/usr/local/bin', '/usr/bin', '/bin'))
 NOTHING = {} if STANDARD_PYTHON else {'PATH': PATH}  # an environment as empty as one that has python3 can be
@@ -75,16 +77,17 @@ class Copy:
             shutil.copytree(os.path.join(TOP, name), os.path.join(self.top, name), ignore=shutil.ignore_patterns('__pycache__'))
         for name in 'CHANGELOG.md', 'LICENSE', 'VERSION':
             shutil.copy(os.path.join(TOP, name), self.top)
-        os.makedirs(os.path.join(self.top, 'crates', 'mig_tool', 'src'))
-        write('mig_tool:\n', self.top, 'crates.txt')
+        for name in resolve.NAMES:
+            os.makedirs(os.path.join(self.top, 'crates', name, 'src'))
+        write(''.join(name + ':\n' for name in resolve.NAMES), self.top, 'crates.txt')
 
-    def ship(self, tool=None, **more):
-        """Ships a program of its sources."""
-        path = os.path.join(self.top, 'dist', resolve.MACHINE, 'mig_tool')
-        os.makedirs(os.path.dirname(path))
-        shutil.copy(tool or TOOL, path)
-        told = {'version': '0.0.1', 'machine': resolve.MACHINE, 'program': resolve.sum_of_file(path),
-                'sources': resolve.Sources(self.top).checksum(), 'kit': 'a kit', 'origin': 'built from commit 1234567, shipped', **more}
+    def ship(self, **more):
+        """Ships programs of its sources."""
+        place = os.path.join(self.top, 'dist', resolve.MACHINE)
+        both_in(place, TOOL)
+        sums = {name: resolve.sum_of_file(os.path.join(place, name)) for name in resolve.NAMES}
+        told = {'version': '0.0.1', 'machine': resolve.MACHINE, **sums, 'sources': resolve.Sources(self.top).checksum(), 'kit': 'a kit',
+                'origin': 'built from commit 1234567, shipped', **more}
         write(''.join('%s: %s\n' % it for it in told.items()), self.top, 'dist', 'MANIFEST')
 
     def install(self, *words, tool=None, **more):
@@ -106,6 +109,14 @@ def copy_and_prefix():
     """A copy of the repository, and the path of a prefix that isn't there yet."""
     with folder() as top:
         yield Copy(top), os.path.join(top, 'prefix')
+
+
+def both_in(place, tool):
+    """Copies a mig_tool and the mig_check that was made with it into a folder; the path of mig_tool there."""
+    os.makedirs(place, exist_ok=True)
+    for name, path in (resolve.TOOL, tool), (resolve.CHECK, check_of(tool)):
+        shutil.copy(path, os.path.join(place, name))
+    return os.path.join(place, resolve.TOOL)
 
 
 def read(*path):
@@ -138,6 +149,11 @@ def verbs():
 
 
 def commands():
-    """The commands of the program, each with its words, as its usage line has them."""
+    """The commands of mig_tool, each with its words, as its usage line has them."""
     usage = re.search(r'b"usage: (.*)\\n"', read(TOP, 'crates', 'mig_tool_report', 'src', 'outcome.rt'))[1]
     return {text.split()[0]: text for text in usage.split(' | ')}
+
+
+def check_commands():
+    """The commands of mig_check, as its usage line has them."""
+    return set(re.findall(r'\[(\w+)\]', CHECK_USAGE))

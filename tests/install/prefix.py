@@ -5,11 +5,10 @@ import os
 import re
 import resource
 import shutil
-import sys
 
 import places
 from front import resolve
-from places import NOTHING, PROGRAMS, Copy, copy_and_prefix, folder, read, refused, run, shown, skipped, tree, wanted, write
+from places import COMPLETED, NOTHING, PROGRAMS, Copy, copy_and_prefix, folder, read, refused, run, shown, skipped, tree, wanted, write
 
 LIST = os.path.join('lib', 'mig', 'installed.json')
 HEADER = (b'Xen saved domain, xl format\n \0 \r' + bytes.fromhex('04030201 03000000 00000000 02000000') + b'{}')
@@ -19,7 +18,7 @@ OK_SMALLEST = 'ok version 3 kind hvm frames 0 records 3\n'
 
 def installed(got, prefix):
     """What isn't so of an answer that all is installed."""
-    yield from wanted(got, (0, 'mig, xl-stream, mig_tool are installed in %s\n' % shown(os.path.join(prefix, 'bin')), ''))
+    yield from wanted(got, (0, 'mig, xl-stream, mig_tool, mig_check are installed in %s\n' % shown(os.path.join(prefix, 'bin')), ''))
 
 
 def works(prefix, place):
@@ -29,6 +28,8 @@ def works(prefix, place):
         return run(*words, executable=os.path.join(prefix, 'bin', words[0]), cwd=place, environment=NOTHING, **more)
     with open(os.path.join(place, 'three-frames.stream'), 'rb') as stream:
         yield from wanted(used('mig_tool', 'verify', stdin=stream), (0, '', OK_THREE))
+        stream.seek(0)
+        yield from wanted(used('mig_check', stdin=stream), (0, '', OK_THREE))
     yield from wanted(used('mig', 'check', 'three-frames.stream'),
                       (0, 'three-frames.stream: libxc image: %s1 file: 1 ok\n' % OK_THREE, ''))
     save = os.path.join(place, 'guest.save')
@@ -40,7 +41,7 @@ def works(prefix, place):
         yield from wanted(used('mig_tool', 'verify', stdin=stream), (0, '', OK_SMALLEST))
     yield from wanted(used('mig', 'check', 'guest.save')[0], 0)
     status, out, err = used('mig', '--version')
-    if status or err or not re.match(r'mig \d+\.\d+\.\d+\nprogram: sha256 [0-9a-f]{64}, ', out):
+    if status or err or not re.match(r'mig \d+\.\d+\.\d+\nmig_tool: sha256 [0-9a-f]{64}, .*\nmig_check: sha256 [0-9a-f]{64}, ', out):
         yield '--version answers %r' % ((status, out, err),)
 
 
@@ -65,8 +66,10 @@ def used_without_the_repository():
         shutil.rmtree(os.path.join(prefix, 'lib', 'mig', 'front', '__pycache__'))  # as with another release of python3
         yield from works(prefix, place)
         yield from wanted([path for path in tree(prefix) if path not in before or path.endswith('.pyc')], [])
-        os.unlink(os.path.join(prefix, 'lib', 'mig', 'bin', 'mig_tool'))
-        yield from refused(run(os.path.join(prefix, 'bin', 'mig'), 'check', 'x'), 125, 'lib/mig/bin/mig_tool is not there: install it again')
+        for name, words in ('mig_tool', ['digest', 'three-frames.stream']), ('mig_check', ['check', 'three-frames.stream']):
+            os.unlink(os.path.join(prefix, 'lib', 'mig', 'bin', name))
+            says = 'lib/mig/bin/%s is not there: install it again' % name
+            yield from refused(run(os.path.join(prefix, 'bin', 'mig'), *words, cwd=place), 125, says)
 
 
 def moved():
@@ -110,7 +113,7 @@ def all_is_there():
             yield from wanted(found['bin/' + name], '-> ../lib/mig/bin/' + name)
             yield from wanted(found['lib/mig/bin/' + name][0], 0o755)
             yield from wanted(found['share/man/man1/%s.1' % name][0], 0o644)
-        for name in 'mig', 'mig_tool':
+        for name in COMPLETED:
             for path in ('share/bash-completion/completions/%s', 'share/zsh/site-functions/_%s', 'share/fish/vendor_completions.d/%s.fish'):
                 yield from wanted(found[path % name][0], 0o644)
         yield from wanted({what for what in found.values() if isinstance(what, int)}, {0o755})
@@ -266,8 +269,9 @@ def the_shipped_one():
         copy.ship()
         yield from installed(run(program, '--prefix', prefix), prefix)
         status, out, err = run(os.path.join(prefix, 'bin', 'mig'), '--version')
-        told = 'program: sha256 %s, built from commit 1234567, shipped' % resolve.sum_of_file(places.TOOL)
-        yield from wanted((status, out.splitlines(), err), (0, ['mig 0.0.1', told, 'kit: a kit'], ''))
+        told = ['%s: sha256 %s, built from commit 1234567, shipped' % (name, resolve.sum_of_file(os.path.join(prefix, 'bin', name)))
+                for name in resolve.NAMES]
+        yield from wanted((status, out.splitlines(), err), (0, ['mig 0.0.1', *told, 'kit: a kit'], ''))
 
 
 def the_one_that_was_proved_here():
@@ -275,7 +279,8 @@ def the_one_that_was_proved_here():
         copy.ship(origin='proved on this machine')
         os.makedirs(os.path.join(copy.top, 'out'))
         os.rename(os.path.join(copy.top, 'dist'), os.path.join(copy.top, 'out', 'built'))
-        os.rename(os.path.join(copy.top, 'out', 'built', resolve.MACHINE, 'mig_tool'), os.path.join(copy.top, 'out', 'built', 'mig_tool'))
+        for name in resolve.NAMES:
+            os.rename(os.path.join(copy.top, 'out', 'built', resolve.MACHINE, name), os.path.join(copy.top, 'out', 'built', name))
         yield from installed(run(os.path.join(copy.top, 'bin', 'install'), '--prefix', prefix), prefix)
         out = run(os.path.join(prefix, 'bin', 'mig'), '--version')[1]
         if not out.splitlines()[1].endswith(', proved where it was installed from'):
@@ -289,6 +294,8 @@ def none_to_install():
         yield from refused(run(program, '--prefix', prefix), 125, 'no program is installed: no program is shipped with these sources')
         yield from refused(copy.install('--prefix', prefix, tool=os.path.join(copy.top, 'LICENSE')), 125, 'is no program')
         yield from refused(copy.install('--prefix', prefix, tool=copy.top), 125, 'is no program')
+        shutil.copy(places.TOOL, os.path.join(copy.top, 'mig_tool'))
+        yield from refused(copy.install('--prefix', prefix, tool=os.path.join(copy.top, 'mig_tool')), 125, 'mig_check is no program')
         copy.ship()
         write('changed', copy.top, 'crates', 'mig_tool', 'src', 'main.rt')
         yield from refused(run(program, '--prefix', prefix), 125, 'is of other sources')
@@ -305,13 +312,19 @@ def a_change_of_other_crates():
 
 
 def a_program_that_was_changed():
-    """It isn't run by `mig`, and no line but one is said."""
+    """It isn't run by `mig`, and no line but one is said; nor is another one run in its place."""
     with copy_and_prefix() as (copy, prefix):
         place = place_in(os.path.dirname(prefix), copy)
-        copy.install('--prefix', prefix)
-        own = os.path.join(prefix, 'lib', 'mig', 'bin', 'mig_tool')
-        os.truncate(own, os.path.getsize(own) - 1)
-        yield from refused(run(os.path.join(prefix, 'bin', 'mig'), 'check', 'three-frames.stream', cwd=place), 125, 'is cut or changed')
+        mig = os.path.join(prefix, 'bin', 'mig')
+        for name, words in ('mig_check', ['check', 'three-frames.stream']), ('mig_tool', ['walk', 'three-frames.stream', '0', '0']):
+            copy.install('--prefix', prefix)
+            own = os.path.join(prefix, 'lib', 'mig', 'bin', name)
+            os.truncate(own, os.path.getsize(own) - 1)
+            yield from refused(run(mig, *words, cwd=place), 125, name + ' is cut or changed')
+            copy.install('--prefix', prefix, '--force')
+        manifest = read(prefix, 'lib', 'mig', 'MANIFEST')
+        write(re.sub('mig_check: .*\n', '', manifest), prefix, 'lib', 'mig', 'MANIFEST')
+        yield from refused(run(mig, 'check', 'three-frames.stream', cwd=place), 125, 'of another release: it has no mig_check')
 
 
 def nothing_to_install():
@@ -346,7 +359,7 @@ def not_writable():
             return skipped('a prefix without rights', "setpriv isn't installed")
         for closed in prefix, os.path.join(prefix, 'bin'):
             os.chmod(closed, 0o555)
-            yield from refused(run(*command, '--tool', sys.executable), 4, "can't be written: Permission denied")
+            yield from refused(run(*command, '--tool', places.TOOL), 4, "can't be written: Permission denied")
             yield from wanted(sorted(tree(prefix)), ['bin'])
             os.chmod(closed, 0o755)
         yield from wanted(copy.install('--prefix', prefix)[0], 0)

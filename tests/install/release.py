@@ -9,6 +9,7 @@ from prefix import installed, works
 
 EPOCH = {'PATH': PATH, 'SOURCE_DATE_EPOCH': '1795957314'}
 NAME = 'mig-0.0.1-' + resolve.MACHINE
+STATUSES = {'mig_tool': 7, 'mig_check': 8}            # of the programs that are linked here
 RT = '#!/bin/sh\ncase $1 in version) echo a kit;; doc) echo %s/kit/START-HERE.md;; esac\n'
 
 
@@ -40,6 +41,8 @@ def used_from_a_tarball():
         yield from wanted(run(os.path.join(unpacked, 'bin', 'mig'), 'check', 'three-frames.stream', cwd=place)[::2], (0, ''))
         with open(os.path.join(place, 'three-frames.stream'), 'rb') as stream:
             yield from wanted(run(os.path.join(unpacked, 'bin', 'mig_tool'), 'verify', stdin=stream)[:2], (0, ''))
+            stream.seek(0)
+            yield from wanted(run(os.path.join(unpacked, 'bin', 'mig_check'), stdin=stream)[:2], (0, ''))
         yield from wanted(run(os.path.join(unpacked, 'bin', 'mig'), '--version')[1].splitlines()[0], 'mig 0.0.1')
         yield from wanted([it for it in tree(unpacked) if it.startswith('crates') or it.endswith('.pyc')], [])
         prefix = os.path.join(top, 'prefix')
@@ -79,7 +82,7 @@ def same_tarball():
 # ---- what is shipped
 
 def with_object(top):
-    """A copy with a stand-in for the kit, in which an object file was proved; nothing where there is no compiler."""
+    """A copy with a stand-in for the kit, in which two object files were proved; nothing where there is no compiler."""
     copy = Copy(top)
     tools = os.path.join(copy.top, 'tools')
     os.makedirs(tools)
@@ -88,18 +91,22 @@ def with_object(top):
     os.chmod(os.path.join(tools, 'rt'), 0o755)
     for name in 'libos_c.a', 'liblibc_c.a':
         write('!<arch>\n', copy.top, 'kit', 'c', name)
+    if not shutil.which('gcc', path=PATH):
+        return None
     built = os.path.join(copy.top, 'out', 'built')
     os.makedirs(built)
-    write('int main(void) { return 7; }\n', top, 'main.c')
-    status = run('gcc', '-c', 'main.c', '-o', os.path.join(built, 'mig_tool.o'), cwd=top)[0] if shutil.which('gcc', path=PATH) else 1
-    write('#!/bin/sh\n', built, 'mig_tool')
-    os.chmod(os.path.join(built, 'mig_tool'), 0o755)
-    told = {'version': '0.0.1', 'machine': resolve.MACHINE, 'program': resolve.sum_of_file(os.path.join(built, 'mig_tool')),
-            'sources': resolve.Sources(copy.top).checksum(), 'kit': 'a kit', 'origin': 'proved on this machine'}
-    if status == 0:
-        told['object'] = resolve.sum_of_file(os.path.join(built, 'mig_tool.o'))
+    told = {'version': '0.0.1', 'machine': resolve.MACHINE, 'sources': resolve.Sources(copy.top).checksum(), 'kit': 'a kit',
+            'origin': 'proved on this machine'}
+    for name, status in STATUSES.items():
+        program, made = os.path.join(built, name), os.path.join(built, name + '.o')
+        write('int main(void) { return %d; }\n' % status, top, 'main.c')
+        if run('gcc', '-c', 'main.c', '-o', made, cwd=top)[0]:
+            return None
+        write('#!/bin/sh\n', program)
+        os.chmod(program, 0o755)
+        told.update({name: resolve.sum_of_file(program), name + '.o': resolve.sum_of_file(made)})
     write(''.join('%s: %s\n' % it for it in told.items()), built, 'MANIFEST')
-    return None if status else copy
+    return copy
 
 
 def with_tools(copy):
@@ -118,26 +125,33 @@ def ships_what_was_proved():
                 return skipped('what bin/release links', "gcc isn't installed, or has no static C library")
             status, out, err = run(*front, os.path.join(copy.top, 'bin', 'release'), environment=with_tools(copy), **more)
             yield from wanted((status, err), (0, ''))
-            shipped = os.path.join(copy.top, 'dist', resolve.MACHINE, 'mig_tool')
-            yield from wanted(out, 'dist/%s/mig_tool, sha256 %s\n' % (resolve.MACHINE, resolve.sum_of_file(shipped)))
-            yield from wanted(run(shipped)[0], 7)
-            with open(shipped, 'rb') as file:
-                found.append((file.read(), read(copy.top, 'dist', 'MANIFEST')))
-            yield from checks(copy)
+            shipped = {name: os.path.join(copy.top, 'dist', resolve.MACHINE, name) for name in STATUSES}
+            yield from wanted(out, ''.join('dist/%s/%s, sha256 %s\n' % (resolve.MACHINE, name, resolve.sum_of_file(path))
+                                           for name, path in shipped.items()))
+            yield from wanted([run(path)[0] for path in shipped.values()], list(STATUSES.values()))
+            found.append((*map(bytes_of, shipped.values()), read(copy.top, 'dist', 'MANIFEST')))
+            for name in STATUSES:
+                yield from checks(copy, name)
         if found[0] != found[1]:
             yield 'the bytes differ'
-        if b'/lib64/ld-linux' in found[0][0]:
+        if any(b'/lib64/ld-linux' in program for program in found[0][:2]):
             yield 'it names a loader'
         return None
 
 
-def checks(copy):
-    """What isn't so of --check: each byte of what is shipped, its sources, its number and its kit are looked at."""
-    made, shipped = (os.path.join(copy.top, it) for it in ('out/built/mig_tool.o', 'dist/%s/mig_tool' % resolve.MACHINE))
+def bytes_of(path):
+    with open(path, 'rb') as file:
+        return file.read()
+
+
+def checks(copy, name):
+    """What isn't so of --check, tried on one program: each byte of what is shipped, its sources, its number and its kit are looked at."""
+    made = [os.path.join(copy.top, 'out', 'built', it + '.o') for it in STATUSES]
+    shipped = os.path.join(copy.top, 'dist', resolve.MACHINE, name)
     told, tools = read(copy.top, 'dist', 'MANIFEST'), with_tools(copy)
 
     def check(status, says):
-        got = release(copy, '--check', made, environment=tools)
+        got = release(copy, '--check', *made, environment=tools)
         if got[0] != status or got[1].count('\n') != 1 or says not in got[1] or got[2]:
             yield '--check answers %r, wanted %d and %r' % (got, status, says)
 
@@ -148,12 +162,13 @@ def checks(copy):
         file.seek(1000)
         file.write(bytes([byte[0] ^ 1]))
     yield from check(1, 'is cut or changed')
-    tampered = told.replace('program: ' + told.split('program: ')[1][:64], 'program: ' + resolve.sum_of_file(shipped))
+    tampered = told.replace(told.split('\n%s: ' % name)[1][:64], resolve.sum_of_file(shipped))
     write(tampered, copy.top, 'dist', 'MANIFEST')
     yield from check(1, 'what is linked from it is not')
     for from_, to, status, says in (
             ('kit: a kit', 'kit: another kit', 3, 'was built by another kit'), ('linker: ', 'linker: another ', 3, 'is not linked again'),
-            ('version: ', 'version: 1', 1, 'is of release 1'), ('object: ', 'object: 1', 1, 'not that of the shipped program'),
+            ('version: ', 'version: 1', 1, 'is of release 1'),
+            ('%s.o: ' % name, '%s.o: 1' % name, 1, 'not that of the shipped ' + name),
             ('sources: ', 'sources: 1', 1, 'is of other sources')):
         write(tampered.replace(from_, to), copy.top, 'dist', 'MANIFEST')
         yield from check(status, says)
@@ -172,7 +187,8 @@ def releases_that_cannot_be():
         copy.ship()
         yield from refused(release(copy, '--tarball', '/proc/mig'), 4, '/proc/mig')
         yield from refused(release(copy, '--tarball', environment={'PATH': PATH}), 125, 'neither a commit nor SOURCE_DATE_EPOCH')
-        yield from refused(release(copy, '--check', 'x'), 125, 'the command rt of the Rattle kit')
+        yield from refused(release(copy, '--check', 'x', 'y'), 125, 'the command rt of the Rattle kit')
+        yield from wanted(release(copy, '--check', 'x')[0], 2)
         yield from wanted(release(copy, 'x')[0], 2)
 
 

@@ -5,9 +5,10 @@ import re
 import shutil
 import subprocess
 
-from places import PATH, PROGRAMS, TOP, commands, copy_and_prefix, folder, read, run, skipped, verbs, wanted
+from places import COMPLETED, PATH, PROGRAMS, TOP, check_commands, commands, copy_and_prefix, folder, read, run, skipped, verbs, wanted
 
-from front import advice  # noqa: E402  (places.py has put the repository's folder on the path)
+from build.words import CHECK_USAGE  # noqa: E402  (places.py has put the repository's folder on the path)
+from front import advice  # noqa: E402
 
 COMPLETIONS = os.path.join(TOP, 'completions')
 FORCE = "local force='--force["                      # the zsh file has this option once, for several verbs
@@ -23,7 +24,7 @@ def in_bash(name, *typed):
 
 
 def loaded_by_bash():
-    for name in 'mig', 'mig_tool':
+    for name in COMPLETED:
         path = os.path.join(COMPLETIONS, 'bash', name)
         status, out, err = run('bash', '-c', 'source "$1"; complete -p "$2"', 'bash', path, name)
         yield from wanted((status, err, out.startswith('complete ') and out.endswith(' -F _%s %s\n' % (name, name))), (0, '', True))
@@ -41,6 +42,8 @@ def offered_by_bash():
     yield from wanted(in_bash('mig', 'check', '-j', '-'), set())
     yield from wanted(in_bash('mig_tool', ''), set(commands()))
     yield from wanted(in_bash('mig_tool', 'verify', ''), set())
+    yield from wanted(in_bash('mig_check', ''), check_commands())
+    yield from wanted(in_bash('mig_check', 'legacy', ''), set())
 
 
 def written_for_fish():
@@ -56,7 +59,8 @@ def written_for_fish():
             found[verb].update('--' + name for name in re.findall(r' -l (\w+)', rest))
             found[verb].update('-' + name for name in re.findall(r' -s (\w)', rest))
     yield from wanted(found, by_verb)
-    yield from wanted(set(re.findall(r' -a (\w+)', read(COMPLETIONS, 'fish', 'mig_tool.fish'))), set(commands()))
+    for name, of_program in ('mig_tool', set(commands())), ('mig_check', check_commands()):
+        yield from wanted(set(re.findall(r' -a (\w+)', read(COMPLETIONS, 'fish', name + '.fish'))), of_program)
 
 
 def written_for_zsh():
@@ -72,9 +76,10 @@ def written_for_zsh():
         options.update('--' + name for name in ('force', 'help', 'memory') if '$' + name in rest)
         found.update((verb, options) for verb in names.split(' | '))
     yield from wanted(found, by_verb)
-    text = read(COMPLETIONS, 'zsh', '_mig_tool')
-    yield from wanted(text.splitlines()[0], '#compdef mig_tool')
-    yield from wanted(set(re.findall(r"^    '(\w+):", text, re.M)), set(commands()))
+    for name, of_program in ('mig_tool', set(commands())), ('mig_check', check_commands()):
+        text = read(COMPLETIONS, 'zsh', '_' + name)
+        yield from wanted(text.splitlines()[0], '#compdef ' + name)
+        yield from wanted(set(re.findall(r"^    '(\w+):", text, re.M)), of_program)
 
 
 def read_by_zsh_and_fish():
@@ -83,7 +88,7 @@ def read_by_zsh_and_fish():
         if not shutil.which(shell, path=PATH):
             skipped('completions for ' + shell, "%s isn't installed" % shell)
             continue
-        for name in 'mig', 'mig_tool':
+        for name in COMPLETED:
             yield from wanted(run(shell, '-n', os.path.join(COMPLETIONS, shell, ending % name)), (0, '', ''))
     if not shutil.which('fish', path=PATH):
         return
@@ -99,6 +104,7 @@ def read_by_zsh_and_fish():
         for verb, options in by_verb.items():
             yield from wanted((verb, offered('mig', 'mig %s -' % verb) - {'-h'}), (verb, options))
         yield from wanted(offered('mig_tool', 'mig_tool '), set(commands()))
+        yield from wanted(offered('mig_check', 'mig_check '), check_commands())
 
 
 # ---- man pages
@@ -159,9 +165,22 @@ def commands_and_lines():
             yield 'no line ' + form
     if 'differs D' not in lines:
         yield 'no line with differs'
-    for name, least in ('mig_tool', 6), ('xl-stream', 5), ('mig', 9):
+    for name, least in ('mig_tool', 6), ('mig_check', 6), ('xl-stream', 5), ('mig', 9):
         statuses = re.findall(r'^\.B (\d+)$', section(page(name), 'EXIT STATUS'), re.M)
         yield from wanted((name, len(statuses)), (name, least))
+
+
+def check_lines():
+    """Each command of mig_check has its words in mig_check(1), which says what it does, and each form of its lines stands there."""
+    text = page('mig_check')
+    synopsis, told, lines = plain(section(text, 'SYNOPSIS')), section(text, 'COMMANDS'), plain(section(text, 'LINES'))
+    for words in 'mig_check', *('mig_check ' + name for name in check_commands()):
+        if words + ' <' not in synopsis or '\n.B %s\n' % words not in '\n' + told:
+            yield 'nothing of ' + words
+    for form in ('ok version V kind K frames N records R', 'differs unknown', 'ok legacy frames N', 'refused: PLACE: NUMBER NAME ..',
+                 CHECK_USAGE, 'fault: WHAT'):
+        if form not in lines:
+            yield 'no line ' + form
 
 
 def causes():
@@ -226,5 +245,5 @@ def examples():
 
 TESTS = (
     loaded_by_bash, offered_by_bash, written_for_fish, written_for_zsh, read_by_zsh_and_fish,
-    verbs_and_options, commands_and_lines, causes, without_a_warning, examples,
+    verbs_and_options, commands_and_lines, check_lines, causes, without_a_warning, examples,
 )

@@ -1,6 +1,6 @@
 """A guest goes from xl to xl over the loopback, with the stream led through mig_tool between them: by a live migration; or,
 since Debian's Xen can't migrate PV guests live, by `xl save` and `xl restore` at the two ends of a pipe. With --debug, xl sends
-all frames a second time, behind a VERIFY record; a copy of such a stream is kept, and `mig check` compares the frames."""
+all frames a second time, behind a VERIFY record; a copy of such a stream is kept, and `mig check --compare` compares the frames."""
 import os
 import shutil
 
@@ -18,7 +18,7 @@ PIPED = ('mkfifo /tmp/from /tmp/to; xl save %(name)s /tmp/from & ' + THROUGH + '
 
 class Migration:
     def __init__(self, machine, tool, guest, check=None):
-        """`check` tells what `mig check` says of a file; where it is there, the guest is migrated with --debug."""
+        """`check` tells what `mig check --compare` says of a file; where it is there, the guest is migrated with --debug."""
         self.machine, self.tool, self.guest, self.check = machine, tool, guest, check
         self.is_live = guest.kind != 'pv'
         # Of a pipe the new domain is there before the old one has gone, so it has another name.
@@ -64,7 +64,7 @@ class Migration:
         return seen + '; ' + self.frames_compared() if self.check else seen
 
     def frames_compared(self):
-        """Sees that `mig check` takes the copy, and that the frames behind VERIFY are those sent before: the guest stood still."""
+        """Sees that `mig check --compare` takes the copy, and that the frames behind VERIFY are those sent before: the guest stood still."""
         said = self.check(self.machine.share + (COPY % self.guest.name)[len('/share'):]).splitlines()[0]
         if not said.endswith(' differs 0'):
             raise Broken('mig check of the stream with VERIFY: ' + said)

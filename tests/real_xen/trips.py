@@ -6,6 +6,7 @@ import time
 
 import programs
 import streams
+import tried
 from guests import LETTER, Broken, Watched, place_configuration
 
 MIG = os.path.join(streams.TOP, 'bin', 'mig')
@@ -63,7 +64,7 @@ class Trip:
     def mig_says(self, *words):
         """What bin/mig answers, with status 0."""
         try:
-            status, out, err = programs.answer([MIG, *words], LIMIT, env={**os.environ, 'MIG_TOOL': self.tool})
+            status, out, err = programs.answer([MIG, *words], LIMIT, env=tried.around(self.tool))
         except subprocess.TimeoutExpired:
             raise Broken('mig %s: not in %d s' % (words[0], LIMIT)) from None
         if status:

@@ -1,0 +1,63 @@
+"""How memory is shared out among programs that run at once."""
+import contextlib
+import os
+import threading
+
+from front import forms, program, sources
+
+BESIDE = 64 << 20                                    # what a program takes beside a guest's pages
+
+
+def need_of(name):
+    """How much memory a program that keeps a guest's pages may take for a file, told by its size."""
+    if not os.path.isfile(name):
+        return 0
+    try:
+        with open(name, 'rb') as file:
+            size, front = os.fstat(file.fileno()).st_size, file.read(8)
+    except OSError:
+        return 0
+    need = size * sources.Packed.TIMES if forms.packer_of(front) else size
+    return need + need // 50 + BESIDE
+
+
+class Memory:
+    """Shares the memory out: a program waits until what it may take is free."""
+
+    def __init__(self, at_once):
+        self.all = self.free = program.RUNNING.memory
+        self.share, self.running, self.changed = self.all // at_once, 0, threading.Condition()
+
+    def take(self, most):
+        with self.changed:
+            self.changed.wait_for(lambda: most <= self.free)
+            self.free, self.running = self.free - most, self.running + 1
+
+    def give_back(self, most):
+        with self.changed:
+            self.free, self.running = self.free + most, self.running - 1
+            self.changed.notify_all()
+
+    @contextlib.contextmanager
+    def taken(self, most):
+        """So much of it, or all, is for what this thread starts."""
+        most = min(most, self.all)
+        self.take(most)
+        try:
+            program.RUNNING.of_thread.most = most
+            yield
+        finally:
+            self.give_back(most)
+
+    def given(self, name, judge, can_be_again=True):
+        """The verdict that a function answers of a file by a program that keeps a guest's pages: it may take what it seems to need,
+        and its share at least. Where that was short, it is called once more with all, when nothing else runs."""
+        most = min(max(need_of(name), self.share), self.all)
+        with self.taken(most):
+            found = judge()
+        if found.status != program.NO_MEMORY or not can_be_again or most == self.all:
+            return found
+        with self.changed:
+            self.changed.wait_for(lambda: self.running == 0)
+            program.RUNNING.of_thread.most = self.all
+            return judge()
