@@ -1,4 +1,4 @@
-"""The lines that the program writes on standard error, spelled once for the tests.
+"""The lines that the programs write on standard error, spelled once for the tests.
 
 Cases and runners name a line by what it says, as `refused record 3 BadLength 7`, and `line_of` spells it. So the wording of
 a line stands here, in docs/refusals.md and in the program with its definition, and no case repeats it. The texts were worked
@@ -7,12 +7,13 @@ out from docs/refusals.md, never copied from the program.
 The names are those of the tests: a place in small letters, then a cause. A text that is changed here keeps its name.
 """
 import os
+import re
 import sys
 
 TOP = os.path.dirname(os.path.dirname(os.path.abspath(__file__)))
 if TOP not in sys.path:
     sys.path.insert(0, TOP)
-from build.words import USAGE  # noqa: E402  what the program says of words that name no command
+from build.words import CHECK_USAGE, USAGE  # noqa: E402  what the programs say of words that name no command
 
 READ_FAULT, WRITE_FAULT, MEMORY = 'fault: read', 'fault: write', 'fault: memory'
 
@@ -25,6 +26,9 @@ DONE = {
     'exercised': 'ok frames {} rounds {} entries {} canon {}',
     'walked': 'ok frame {} type {}',
     'relayed': 'ok records {} bytes {}',
+    # of mig_check
+    'uncompared': 'ok version {} kind {} frames {} records {} differs unknown',
+    'checked_legacy': 'ok legacy frames {}',
 }
 
 # ---- refusals
@@ -91,7 +95,7 @@ def refusal(place, *words):
 
 def line_of(name, *words):
     """The line of this name with these words, which are its numbers, or a refusal's place and cause."""
-    plain = {'usage': USAGE, 'read_fault': READ_FAULT, 'write_fault': WRITE_FAULT, 'memory': MEMORY}
+    plain = {'usage': USAGE, 'check_usage': CHECK_USAGE, 'read_fault': READ_FAULT, 'write_fault': WRITE_FAULT, 'memory': MEMORY}
     if name in plain:
         return plain[name]
     if name == 'refused':
@@ -100,3 +104,9 @@ def line_of(name, *words):
     if text.count('{}') != len(words):
         raise ValueError('%s has %d words' % (name, text.count('{}')))
     return text.format(*words)
+
+
+def of_check(line):
+    """The line that mig_check writes of a stream of which `verify` writes this one: it compares nothing."""
+    numbers = re.fullmatch(DONE['differing'].replace('{}', r'(\w+)'), line)
+    return line_of('uncompared', *numbers.groups()[:4]) if numbers else line

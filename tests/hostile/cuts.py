@@ -15,6 +15,7 @@ PAGES_OF_PV = 24 + 88 + 8 + 8 + 3 * 8                   # where its first page b
 PIECES = 1, 7, 4096
 ALL, SOME = 1, 16                                       # of the lengths inside of parts, each or every sixteenth
 OF_COMMANDS = (['verify'], ALL), *((words, SOME) for words in (['normalise'], ['restore'], ['relay'], ['show']))
+OF_CHECK = (program.CHECK, ALL),
 BESIDE_ENDS, SHARES = 9, 16
 FRONTS, SECONDS = 40, 20                                # fronts that come one after another, and how long is waited for output
 WAITING = 4096                                          # 512 bytes and 8 a word, of which these streams have fewer than 448
@@ -64,18 +65,18 @@ def prefixes(tool, words, step, share):
         if program.passes_on(words) and is_passed_on(stream[:length], parts, got.out):
             want = want._replace(out=got.out)
         for why in program.differences(got, want):
-            yield '%s of %d bytes: %s' % (words[0], length, why)
+            yield '%s of %d bytes: %s' % (program.named(words), length, why)
 
 
 # ---- input in pieces
 
 def pieces(tool, size):
     """The same answers where the input comes through a pipe in pieces of this size."""
-    for name, words, data in program.forms():
+    for name, words, data in program.forms(tool):
         cut = [data[at:at + size] for at in range(0, len(data), size)]
         got = program.Answer(*program.examples.piped(tool, words, cut))
         for why in program.differences(got, program.wanted(words, data)):
-            yield '%s, %s: %s' % (name, words[0], why)
+            yield '%s, %s: %s' % (name, program.named(words), why)
 
 
 def read_up_to(pipe, length):
@@ -92,7 +93,7 @@ def read_up_to(pipe, length):
 def flowing(tool):
     """What came is passed on before more comes: of each front, while the input is open, `relay` has written all that it
     passes on of it, but for what may wait; and all of it at the end."""
-    for name, words, data in program.forms():
+    for name, words, data in program.forms(tool):
         if not program.passes_on(words):
             continue
         pipes = dict.fromkeys(('stdin', 'stdout', 'stderr'), subprocess.PIPE)
@@ -170,10 +171,12 @@ def lying_images():
     yield 'the MSRs of a vCPU of a host', 'Part 0', front(1, 1) + part(12, 0, 0, MOST_BODY - 16)
 
 
-def lying_heads():
+def lying_heads(tool):
     """By name, words, line and input."""
-    for words, made in ((['verify'], lying_records()), (['relay'], lying_records()), (['show'], lying_records()),
-                        (['convert'], lying_chunks()), (['save'], lying_images())):
+    of_tool = ((['verify'], lying_records()), (['relay'], lying_records()), (['show'], lying_records()),
+               (['convert'], lying_chunks()), (['save'], lying_images()))
+    of_check = (program.CHECK, lying_records()), (program.LEGACY, lying_chunks())
+    for words, made in of_check if program.is_check(tool) else of_tool:
         for name, place, data in made:
             yield name, words, b'refused: %s: 1 Truncated\n' % place.encode(), data
 
@@ -191,12 +194,12 @@ def asked(tool, faults, words, data):
 
 def asked_by_lies(tool, faults):
     """By name, the input of each lying head with nothing, 4 KiB or 1 MiB of the body behind it, and the bytes asked for."""
-    for name, words, line, data in lying_heads():
+    for name, words, line, data in lying_heads(tool):
         for behind in (0, 4096, 1 << 20):
             more = data + bytes(behind)
             want = program.wanted(words, more)
             got, told = asked(tool, faults, words, more)
-            yield '%s, %s' % (name, words[0]), behind, line if not behind else want.report, want, got, told
+            yield '%s, %s' % (name, program.named(words)), behind, line if not behind else want.report, want, got, told
 
 
 def lies(tool, faults):

@@ -49,7 +49,7 @@ class Asked:
 
     def differences(self, what, got, want):
         for why in program.differences(got, want):
-            yield '%s, %s, %s: %s' % (self.name, self.words[0], what, why)
+            yield '%s, %s, %s: %s' % (self.name, program.named(self.words), what, why)
 
 
 def after_a_failed_read(it, what, got):
@@ -58,18 +58,19 @@ def after_a_failed_read(it, what, got):
 
 
 def every(tool, faults):
-    for name, words, data in program.forms():
+    for name, words, data in program.forms(tool):
         yield Asked(tool, faults, name, words, data)
 
 
 def every_refused(tool, faults):
     """Commands whose input is cut before its last byte, and words that name no command."""
-    for name, words, data in program.forms():
+    for name, words, data in program.forms(tool):
         if data and words != ['save']:
             yield Asked(tool, faults, name, words, data[:-1])
-    yield Asked(tool, faults, 'HVM image', ['save'], program.live_host() + b'w')
-    usage = Asked(tool, faults, 'words', ['verify'], b'')
-    usage.words, usage.want = ['verify', 'it'], program.NO_COMMAND
+    if not program.is_check(tool):
+        yield Asked(tool, faults, 'HVM image', ['save'], program.live_host() + b'w')
+    usage = Asked(tool, faults, 'words', program.CHECK if program.is_check(tool) else ['verify'], b'')
+    usage.words, usage.want = ['verify', 'it'], program.no_command(tool)
     usage.got = usage.answer()
     usage.made = faults.told()
     yield usage
@@ -85,10 +86,10 @@ def nothing_fails(tool, faults):
     """The program's reads and writes are those that faults.c sees."""
     for it in (*every(tool, faults), *every_refused(tool, faults)):
         yield from it.differences('where nothing fails', it.got, it.want)
-        if it.want.status == program.DONE and it.words[0] != 'exercise' and it.made.reads == 0:
-            yield '%s, %s: no read was seen' % (it.name, it.words[0])
+        if it.want.status == program.DONE and program.named(it.words) != 'exercise' and it.made.reads == 0:
+            yield '%s, %s: no read was seen' % (it.name, program.named(it.words))
         if (it.want.out and not it.made.outs) or (it.want.report and not it.made.reports):
-            yield '%s, %s: no write was seen' % (it.name, it.words[0])
+            yield '%s, %s: no write was seen' % (it.name, program.named(it.words))
 
 
 def reads(tool, faults):
@@ -118,12 +119,12 @@ def after_a_failed_write(tool, it, what, got):
     """What isn't as it has to be where a write of standard output failed."""
     yield from it.differences(what, got, program.NO_WRITE)
     if not program.is_front(got.out, it.want.out):
-        yield '%s, %s, %s: what was written is no proper prefix' % (it.name, it.words[0], what)
-    if it.words[0] == 'save' or program.passes_on(it.words):
+        yield '%s, %s, %s: what was written is no proper prefix' % (it.name, program.named(it.words), what)
+    if program.named(it.words) == 'save' or program.passes_on(it.words):
         runs = program.Runs(tool)
         runs.give(got.out)
         if runs.answer(['verify']).status != program.REFUSED:
-            yield '%s, %s, %s: what was written is accepted' % (it.name, it.words[0], what)
+            yield '%s, %s, %s: what was written is accepted' % (it.name, program.named(it.words), what)
 
 
 def writes(tool, faults):
@@ -157,7 +158,7 @@ def reports(tool, faults):
                 got = it.answer(report='%d %d' % (number, error))
                 yield from it.differences(what, got, it.want._replace(status=status, report=None))
                 if not program.is_front(got.report, it.want.report):
-                    yield '%s, %s, %s: the line is %r' % (it.name, it.words[0], what, got.report)
+                    yield '%s, %s, %s: the line is %r' % (it.name, program.named(it.words), what, got.report)
 
 
 def reports_of_faults(tool, faults):
@@ -232,20 +233,20 @@ def unreadable(tool, words, data):
 
 
 def real_reads(tool, faults):
-    for name, words, data in program.forms():
+    for name, words, data in program.forms(tool):
         for what, front, got in unreadable(tool, words, data) if data else ():
             for why in program.differences(got, program.no_read(words, front)):
-                yield '%s, %s, standard input is %s: %s' % (name, words[0], what, why)
+                yield '%s, %s, standard input is %s: %s' % (name, program.named(words), what, why)
 
 
 def writer_dies(tool, faults):
     """A pipe whose writer ends: the input ends there."""
-    for name, words, data in program.forms():
+    for name, words, data in program.forms(tool):
         for share in (0.0, 0.3, 0.7) if data else ():
             front = data[:int(share * len(data))]
             got = program.Answer(*program.examples.piped(tool, words, [front]))
             for why in program.differences(got, program.wanted(words, front)):
-                yield '%s, %s, %d bytes from a pipe: %s' % (name, words[0], len(front), why)
+                yield '%s, %s, %d bytes from a pipe: %s' % (name, program.named(words), len(front), why)
 
 
 def full_after(length):
@@ -267,7 +268,7 @@ def limited_files(tool, faults):
             what = 'a file of %d bytes' % length
             yield from after_a_failed_write(tool, it, what, got)
             if len(got.out) != length:
-                yield '%s, %s, %s: %d bytes are there' % (it.name, it.words[0], what, len(got.out))
+                yield '%s, %s, %s: %d bytes are there' % (it.name, program.named(it.words), what, len(got.out))
 
 
 def left_after(tool, it, length):

@@ -56,9 +56,14 @@ def pv():
     return program.second.exercise.exercise(1, 600)[0]
 
 
-def asked():
+def asked(tool):
     """By name, words and an input of some MiB."""
     streams = {'HVM': hvm(), 'libxl': wrapped(), 'PV': pv()}
+    if program.is_check(tool):
+        yield from ((name, program.CHECK, data) for name, data in streams.items())
+        yield 'legacy', program.LEGACY, legacy()
+        yield 'words', ['verify', 'it'], b''
+        return
     for (name, data), words in itertools.product(streams.items(), (['verify'], ['restore'], ['normalise'], ['relay'], ['show'])):
         yield name, words, data
     yield 'legacy', ['convert'], legacy()
@@ -71,15 +76,15 @@ def asked():
 def is_loaded(tool, size):
     """Whether the kernel and the loader get as far as the program's own first step."""
     if not program.has_loader(tool):
-        return program.with_limit(tool, [], b'', size) == program.NO_COMMAND
-    return program.with_limit(tool, [], b'', size, {'LD_TRACE_LOADED_OBJECTS': '1', 'LD_BIND_NOW': '1'}).status == 0
+        return program.with_limit(tool, ['it'], b'', size) == program.no_command(tool)
+    return program.with_limit(tool, ['it'], b'', size, {'LD_TRACE_LOADED_OBJECTS': '1', 'LD_BIND_NOW': '1'}).status == 0
 
 
 def answers(tool):
     """By name and words: for each size whether it is the loader's affair, what was answered, and what is right."""
     loaded = {size: is_loaded(tool, size) for size in SIZES}
-    for name, words, data in asked():
-        want = program.NO_COMMAND if name == 'words' else program.wanted(words, data)
+    for name, words, data in asked(tool):
+        want = program.no_command(tool) if name == 'words' else program.wanted(words, data)
         yield name, words, want, [(size, loaded[size], program.with_limit(tool, words, data, size)) for size in SIZES]
 
 
@@ -89,11 +94,11 @@ def little(tool):
         for size, is_its_own, answer in got:
             if is_its_own and answer != want and not program.is_no_memory(words, answer, want):
                 yield '%s, %s, %d KiB: status %d, %d bytes out, report %r' % (
-                    name, words[0], size // KIB, answer.status, len(answer.out), answer.report[:200])
+                    name, program.named(words), size // KIB, answer.status, len(answer.out), answer.report[:200])
         if got[-1][2] != want:
-            yield '%s, %s: status %d with much memory' % (name, words[0], got[-1][2].status)
-        if name != 'words' and not any(program.is_no_memory(words, answer, want) for _, _, answer in got):
-            yield '%s, %s: no size was too little' % (name, words[0])
+            yield '%s, %s: status %d with much memory' % (name, program.named(words), got[-1][2].status)
+        if name != 'words' and not program.is_check(tool) and not any(program.is_no_memory(words, answer, want) for _, _, answer in got):
+            yield '%s, %s: no size was too little' % (name, program.named(words))
 
 
 # ---- what is passed on, or listed, and not kept
@@ -139,6 +144,53 @@ def long_streams():
     shown = listed('libxl', 2, 'EMULATOR_XENSTORE_DATA', LONGEST)
     yield 'pairs of a wrapper, twice', [shown, shown, listed('libxl', 1, 'LIBXC_CONTEXT'), STATIC, CONTEXT, END, listed('libxl', 0, 'END')], [
         b'LibxlFmt' + struct.pack('>II', 2, 0), *pairs, *pairs, struct.pack('<II', 1, 0), smallest, bytes(8)]
+
+
+def in_records(count, of_record, page=b''):
+    """Records of 1024 frames each, counted up, with a word for each and its page where it has one."""
+    data = page * 1024
+    head = struct.pack('<IIQ', 1, 8 + 8 * 1024 + len(data), 1024)
+    for first in range(0, count, 1024):
+        yield head + struct.pack('<1024Q', *(of_record | pfn for pfn in range(first, first + 1024))) + data
+
+
+def guest_of(count, of_record, page=b''):
+    """The stream of an HVM guest of so many frames, block by block; nothing of it is kept."""
+    smallest = program.case('smallest-hvm')
+    yield smallest[:48]
+    yield from in_records(count, of_record, page)
+    yield smallest[48:]
+
+
+XALLOC = 0xE << 60
+MOST_FRAMES = 1 << 24
+OF_ALL, OF_SOME, SOME = 300 * MIB, 24 * MIB, 1 << 20   # for 2^24 frames, and for 2^20, so much is enough
+
+
+def no_page_kept(check, count, kind, page, most):
+    """What isn't so of a check of a guest of so many frames, where mig_check may have so much memory."""
+    got = program.passed_through(check, program.CHECK, guest_of(count, kind, page), most)
+    line = program.lines.line_of('verified', 3, 'hvm', count, 3 + count // 1024)
+    if got != program.Passed(program.DONE, 0, program.digest_of([]), line.encode() + b'\n'):
+        yield '%d frames with %d bytes each, %d KiB: status %d, report %r' % (count, len(page), most // KIB, got.status, got.report)
+
+
+def checked_without_pages(check):
+    """2^20 frames with pages of zeros, 4 GiB, pass mig_check in 24 MiB, and 2^24 without pages in 300 MiB."""
+    yield from no_page_kept(check, SOME, 0, bytes(4096), OF_SOME)
+    yield from no_page_kept(check, MOST_FRAMES, XALLOC, b'', OF_ALL)
+
+
+def kept_pages_are_too_many(tool):
+    """The same 2^20 frames are too much for mig_tool there, which keeps pages."""
+    got = program.passed_through(tool, ['verify'], guest_of(SOME, 0, bytes(4096)), OF_SOME)
+    if got[:3] != (program.MEMORY, 0, program.digest_of([])) or got.report != program.NO_MEMORY.report:
+        yield 'status %d, report %r' % (got.status, got.report)
+
+
+def all_frames_checked(check):
+    """The greatest guest, 64 GiB of pages of zeros, passes mig_check in 300 MiB."""
+    yield from no_page_kept(check, MOST_FRAMES, 0, bytes(4096), OF_ALL)
 
 
 def passed_on(tool):

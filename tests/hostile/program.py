@@ -27,6 +27,7 @@ import tried  # noqa: E402
 ENVIRONMENT = dict(os.environ)
 TRACER = 'HOSTILE_TRACER'                            # names the program that runs the other
 DONE, REFUSED, USAGE, READ_FAULT, WRITE_FAULT, MEMORY = range(6)
+OF_CHECK = CHECK, LEGACY = [], ['legacy']              # the words of mig_check
 # status, what stands on standard output, what stands on standard error
 Answer = collections.namedtuple('Answer', 'status out report')
 NO_READ, NO_WRITE, NO_MEMORY = (Answer(status, out, line.encode() + b'\n') for status, out, line in (
@@ -50,7 +51,19 @@ def script(name):
 examples, second = script('examples/run'), script('second_reader/run')
 
 
-NO_COMMAND = Answer(USAGE, b'', lines.USAGE.encode() + b'\n')
+def is_check(tool):
+    """Whether a program is mig_check, and not mig_tool."""
+    return os.path.basename(tool).startswith('mig_check')
+
+
+def no_command(tool):
+    """What is answered to words that name no command."""
+    return Answer(USAGE, b'', (lines.CHECK_USAGE if is_check(tool) else lines.USAGE).encode() + b'\n')
+
+
+def named(words):
+    """Words by which a try tells of a command; mig_check has one without words."""
+    return words[0] if words else 'mig_check'
 
 
 @functools.cache
@@ -61,7 +74,7 @@ def case(name):
 
 def wanted(words, data):
     """What the second reader answers; its output is None where `save` may have written anything that is no stream."""
-    return Answer(*second.judged(words, data))
+    return Answer(*(second.checked(words, data) if words in OF_CHECK else second.judged(words, data)))
 
 
 def passes_on(words):
@@ -187,7 +200,8 @@ class Traced(Faults):
 
     def works(self, tool):
         """Whether programs may be traced here."""
-        return subprocess.run([self.made, tool], stdin=subprocess.DEVNULL, stderr=subprocess.DEVNULL, check=False).returncode == USAGE
+        words = [self.made, tool, 'it']
+        return subprocess.run(words, stdin=subprocess.DEVNULL, stderr=subprocess.DEVNULL, check=False).returncode == USAGE
 
 
 class NoFaults:
@@ -272,10 +286,14 @@ def live_host():
     return rounds[0][0].image() + '.\n'.join(lines for _, _, lines, _, _ in rounds).encode()
 
 
-def forms():
-    """Of each form of input a name, the words of the commands that accept it, and one that has much of the form."""
+def forms(tool):
+    """Of each form of input a name, the words of the commands of the program that accept it, and one that has much of the form."""
     streams = {'HVM': case('as-xen-4.17-writes-it'), 'PV': case('pv-as-xen-4.17-writes-it'),
                'libxl': wanted(['save'], live_host()).out, 'libxl PV': case('libxl-pv-optional-records')}
+    if is_check(tool):
+        yield from ((name, CHECK, data) for name, data in streams.items())
+        yield from (('legacy', LEGACY, case(name)) for name in ('legacy-all-kinds', 'legacy-hvm'))
+        return
     for name, data in streams.items():
         yield name, ['restore', '4096'], data
         yield name, ['verify'], data
