@@ -4,7 +4,7 @@
 //! tables and no other page of a stream, so that a stream is checked in little memory, and once: from a pipe too.
 //!
 //! `run` is the program but for its standard streams; its clauses say what is answered, taken and reported. It accepts and
-//! refuses exactly what `mig_tool verify` and `mig_tool convert` do, with the same place and cause.
+//! refuses exactly what `verify` and `convert` do, the commands that keep a guest, with the same place and cause.
 #![tactic(auto)]
 
 mod law;
