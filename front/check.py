@@ -7,7 +7,7 @@ from front import forms, program, resolve, sources, verdict
 from front.sharing import Memory
 from front.text import put_lines, shown
 
-# What mig_check may take of a stream: 16 bytes for each of 2^24 frames, a 256th of their pages for page tables, and 64 MiB beside.
+# What mig_check may take: 16 bytes for each of 2^24 frames, a 256th of their pages for page tables, and 64 MiB beside.
 MOST_TAKEN = (16 << 24) + (1 << 36 >> 8) + (64 << 20)
 COUNTED = verdict.OK, verdict.REFUSED, verdict.NO_SAVE, verdict.NOT_JUDGED, verdict.FAULT
 
@@ -110,8 +110,8 @@ def status_of(statuses):
 
 
 class Checks:
-    """What is said of each file. mig_check judges it, which keeps no pages but of an old save. With --compare mig_tool reads it once
-    more where it has frames that were sent again to be compared, and at once where it can't be read twice."""
+    """What is said of each file. mig_check judges it, which keeps no pages. With --compare mig_tool reads it once more where it has
+    frames that were sent again to be compared, and at once where it can't be read twice."""
 
     def __init__(self, words):
         self.path, self.memory = program.find(resolve.CHECK), Memory(words.jobs)
@@ -121,10 +121,7 @@ class Checks:
         return verdict.of_file(name, self.said)
 
     def said(self, name, source):
-        kind = forms.form_of(source).kind
-        if kind == forms.LEGACY:
-            return self.memory.given(name, lambda: verdict.judged(name, self.path, source), source.is_walkable)
-        if self.tool and not source.is_walkable and kind == forms.STREAM:
+        if self.tool and not source.is_walkable and forms.form_of(source).kind == forms.STREAM:
             return self.compared(name, source)
         with self.memory.taken(MOST_TAKEN):
             found = verdict.judged(name, self.path, source)

@@ -12,7 +12,7 @@ from front.text import shown
 
 BUILDER = os.path.join(resolve.TOP, 'bin', 'build-mig_tool')
 HUGE_PAGES = 'glibc.malloc.hugetlb'                  # of glibc 2.35 and newer; others pass it over
-KEEPS_NO_PAGES = ['relay'], ['show'], []             # words of mig_tool, and of mig_check for a stream none
+KEEPS_NO_PAGES = ['relay'], ['show'], [], ['legacy']  # words of mig_tool, and of mig_check all
 SIGNALS = signal.SIGINT, signal.SIGTERM, signal.SIGHUP
 OK, REFUSED, USAGE, READ_FAULT, WRITE_FAULT, NO_MEMORY, NOT_COMPARED, FAULTY, NO_PROGRAM = 0, 1, 2, 3, 4, 5, 6, 7, 125
 BY_OTHERS = 126, 127                                 # of a shell, or where a library of the program isn't found, or has no room
