@@ -1,6 +1,9 @@
 -- What is taken are bytes, and no more than were asked for.
-use Rattle.mig_bytes.proofs.Common.{◌≡◌, ℕ, ◌+◌, ◌<◌, ◌≤◌, List, [], ◌++◌, length, get_or, take, Option, Some, None, sym, ap, subst, ◌∙◌, arith, length-append, length-take-le, Consumes-trans, Consumes, TakesBytes, Consumes-nil, Keeps, TakesFew}
+use Rattle.mig_bytes.proofs.Common.{◌≡◌, ℕ, ◌+◌, ◌<◌, ◌≤◌, Err, Ok, Result, List, [], ◌++◌, length, get_or, take, Option, Some, None, sym, ap, subst, ◌∙◌, arith, length-append, length-take-le, Consumes-trans, Consumes, TakesBytes, Consumes-nil, Keeps, TakesFew}
 use Rattle.std.proofs.lemmas.List.Elements.{All-nil, All-append, All-take, All-from_get_or}
+use Rattle.std.specs.Io.KnownBytes.{ReadConsumes}
+use Rattle.std.specs.Io.{ReadsAtMost}
+use Rattle.mig_bytes.specs.Bytes.{AreBytes, PassesOver}
 
 pub takes_none : (a : Option (List ℕ)) → TakesBytes a a
 takes_none a = record { taken = []; bytes = All-nil (λ b. b < 256); gone = Consumes-nil a }
@@ -42,3 +45,11 @@ few_more a b c gone n left k count le before t = record {
   few = omega (arith, length-append gone t.taken, count, le, t.few);
   gone = Consumes-trans a b c gone t.taken before t.gone;
 }
+
+-- ---- bytes that are passed over
+
+-- some first bytes of a buffer that were read are passed over
+pub passed_over : {E : Type 0} (old new : Option (List ℕ)) (most : ℕ) (buf : List ℕ) (r : Result ℕ E) → AreBytes buf → (0 < most → 0 < length buf) → ReadsAtMost r buf → ReadConsumes old new r buf → PassesOver old new most r
+passed_over old new most buf (Ok n) bytes room within h =
+    ((take n buf, All-take (λ b. b < 256) n buf bytes, length-take-le n buf within.0, h.0), λ none some. h.1 none (room some))
+passed_over old new most buf (Err e) bytes room within h = h

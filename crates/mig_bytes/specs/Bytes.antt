@@ -1,8 +1,8 @@
 -- What the calls over a source and a sink do to the bytes that are left, or written, where these are told.
-use Rattle.std.specs.Prelude.{◌≡◌, ◌<◌, ◌≤◌, ℕ, ◌+◌, ◌-◌, ◌*◌, ◌%◌, List, ◌++◌, length, take, Bool, true, false, Result, Ok, Err}
+use Rattle.std.specs.Prelude.{◌≡◌, ◌<◌, ◌≤◌, ℕ, ◌+◌, ◌-◌, ◌*◌, ◌%◌, List, ◌++◌, length, take, Bool, true, false, Result, Ok, Err, MatchResult}
 use Rattle.std.specs.List.{All}
 use Rattle.std.specs.declared.option.Option.{Option}
-use Rattle.mig_bytes.specs.Common.{Consumes, Appends, IsAtEnd}
+use Rattle.mig_bytes.specs.Common.{Consumes, Appends, IsAtEnd, Keeps}
 use Rattle.mig_bytes.specs.declared.stop.Got.{Got}
 use Rattle.mig_bytes.specs.declared.stop.Got.TheVariants.{Whole, Short}
 use Rattle.mig_bytes.specs.declared.failure.WriteFailed.{WriteFailed}
@@ -32,6 +32,10 @@ Skipped old new n false = (bytes : List ℕ) × (length bytes < n) × Consumes o
 -- each element is a byte
 abbrev pub AreBytes : List ℕ → Type 0
 AreBytes items = All (λ b. b < 256) items
+
+-- `pass(most)` took n bytes at `Ok(n)`, none only at the end or where none were asked for, and nothing at `Err`
+abbrev pub PassesOver : {E : Type 0} → Option (List ℕ) → Option (List ℕ) → ℕ → Result ℕ E → Type 0
+PassesOver old new most r = MatchResult r (λ n. ((bytes : List ℕ) × AreBytes bytes × (length bytes ≡ n) × Consumes old new bytes) × (n ≡ 0 → 0 < most → IsAtEnd new)) (λ _. Keeps old new)
 
 -- some first elements of what was left are gone, and they are bytes
 pub record TakesBytes (old new : Option (List ℕ)) : Type 0 where

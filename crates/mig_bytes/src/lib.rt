@@ -29,10 +29,10 @@ pub use fields::{
     u16_le, u32_be, u32_le, u64_be, u64_le,
 };
 pub use memory::{MemSink, MemSource};
-pub use outside::{InSource, OutSink};
+pub use outside::{BufferedSource, InSource, OutSink};
 pub use part::{take_long, take_part};
 pub use put::put_all;
 pub use sink::Sink;
-pub use source::Source;
+pub use source::{Source, are_bytes};
 pub use stop::{Got, Stop, TakeFault};
 pub use take::{skip, take_exact, take_vec};

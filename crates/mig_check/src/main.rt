@@ -13,7 +13,7 @@ mod words;
 
 pub use crate::law::checked_as_verified;
 use crate::run::run;
-use mig_bytes::{InSource, OutSink};
+use mig_bytes::{BufferedSource, OutSink};
 use mig_tool_report::{INPUT_BUFFER, Outcome, Status, put_line, words_of};
 use std::env;
 use std::io::BufReader;
@@ -28,6 +28,6 @@ fn main(rt: HostRuntime) -> ExitCode {
         let _ = put_line(&mut report, Outcome::Memory);
         return ExitCode::from(Status::Memory.code());
     };
-    let mut input = InSource::new(reader);
+    let mut input = BufferedSource::new(reader);
     ExitCode::from(run(alloc, &words, &mut input, &mut report).code())
 }

@@ -11,7 +11,7 @@ ghost use Rattle.mig_host.specs.declared.sound.SoundAnswer.TheVariants as answer
 
 use crate::host::Host;
 use crate::sound::SoundAnswer;
-use mig_bytes::Memory;
+use mig_bytes::{Memory, are_bytes};
 use mig_guest::{Guest, PartCode, PartKey};
 use mig_headers::Kind;
 use mig_host_view::normalise_guest;
@@ -28,11 +28,6 @@ fn top_for(kind: Kind, width: u64) -> u64
         Kind::Hvm => 0,
     }
 }
-
-/// Does nothing. That bytes are below 256 is what makes the guest that they are set in one of bytes.
-fn are_bytes(bytes: &[u8])
-    ensures { AreBytes bytes.now }
-{}
 
 /// Does nothing. It says the same of a page, where there is one.
 fn page_is_of_bytes(page: Option<&[u8; 4096]>)

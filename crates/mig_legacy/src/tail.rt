@@ -6,12 +6,11 @@ ghost use Rattle.mig_legacy.specs.Seen.{put_tail, put_device};
 ghost use Rattle.mig_legacy.specs.Stream.{device_at};
 
 use crate::body::{param_key, take_length};
-use mig_bytes::{Memory, Source, Stop, take_long, take_part};
+use mig_bytes::{Memory, Source, Stop, are_bytes, take_long, take_part};
 use mig_guest::{EMULATOR_CONTEXT, Guest, PartKey};
 use mig_headers::{LegacyCause, MOST_BODY};
 use mig_hvm::{read_context, scan_context};
 use mig_libxl_form::Emulators;
-use mig_restore::are_bytes;
 use std::alloc::Global;
 
 /// The HVM parameters that are the frames of I/O requests, of buffered ones and of the store.

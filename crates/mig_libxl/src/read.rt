@@ -13,7 +13,8 @@ ghost use Rattle.mig_libxl.specs.Reads.{ReadsStream, JudgesStream};
 
 use crate::image::KeptImage;
 use mig_bytes::{
-    Memory, ReadFailed, Source, Stop, answer_for, skip, stop_for, take_long, take_part, u32_le,
+    Memory, ReadFailed, Source, Stop, answer_for, are_bytes, skip, stop_for, take_long, take_part,
+    u32_le,
 };
 use mig_guest::PartKey;
 use mig_headers::{Cause, ImageHeader, Kind, LibxlHeader, Place};
@@ -24,7 +25,7 @@ use mig_libxl_form::{
 use mig_outline::Tally;
 use mig_policy::{PairsAnswer, pairs_fault};
 use mig_records::{RecordHead, take_head, take_padding};
-use mig_restore::{Reading, StreamAnswer, are_bytes};
+use mig_restore::{Reading, StreamAnswer};
 use std::alloc::Global;
 
 /// The codes of the parts that are an emulator's pairs, and its context.

@@ -12,8 +12,7 @@ ghost use Rattle.mig_restore_form.specs.Record.Content.{Nothing};
 ghost use Rattle.mig_restore_form.specs.Spelled.{IsGoodWord};
 
 use crate::keeps::KeepsFrames;
-use crate::page::are_bytes;
-use mig_bytes::{ReadFailed, Source, Stop, skip, take_long, take_part, u32_le};
+use mig_bytes::{ReadFailed, Source, Stop, are_bytes, skip, take_long, take_part, u32_le};
 use mig_guest::{Guest, PartCode};
 use mig_headers::{Cause, Kind, RecordType, is_optional};
 use mig_hvm::{read_context, scan_context};

@@ -22,7 +22,6 @@ pub use answer::StreamAnswer;
 pub use body::{skip_body, take_entries, take_list};
 pub use check::take_placed;
 pub use keeps::{AllFrames, KeepsFrames};
-pub use page::are_bytes;
 pub use read::{
     Reading, TakenImage, read_head, read_headers, read_image, read_image_rest, read_opening,
     take_image, take_image_rest,

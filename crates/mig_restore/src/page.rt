@@ -1,16 +1,10 @@
-ghost use Rattle.mig_restore.specs.Common.{AreBytes};
 ghost use Rattle.mig_restore.specs.PageReads.{ReadsPage};
 
-use mig_bytes::{Source, Stop, take_part};
+use mig_bytes::{Source, Stop, are_bytes, take_part};
 use mig_guest::Fill;
 use mig_headers::Cause;
 use mig_pagetypes::PageType;
 use mig_restore_form::page_fault;
-
-/// Does nothing. That bytes are below 256 is what makes a guest that they are set in one of bytes.
-pub fn are_bytes(bytes: &[u8])
-    ensures { AreBytes bytes.now }
-{}
 
 /// The page of a frame of this type, with its word at this place of its record, in a guest with this top: what is taken is
 /// judged where it stands.

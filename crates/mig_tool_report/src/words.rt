@@ -6,7 +6,8 @@ use std::io::ErrorKind;
 /// How much of standard input a program reads at once.
 pub const INPUT_BUFFER: usize = 131072;
 
-/// The words behind a program's name; None where there is no memory. Words that aren't UTF-8 name nothing, as no words do.
+/// The words behind a program's name; None where there is no memory. For words that aren't UTF-8 an empty one stands, which
+/// names nothing.
 pub fn words_of(alloc: Global, args: io::Result<Args>) -> Option<Vec<String>> {
     let mut words = Vec::new(alloc);
     match args {
@@ -17,6 +18,9 @@ pub fn words_of(alloc: Global, args: io::Result<Args>) -> Option<Vec<String>> {
             Some(words)
         }
         Err(error) if error.kind() == ErrorKind::OutOfMemory => None,
-        Err(_) => Some(words),
+        Err(_) => {
+            words.push(String::new(alloc)).ok()?;
+            Some(words)
+        }
     }
 }
