@@ -1,5 +1,5 @@
 -- What a viewer has seen behind a step of the relay.
-use Rattle.mig_show.proofs.Common.{◌≡◌, ◌≢◌, ◌⊎◌, inl, inr, ℕ, ◌+◌, ◌*◌, ◌≤◌, Bool, true, false, List, [], ◌∷◌, ◌++◌, length, take, Option, Some, None, refl, sym, ap, subst, ◌∙◌, arith, append_assoc, append-nil, length-append, count_by, is_some, padding_len, le32, LibxlRecord, ImageHeader, DomainHeader, LibxlHeader, Record, kind_of_number, head_in, RecordHead, Due, ComesBehind, NothingDue, CountDue, WordsDue, bytes_behind_head, due, head_spot, in_hand, place_of_spot, to_come, words_in_hand, Next, AtMarker, AtVersion, AtKind, AtHead, AtBody, AtFront, AtWords, AtPages, AtPadding, Outer, Alone, Behind, Spot, AtStart, AtLibxlHeader, AtLibxlHead, AtLibxlBody, AtLibxlPadding, InImage, AtEnd, begins_with_ident, Step, Relay, ShownFront, StandsBefore, StandsWhole, of_form, libxl_number, image_first, header_first, libxl_header, image_header, domain_header, SeenState, with_step, with_end, is_page_data, Seen1, nat_le, ◌&&◌, ◌||◌, option_map, drop-append-add, take-append-le, take_all, le-leb, ne_eqb, eq-eqb, FillsBody, ComesNext, image_opens, wrapper_opens, wrapper_header, marker, version, kind, libxl_begins, libxl_whole, image_begins, pages_begin, image_whole, count, more, whole, is_ident, IsStep, begun_record, counted_record, with_hand}
+use Rattle.mig_show.proofs.Common.{◌≡◌, ◌≢◌, ◌⊎◌, inl, inr, ℕ, ◌+◌, ◌*◌, ◌≤◌, Bool, true, false, List, [], ◌∷◌, ◌++◌, length, take, Option, Some, None, refl, sym, ap, subst, ◌∙◌, arith, append_assoc, append-nil, length-append, count_by, is_some, padding_len, le32, LibxlRecord, ImageHeader, DomainHeader, Record, kind_of_number, head_in, RecordHead, Due, ComesBehind, NothingDue, CountDue, WordsDue, bytes_behind_head, due, head_spot, in_hand, place_of_spot, to_come, words_in_hand, Next, AtMarker, AtVersion, AtKind, AtHead, AtBody, AtFront, AtWords, AtPages, AtPadding, Outer, Alone, Behind, Spot, AtStart, AtLibxlHeader, AtLibxlHead, AtLibxlBody, AtLibxlPadding, InImage, AtEnd, begins_with_ident, Step, Relay, ShownFront, StandsBefore, StandsWhole, of_form, libxl_number, image_first, header_first, libxl_header, image_header, domain_header, SeenState, with_step, with_end, is_page_data, Seen1, nat_le, ◌&&◌, ◌||◌, option_map, drop-append-add, take-append-le, take_all, le-leb, ne_eqb, eq-eqb, FillsBody, ComesNext, image_opens, wrapper_opens, wrapper_header, marker, version, kind, libxl_begins, libxl_whole, image_begins, pages_begin, image_whole, count, more, whole, is_ident, IsStep, begun_record, counted_record, with_hand}
 use Rattle.byteorder.specs.Endian.{big_number}
 use Rattle.mig_bytes.specs.Fields.{be32}
 use Rattle.mig_headers.specs.declared.kind.Kind.{Kind as KindOf}
@@ -132,43 +132,26 @@ around_same (Behind records) front other form number (w, n) = (form ∙ w, numbe
 
 -- ---- headers
 
-image_opened : (bytes piece : List ℕ) (seen : SeenState) (t : Relay) → length piece ≡ 8 → is_ident piece ≡ false → Has AtStart [] bytes seen → (step : Step) → IsStep AtStart piece t step → Has (InImage Alone AtVersion) [] (bytes ++ piece) (with_end false (with_step seen step (words_in_hand t)))
-image_opened bytes piece seen t size is h (steps.Marker w) e =
+-- the first 8 bytes, behind which this comes next: nothing is in hand, and the form is known
+first_passed : (wrapped : Bool) (next : Spot) (bytes piece : List ℕ) (seen : SeenState) (t : Relay) → length piece ≡ 8 → is_ident piece ≡ wrapped → StandsBefore [] (of_form wrapped) (place_of_spot next) → IsAround next (of_form wrapped) → is_start next ≡ false
+    → (seen.hand ≡ None → HandOf (in_hand next) (due next) (to_come next) (is_libxl next) (opened next) [] piece seen.hand) → Has AtStart [] bytes seen → (step : Step) → IsStep AtStart piece t step → Has next [] (bytes ++ piece) (with_end false (with_step seen step (words_in_hand t)))
+first_passed wrapped next bytes piece seen t size is stands around on hand h (steps.Marker w) e =
     let seen2 : SeenState = with_step seen (steps.Marker w) (words_in_hand t) in
-    let same : seen2.front ≡ of_form false = ap {B = ShownFront} (λ (f : ShownFront). record f { wrapper = f.wrapper || w }) h.around ∙ ap of_form (e ∙ is) in
-    subst (Has (InImage Alone AtVersion) [] (bytes ++ piece)) (sym (unhanded seen2 h.hand.0))
+    let same : seen2.front ≡ of_form wrapped = ap {B = ShownFront} (λ (f : ShownFront). record f { wrapper = f.wrapper || w }) h.around ∙ ap of_form (e ∙ is) in
+    subst (Has next [] (bytes ++ piece)) (sym (unhanded seen2 h.hand.0))
     (record {
       front = [];
       part = piece;
       split = ap (λ l. l ++ piece) (h.none refl);
-      stands = subst (λ (f : ShownFront). StandsBefore [] f (Some ImageHeader)) (sym same) image_first;
-      hand = (h.hand.0, size);
-      around = subst (IsAroundImage Alone) (sym same) (refl, refl);
+      stands = subst (λ (f : ShownFront). StandsBefore [] f (place_of_spot next)) (sym same) stands;
+      hand = hand h.hand.0;
+      around = subst (IsAround next) (sym same) around;
       form = ap (λ (f : ShownFront). f.wrapper) same ∙ sym (first_form bytes piece (h.none refl) size ∙ is);
       long = λ _. omega (arith, size, length-append bytes piece);
-      none = λ never. absurd (apart (sym never));
+      none = λ never. absurd (apart (sym never ∙ on));
     })
-image_opened bytes piece seen t size is h steps.Piece e = absurd (apart (sym e.0))
-image_opened bytes piece seen t size is h _ e = absurd e
-
-wrapper_opened : (bytes piece : List ℕ) (seen : SeenState) (t : Relay) → length piece ≡ 8 → is_ident piece ≡ true → Has AtStart [] bytes seen → (step : Step) → IsStep AtStart piece t step → Has AtLibxlHeader [] (bytes ++ piece) (with_end false (with_step seen step (words_in_hand t)))
-wrapper_opened bytes piece seen t size is h (steps.Marker w) e =
-    let seen2 : SeenState = with_step seen (steps.Marker w) (words_in_hand t) in
-    let same : seen2.front ≡ of_form true = ap {B = ShownFront} (λ (f : ShownFront). record f { wrapper = f.wrapper || w }) h.around ∙ ap of_form (e ∙ is) in
-    subst (Has AtLibxlHeader [] (bytes ++ piece)) (sym (unhanded seen2 h.hand.0))
-    (record {
-      front = [];
-      part = piece;
-      split = ap (λ l. l ++ piece) (h.none refl);
-      stands = subst (λ (f : ShownFront). StandsBefore [] f (Some LibxlHeader)) (sym same) header_first;
-      hand = (h.hand.0, size);
-      around = subst (IsAround AtLibxlHeader) (sym same) (refl, refl, λ _. refl);
-      form = ap (λ (f : ShownFront). f.wrapper) same ∙ sym (first_form bytes piece (h.none refl) size ∙ is);
-      long = λ _. omega (arith, size, length-append bytes piece);
-      none = λ never. absurd (apart (sym never));
-    })
-wrapper_opened bytes piece seen t size is h steps.Piece e = absurd (apart (sym e.0))
-wrapper_opened bytes piece seen t size is h _ e = absurd e
+first_passed wrapped next bytes piece seen t size is stands around on hand h steps.Piece e = absurd (apart (sym e.0))
+first_passed wrapped next bytes piece seen t size is stands around on hand h _ e = absurd e
 
 header_passed : (bytes piece : List ℕ) (seen : SeenState) (t : Relay) → length piece ≡ 8 → Has AtLibxlHeader [] bytes seen → (step : Step) → IsStep AtLibxlHeader piece t step → Has (AtLibxlHead []) [] (bytes ++ piece) (with_end false (with_step seen step (words_in_hand t)))
 header_passed bytes piece seen t size h steps.Piece e =
@@ -296,25 +279,10 @@ count_passed outer o records head bytes piece seen t size fit h steps.Piece e =
     )
 count_passed outer o records head bytes piece seen t size fit h _ e = absurd e
 
--- the record in hand behind a piece more, with what the piece says of it
-record Grown (here : Spot) (begun piece part : List ℕ) (head : RecordHead) (seen : SeenState) : Type 0 where
-  pub shown : Seen1
-  pub is : seen.hand ≡ Some shown
-  pub first : List ℕ
-  pub inner : List ℕ
-  pub whole_is : part ++ piece ≡ first ++ inner
-  pub first_len : length first ≡ 8
-  pub is_head : head_in first ≡ head
-  pub kind_is : shown.kind ≡ head.kind
-  pub len_is : shown.len ≡ head.len
-  pub layer : shown.wrapped ≡ is_libxl here
-  pub size : length inner + to_come here ≡ bytes_behind_head head + (length begun + length piece)
-  pub words_are : HasSome NothingDue inner head shown
-
--- what else was seen stays
+-- the record in hand behind a piece more, with what the piece says of it; what else was seen stays
 record ShowsNoLess (here : Spot) (begun piece part : List ℕ) (head : RecordHead) (seen later : SeenState) : Type 0 where
   pub front : later.front ≡ seen.front
-  pub grown : Grown here begun piece part head later
+  pub grown : HandOf (Some head) NothingDue (to_come here) (is_libxl here) 0 (begun ++ piece) (part ++ piece) later.hand
 
 grows : (here : Spot) (begun bytes piece : List ℕ) (head : RecordHead) (seen : SeenState) (t : Relay) → in_hand here ≡ Some head → due here ≢ CountDue → FillsBody (due here) piece head → (h : Has here begun bytes seen) → (step : Step) → IsStep here piece t step → ShowsNoLess here begun piece h.part head seen (with_step seen step (words_in_hand t))
 grows here begun bytes piece head seen t hand counted full h step e = by (held_step here head piece t step hand e)
@@ -329,20 +297,22 @@ grows here begun bytes piece head seen t hand counted full h step e = by (held_s
         → ShowsNoLess here begun piece h.part head seen (with_step seen step (words_in_hand t))
     grown_by step shown front is same_kind same_len same_layer told = record {
       front = front;
-      grown = record {
-        shown = shown;
-        is = is;
-        first = i.first;
-        inner = i.inner ++ piece;
-        whole_is = ap (λ l. l ++ piece) i.whole ∙ append_assoc i.first i.inner piece;
-        first_len = i.first_len;
-        is_head = i.headed;
-        kind_is = same_kind ∙ i.kind;
-        len_is = same_len ∙ i.len;
-        layer = same_layer ∙ i.layer;
-        size = omega (arith, i.size, length-append i.inner piece);
-        words_are = told;
-      };
+      grown = (
+        shown,
+        is,
+        record {
+          first = i.first;
+          inner = i.inner ++ piece;
+          whole = ap (λ l. l ++ piece) i.whole ∙ append_assoc i.first i.inner piece;
+          first_len = i.first_len;
+          headed = i.headed;
+          kind = same_kind ∙ i.kind;
+          len = same_len ∙ i.len;
+          layer = same_layer ∙ i.layer;
+          size = omega (arith, i.size, length-append i.inner piece, length-append begun piece);
+          words = told;
+        },
+      );
     }
 
     piece_more : due here ≡ NothingDue → ShowsNoLess here begun piece h.part head seen (with_step seen steps.Piece (words_in_hand t))
@@ -379,39 +349,39 @@ more_passed : (here next : Spot) (begun bytes piece front : List ℕ) (head : Re
 more_passed here next begun bytes piece front head seen t hand hand_next same_spot counted nothing full size h step e =
     let g = grows here begun bytes piece head seen t hand counted full h step e in
     let later : SeenState = with_step seen step (words_in_hand t) in
-    let i = g.grown in
+    let i = g.grown.2 in
     let long : 8 ≤ length bytes = h.long (hand_goes_on here head hand) in
-    let layer : i.shown.wrapped ≡ is_libxl next = i.layer ∙ sym (same_at_head here).layer ∙ ap is_libxl (sym same_spot) ∙ (same_at_head next).layer in
+    let layer : g.grown.0.wrapped ≡ is_libxl next = i.layer ∙ sym (same_at_head here).layer ∙ ap is_libxl (sym same_spot) ∙ (same_at_head next).layer in
     let around : IsAround next seen.front = subst (λ (T : Type 0). T) ((same_at_head next).around seen.front) (subst (λ (s : Spot). IsAround s seen.front) (sym same_spot) (subst (λ (T : Type 0). T) (sym ((same_at_head here).around seen.front)) h.around)) in
     let place : place_of_spot here ≡ place_of_spot next = sym (same_at_head here).place ∙ ap place_of_spot (sym same_spot) ∙ (same_at_head next).place in
-    let own : InHand head NothingDue (to_come next) (is_libxl next) front (h.part ++ piece) i.shown =
-    record { first = i.first; inner = i.inner; whole = i.whole_is; first_len = i.first_len; headed = i.is_head; kind = i.kind_is; len = i.len_is; layer = layer; size = omega (arith, i.size, size); words = i.words_are } in
+    let own : InHand head NothingDue (to_come next) (is_libxl next) front (h.part ++ piece) g.grown.0 =
+    record { first = i.first; inner = i.inner; whole = i.whole; first_len = i.first_len; headed = i.headed; kind = i.kind; len = i.len; layer = layer; size = omega (arith, i.size, size, length-append begun piece); words = i.words } in
     subst (λ b. Has next front (bytes ++ piece) (with_end b later)) (sym (ap is_some hand_next))
     (more_has bytes piece h.front h.part h.split long next front later _ (hand_goes_on next head hand_next) (ap (λ (f : ShownFront). f.wrapper) g.front) h.form (subst (IsAround next) (sym g.front) around)
     (subst (λ (f : ShownFront). StandsBefore h.front f (place_of_spot next)) (sym g.front) (subst (StandsBefore h.front seen.front) place h.stands))
     (subst (λ (o : Option RecordHead). HandOf o (due next) (to_come next) (is_libxl next) (opened next) front (h.part ++ piece) later.hand) (sym hand_next)
-    (i.shown, i.is, subst (λ (d : Due). InHand head d (to_come next) (is_libxl next) front (h.part ++ piece) i.shown) (sym nothing) own)))
+    (g.grown.0, g.grown.1, subst (λ (d : Due). InHand head d (to_come next) (is_libxl next) front (h.part ++ piece) g.grown.0) (sym nothing) own)))
 
 whole_passed : (here next : Spot) (begun bytes piece : List ℕ) (head : RecordHead) (seen : SeenState) (t : Relay) → in_hand here ≡ Some head → due here ≢ CountDue → FillsBody (due here) piece head → length begun + length piece ≡ to_come here → ComesBehind (head_spot here) head.kind next
     → Has here begun bytes seen → (step : Step) → IsStep here piece t step → Has next [] (bytes ++ piece) (with_end (is_some (in_hand next)) (with_step seen step (words_in_hand t)))
 whole_passed here next begun bytes piece head seen t hand counted full size behind h step e =
     let g = grows here begun bytes piece head seen t hand counted full h step e in
     let later : SeenState = with_step seen step (words_in_hand t) in
-    let i = g.grown in
+    let i = g.grown.2 in
     let long : 8 ≤ length bytes = h.long (hand_goes_on here head hand) in
     let around : IsAround (head_spot here) seen.front = subst (λ (T : Type 0). T) (sym ((same_at_head here).around seen.front)) h.around in
-    let layer : i.shown.wrapped ≡ is_libxl (head_spot here) = i.layer ∙ sym (same_at_head here).layer in
-    ended behind bytes piece h.front h.part later i.shown h.split long (ap (λ (f : ShownFront). f.wrapper) g.front ∙ h.form)
+    let layer : g.grown.0.wrapped ≡ is_libxl (head_spot here) = i.layer ∙ sym (same_at_head here).layer in
+    ended behind bytes piece h.front h.part later g.grown.0 h.split long (ap (λ (f : ShownFront). f.wrapper) g.front ∙ h.form)
     (subst (λ (f : ShownFront). StandsBefore h.front f (place_of_spot (head_spot here))) (sym g.front) (subst (StandsBefore h.front seen.front) (sym (same_at_head here).place) h.stands))
     (subst (IsAround (head_spot here)) (sym g.front) around)
-    (finished head (is_libxl (head_spot here)) i.first i.inner (h.part ++ piece) i.shown i.whole_is i.first_len i.is_head i.kind_is i.len_is layer (omega (arith, i.size, size)) i.words_are) i.kind_is i.is
+    (finished head (is_libxl (head_spot here)) i.first i.inner (h.part ++ piece) g.grown.0 i.whole i.first_len i.headed i.kind i.len layer (omega (arith, i.size, size, length-append begun piece)) i.words) i.kind g.grown.1
 
 -- ---- a step
 
 -- what was seen behind a step, whatever it passed on
 pub seen_on : {begun piece front : List ℕ} {here next : Spot} → ComesNext here begun piece next front → (bytes : List ℕ) (seen : SeenState) (t : Relay) (step : Step) → IsStep here piece t step → Has here begun bytes seen → Has next front (bytes ++ piece) (with_end (is_some (in_hand next)) (with_step seen step (words_in_hand t)))
-seen_on (image_opens piece size is) bytes seen t step e h = image_opened bytes piece seen t size is h step e
-seen_on (wrapper_opens piece size is) bytes seen t step e h = wrapper_opened bytes piece seen t size is h step e
+seen_on (image_opens piece size is) bytes seen t step e h = first_passed false (InImage Alone AtVersion) bytes piece seen t size is image_first (refl, refl) refl (λ none. (none, size)) h step e
+seen_on (wrapper_opens piece size is) bytes seen t step e h = first_passed true AtLibxlHeader bytes piece seen t size is header_first (refl, refl, λ _. refl) refl (λ none. (none, size)) h step e
 seen_on (wrapper_header piece size) bytes seen t step e h = header_passed bytes piece seen t size h step e
 seen_on (marker outer piece size) bytes seen t step e h = marker_passed outer bytes piece seen t size h step e
 seen_on (version outer n piece size) bytes seen t step e h = version_passed outer n bytes piece seen t size h step e
