@@ -1,5 +1,5 @@
 -- What a relay keeps once one more record stands behind it.
-use Rattle.mig_relay.proofs.Common.{◌≡◌, ◌≢◌, ℕ, ◌-◌, Bool, true, false, List, [], ◌∷◌, ◌++◌, length, nat_eq, Option, Some, None, refl, sym, ap, subst, ◌∙◌, arith, length-append, ne_eqb, eq-eqb, map-append, greater, LibxlRecord, GuestOf, is_libxl_ended, image_in, image_among, AreBehind, kind_of_image, RecordsBehind, emulator_more, among_first, RecordHead, Opening, before, sent, put_content, StreamRecord, Content, types_of, is_ended, is_verified, placed_content, Nothing, Frames, Sets, Lists, IsSeen, ImageOf, RecordsSeen, ended_more, one_more_record, HasNumber, KeepsGoing, KeepsOuter, KeepsRecords, with_one, record_with, Outer, Alone, Behind, Relay, ◌||◌, length-map, among_more, Checks}
+use Rattle.mig_relay.proofs.Common.{◌≡◌, ◌≢◌, ℕ, ◌-◌, Bool, true, false, List, [], ◌∷◌, ◌++◌, length, nat_eq, Option, Some, None, refl, sym, ap, subst, ◌∙◌, arith, length-append, ne_eqb, eq-eqb, map-append, greater, LibxlRecord, GuestOf, is_libxl_ended, image_in, image_among, AreBehind, kind_of_image, RecordsBehind, emulator_more, among_first, RecordHead, Opening, before, sent, put_content, StreamRecord, Content, types_of, is_ended, is_verified, placed_content, Nothing, Frames, Sets, Lists, IsSeen, ImageOf, RecordsSeen, ended_more, one_more_record, HasNumber, KeepsGoing, KeepsWrapper, KeepsOuter, KeepsRecords, with_one, record_with, Outer, Alone, Behind, Relay, ◌||◌, length-map, among_more, Checks}
 use Rattle.mig_libxl_form.proofs.Among as libxl
 
 -- ---- the records of an image
@@ -69,16 +69,11 @@ records_more r o records head content high kept other = record {
 -- ---- the records of a libxl stream
 
 -- a relay with the same wrapper and as many records
+pub wrapper_same : (old new : Relay) (records : List LibxlRecord) → new.wrapper ≡ old.wrapper → new.seen ≡ old.seen → KeepsWrapper old records → KeepsWrapper new records
+wrapper_same old new records same seen k = record { behind = k.behind; is = same ∙ k.is; are = k.are; number = subst (λ (s : RecordsSeen). HasNumber s.records (image_among records)) (sym seen) k.number }
+
 pub going_same : (old new : Relay) (records : List LibxlRecord) → new.wrapper ≡ old.wrapper → new.seen ≡ old.seen → KeepsGoing old records → KeepsGoing new records
-going_same old new records same seen kept = (
-  record {
-    behind = kept.0.behind;
-    is = same ∙ kept.0.is;
-    are = kept.0.are;
-    number = subst (λ (s : RecordsSeen). HasNumber s.records (image_among records)) (sym seen) kept.0.number;
-  },
-  kept.1,
-)
+going_same old new records same seen kept = (wrapper_same old new records same seen kept.0, kept.1)
 
 -- how many stand behind a relay
 pub libxl_number : (r : Relay) (records : List LibxlRecord) (behind : RecordsBehind) → KeepsGoing r records → r.wrapper ≡ Some behind → behind.records ≡ length records

@@ -2,8 +2,7 @@
 use Rattle.mig_relay.proofs.Common.{◌≡◌, ◌≢◌, ℕ, ◌<◌, nat_eq, nat_le, Bool, true, false, List, [], length, Option, Some, None, refl, sym, ap, subst, ◌∙◌, arith, leb-true, eqb-true, eqb-false, common_steps, LibxlRecord, Kind, image_among, AreBehind, kind_of_image, RecordsSeen, Wrapped, RecordsBehind, IsBegunBody, fault_of_libxl_body, head_in, RecordHead, ImageOf, ComesBehind, ComesNext, libxl_next, Keeps, KeepsGoing, KeepsWrapper, HasNumber, with_one, AtMarker, Behind, Spot, AtLibxlHead, AtLibxlBody, InImage, AtEnd, spot, Relay, IsSome, MayFollow, allows_length, most_records, libxl_begins, libxl_whole, libxl_context, libxl_end}
 use Rattle.std.proofs.Common.{◌⊎◌, inl, inr}
 use Rattle.mig_relay.proofs.BehindBodies.{no_image as no_image_said}
-use Rattle.mig_relay.proofs.Kept.{among_same, wrapped_more, libxl_ending}
-use Rattle.mig_relay.proofs.Openings.{wrapper_same}
+use Rattle.mig_relay.proofs.Kept.{among_same, wrapped_more, wrapper_same, libxl_ending}
 use Rattle.mig_relay.proofs.SpotParts.{behind_libxl_head, libxl_content, libxl_image, libxl_bodied, libxl_empty, libxl_ended, with_libxl}
 use Rattle.mig_relay.specs.declared.state.Coming.TheVariants as comes
 

@@ -1,5 +1,6 @@
 -- What a step over one part does, whatever the part is.
 use Rattle.mig_relay.proofs.Common.{◌≡◌, ℕ, ◌+◌, ◌<◌, ◌≤◌, List, [], ◌++◌, length, take, drop, Bool, true, false, cond, nat_lt, Option, Some, None, Result, Ok, Err, refl, sym, ap, subst, ◌∙◌, arith, append_assoc, append-nil, length-append, length-take-le, length-drop, take-append-drop, lt-ltb, ltb-true, Consumes, Appends, AppendsPart, TakesFew, Judged, ◌>>=◌, part, tried, placed, AgreesWithJudging, Passes, Faulty, Stop, part_passes, part_whole, same_faulty, Cause, Truncated, Place, StreamOf, ComesNext, place_of_spot, Keeps, BeginsWithPart, Spot, spot, held, is_judged_first, counted, FrontsAreCut, PassedPiece, IsUnfinished, Refuses, Stops, StepMoved, MovedBy, answer_of, RelayAnswer, Refused, WriteFault, Memory, Step, Relay, unless_faulty, IsStep, KeepsWordsInHand}
+use Rattle.std.proofs.lemmas.Bool.{true≢false}
 use Rattle.mig_bytes.specs.declared.stop.Stop.TheVariants as stops
 
 -- a part that was taken whole into a buffer
@@ -101,11 +102,8 @@ module _ (here : Spot) (place : Place) (size : ℕ) (fault : List ℕ → Option
     pub refused_behind : (buf : List ℕ) (u : Unit {0}) (c : Cause) (answer : RelayAnswer) → answer ≡ Refused place c → length (begun ++ buf) ≡ size → fault (begun ++ buf) ≡ Some c → AgreesWithJudging (Buffered buf) old new (part Truncated (length buf)) (Ok u) → length buf ≤ held here → Appends before now buf → is_judged_first here ≡ false → place_of_spot here ≡ Some place
         → StepMoved here begun r t old new before now (Err answer)
     refused_behind buf u c answer is_answer whole stands h small written last at =
-        refused buf buf [] u c answer is_answer whole stands h (sym (append-nil buf)) small written (λ first. absurd (apart (sym first ∙ last)))
+        refused buf buf [] u c answer is_answer whole stands h (sym (append-nil buf)) small written (λ first. absurd (true≢false (sym first ∙ last)))
         ((place, c), [], ap (spot here) (sym (append-nil (begun ++ buf))) ∙ faulty (begun ++ buf) [] c whole stands) at
-      where
-        apart : true ≡ false → ⊥
-        apart e = cc
 
     -- a write failed
     pub unwritten : (buf : List ℕ) (u : Unit {0}) → length buf ≤ held here → length begun + length buf < size + 1 → AgreesWithJudging (Buffered buf) old new (part Truncated (length buf)) (Ok u) → AppendsPart before now buf → StepMoved here begun r t old new before now (Err WriteFault)

@@ -2,6 +2,7 @@
 use Rattle.mig_relay.proofs.Common.{◌≡◌, ℕ, ◌≤◌, Bool, List, [], ◌++◌, length, take, true, false, cond, Option, None, Some, Ok, Err, refl, sym, ap, subst, ◌∙◌, arith, ◌&&◌, leb-true, AgreesWithJudging, part, Stop, part_passes, fault_of_marker, Cause, Truncated, ImageHeader, Kind, image_among, before, opening_of, IsSeen, RecordsSeen, LibxlRecord, KeepsRecords, KeepsWrapper, HasNumber, AtVersion, Alone, AtLibxlHeader, InImage, spot, is_ident, fault_of_first, IsNotRefused, answer_of, Relay, begins_with_ident}
 use Rattle.std.specs.Prelude.{nat_le}
 use Rattle.std.proofs.Math.Seq.{take-append_seam}
+use Rattle.std.proofs.lemmas.Bool.{and_parts}
 use Rattle.mig_restore_form.specs.Mean.{sent}
 use Rattle.mig_relay.proofs.Moves.{Buffered, short_is}
 use Rattle.mig_relay.proofs.SpotParts.{start_follows}
@@ -23,23 +24,11 @@ pub no_records : (t : Relay) (version : ℕ) (kind : Kind) → IsSeen t.seen (op
 unfolding sent
 no_records t version kind seen top = record { seen = seen; top = top; going = refl }
 
--- the same, of the wrapper alone
-pub wrapper_same : (r t : Relay) (records : List LibxlRecord) → t.wrapper ≡ r.wrapper → t.seen ≡ r.seen → KeepsWrapper r records → KeepsWrapper t records
-wrapper_same r t records same seen k = record { behind = k.behind; is = same ∙ k.is; are = k.are; number = subst (λ (s : RecordsSeen). HasNumber s.records (image_among records)) (sym seen) k.number }
-
 -- ---- an input that begins with the ident
-
-true_left : (a b : Bool) → (a && b) ≡ true → a ≡ true
-true_left true b e = refl
-true_left false b e = e
-
-true_right : (a b : Bool) → (a && b) ≡ true → b ≡ true
-true_right true b e = e
-true_right false b e = let no : false ≡ true = e in absurd (cc)
 
 -- has its 8 bytes
 pub begun_long : (left : List ℕ) → begins_with_ident left ≡ true → 8 ≤ length left
-begun_long left begins = leb-true 8 (length left) (true_left (nat_le 8 (length left)) (is_ident (take 8 left)) begins)
+begun_long left begins = leb-true 8 (length left) (and_parts (nat_le 8 (length left)) (is_ident (take 8 left)) begins).0
 
 -- which can be taken
 pub whole_not_short : (buf : List ℕ) (e : Stop Cause) (left : List ℕ) (new : Option (List ℕ)) → length buf ≤ length left → AgreesWithJudging (Buffered buf) (Some left) new (part Truncated (length buf)) (Err e) → IsNotRefused (Err (answer_of ImageHeader e))
@@ -53,6 +42,6 @@ ident_is_fine buf left new c size begins (bytes, rest, is, now, same) stands =
     let p = part_passes Truncated (length buf) left bytes rest is in
     let whole : left ≡ buf ++ rest = p.0 ∙ ap (λ l. l ++ rest) same in
     let first : take 8 left ≡ buf = ap (take 8) whole ∙ ap (λ n. take n (buf ++ rest)) (sym size) ∙ take-append_seam buf rest in
-    let ident : is_ident buf ≡ true = ap is_ident (sym first) ∙ true_right (nat_le 8 (length left)) (is_ident (take 8 left)) begins in
+    let ident : is_ident buf ≡ true = ap is_ident (sym first) ∙ (and_parts (nat_le 8 (length left)) (is_ident (take 8 left)) begins).1 in
     let none : Some c ≡ None = stands ∙ ap (λ b. cond b None (fault_of_marker buf)) ident in
     cc

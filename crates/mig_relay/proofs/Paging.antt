@@ -6,6 +6,7 @@ use Rattle.std.proofs.lemmas.List.{drop_more, drop_all, length-append, length-re
 use Rattle.mig_pagetypes.specs.PageTypes.{level_of}
 use Rattle.mig_pagetypes.specs.declared.page_type.PageType.{PageType}
 use Rattle.mig_relay.specs.Following.{CountDue, FillsBody, WordsDue, bytes_behind_head, due, head_spot, pages_to_come, to_come, whole as last_bytes}
+use Rattle.mig_relay.proofs.Kept.{outer_same, records_same}
 use Rattle.mig_relay.proofs.Moves.{Buffered}
 use Rattle.mig_relay.proofs.PageParts.{front_part, words_part, page_part, no_page, pages_over}
 use Rattle.mig_relay.proofs.SpotParts.{lifted}
@@ -107,14 +108,11 @@ pub record IsKept (r t : Relay) : Type 0 where
 
 -- then the stream around the image has what it had
 pub outer_stays : (r t : Relay) (outer : Outer) → IsKept r t → KeepsOuter r outer → KeepsOuter t outer
-outer_stays r t Alone kept k = kept.wrapper ∙ k
-outer_stays r t (Behind around) kept k =
-    let w = k.0.0.0 in
-    (((record { behind = w.behind; is = kept.wrapper ∙ w.is; are = w.are; number = subst (λ (s : RecordsSeen). HasNumber s.records (image_among around)) (sym kept.seen) w.number }, k.0.0.1), k.0.1), k.1)
+outer_stays r t outer kept k = outer_same r t outer kept.wrapper k
 
 -- and so have the image's records
 pub records_stay : (r t : Relay) (o : Opening) (records : List StreamRecord) (types : List ℕ) (high : ℕ) → IsKept r t → KeepsRecords r o records types high → KeepsRecords t o records types high
-records_stay r t o records types high kept k = record { seen = subst (λ (s : RecordsSeen). IsSeen s o types) (sym kept.seen) k.seen; top = kept.top ∙ k.top; going = k.going }
+records_stay r t o records types high kept k = records_same r t o records types high kept.seen kept.top k
 
 -- ---- how many pages are still to come
 

@@ -1,5 +1,6 @@
 -- From what a relay keeps to the bytes that it stands for.
 use Rattle.mig_relay.proofs.Common.{◌≡◌, ◌≢◌, ℕ, ◌≤◌, Bool, true, false, List, [], ◌∷◌, ◌++◌, length, take, drop, min, ◌+◌, ◌-◌, ◌^◌, ◌<◌, Option, Some, None, Result, Ok, Err, refl, sym, ap, subst, ◌∙◌, arith, append_assoc, append-nil, length-append, length-drop, take-append-drop, Consumes, Appends, AppendsPart, Judged, Passes, passes_not, Cause, Truncated, Place, StreamOf, IsPassable, fault_of_record_body, record_content, bodies_are_parts, before, with_places, in_hand, place_of_spot, Keeps, KeepsNext, HasRecords, Next, AtMarker, AtVersion, AtKind, AtHead, AtBody, AtFront, AtWords, AtPages, AtPadding, BeginsWithPart, HasPassed, IsRelayed, Turned, RisesOnAnswer, WritesOnReadFault, Outer, Spot, AtStart, AtLibxlHeader, AtLibxlHead, AtLibxlBody, AtLibxlPadding, InImage, AtEnd, spot, held, carry, FrontsAreCut, PassedPiece, IsUnfinished, is_judged_first, Refuses, Stops, StepMoved, MovedBy, counted, Fits, RelayAnswer, Refused, WriteFault, Memory, Relayed, Step, Coming, Relay, is_some, places_len, Stands, RisesOnFault, EndsInside, WritesSome, may_wait, most_waiting, ReadFault}
+use Rattle.std.proofs.lemmas.Bool.{true≢false}
 use mathlib.Core.Logic.{inl, inr}
 use Rattle.std.specs.Io.KnownBytes.{Keeps as Stays}
 use Rattle.mig_bytes.specs.Faults.{Rose}
@@ -24,10 +25,6 @@ still_cut here {place} {size} {fault} {follows} is begun less = (place, cut here
 -- or none
 none_cut : (here : Spot) {place : Place} {size : ℕ} {fault : List ℕ → Option Cause} {follows : List ℕ → List ℕ → Judged (Place × Cause) StreamOf} → BeginsWithPart (spot here) place size fault follows → (begun : List ℕ) → begun ≡ [] → EndsInside (spot here begun)
 none_cut here is begun none = subst (λ l. EndsInside (spot here l)) (sym none) (still_cut here is [] is.some)
-
--- a truth value isn't both
-apart : true ≡ false → ⊥
-apart e = cc
 
 -- the words from this one on
 all_come : (ws : List ℕ) (page : ℕ) (coming : List (ℕ × ℕ)) → coming ≡ with_places page (drop page ws) → page ≤ length ws → page + length coming ≡ length ws
@@ -58,7 +55,7 @@ module _ (r : Relay) where
         still_cut (InImage outer (AtBody o records head))
         (lifted (carry outer) (body_is o records head (fault_of_record_body head.kind) (record_content head.kind) (bodies_are_parts (before o records) head.kind head.len other.fine other.other) (omega (arith, body.less)))) begun body.less;
     within = ap is_within is;
-    unbegun = λ judged. absurd (apart (sym judged));
+    unbegun = λ judged. absurd (true≢false (sym judged));
     room = rw is (omega arith);
   }
   is_at_next outer (AtFront o records head) begun (is, kept, pages, none) = once (InImage outer (AtFront o records head)) begun (comes.Front head) (front_is outer o records head) is none refl (omega arith)
@@ -72,10 +69,10 @@ module _ (r : Relay) where
   is_at AtLibxlHeader begun (is, kept, none) = once AtLibxlHeader begun comes.LibxlHeader header_is is none refl (omega arith)
   is_at (AtLibxlHead records) begun (is, kept, none) = once (AtLibxlHead records) begun comes.LibxlHead (libxl_head_is records kept.1) is none refl (omega arith)
   is_at (AtLibxlBody records head) begun (is, kept, bodied, body) =
-      record { cut = λ _. still_cut (AtLibxlBody records head) (libxl_body_is records head (omega (arith, body.less))) begun body.less; within = ap is_within is; unbegun = λ judged. absurd (apart (sym judged)); room = rw is (omega arith) }
+      record { cut = λ _. still_cut (AtLibxlBody records head) (libxl_body_is records head (omega (arith, body.less))) begun body.less; within = ap is_within is; unbegun = λ judged. absurd (true≢false (sym judged)); room = rw is (omega arith) }
   is_at (AtLibxlPadding records head content) begun (is, kept, bodied, image, some, none) = once (AtLibxlPadding records head content) begun (comes.LibxlPadding head) (libxl_padding_is records head content some) is none refl (omega arith)
   is_at (InImage outer next) begun (around, k) = is_at_next outer next begun k
-  is_at (AtEnd s) begun (is, has, none) = record { cut = λ going. absurd (apart (sym (ap is_at_end is) ∙ going)); within = ap is_within is; unbegun = λ _. none; room = rw is (omega arith) }
+  is_at (AtEnd s) begun (is, has, none) = record { cut = λ going. absurd (true≢false (sym (ap is_at_end is) ∙ going)); within = ap is_within is; unbegun = λ _. none; room = rw is (omega arith) }
 
 -- a record in hand is known by what comes next
 pub within : (r : Relay) (here : Spot) (begun : List ℕ) → Keeps r here begun → is_within r.coming ≡ is_some (in_hand here)
@@ -85,7 +82,7 @@ within r here begun k = (is_at r here begun k).within
 
 at_end_is : (c : Coming) → is_at_end c ≡ true → c ≡ comes.End
 at_end_is comes.End e = refl
-at_end_is _ e = absurd (apart (sym e))
+at_end_is _ e = absurd (true≢false (sym e))
 
 -- the end has no place
 before_end : (r : Relay) (here : Spot) (begun : List ℕ) (place : Place) → Keeps r here begun → place_of_spot here ≡ Some place → is_at_end r.coming ≡ false
@@ -127,9 +124,9 @@ pub stands_behind : (r t : Relay) (old new before now : Option (List ℕ)) (resu
 stands_behind r t old new before now result moved (here, begun, k) = by result (moved here begun k).is
   where
     by : (q : Result Step RelayAnswer) → MovedBy here begun r t old new before now q → goes_on q ≡ true → Stands t
-    by (Ok steps.Done) m on = absurd (apart (sym on))
+    by (Ok steps.Done) m on = absurd (true≢false (sym on))
     by (Ok step) m on = let g : PassedPiece here begun step r t old new before now = m in (g.next, g.front, g.keeps)
-    by (Err answer) m on = absurd (apart (sym on))
+    by (Err answer) m on = absurd (true≢false (sym on))
 
 -- ---- the bytes that a relay stands for
 
@@ -201,7 +198,7 @@ module _ (r t : Relay) (old new before now : Option (List ℕ)) (result : Result
     where
       by : (q : Result Step RelayAnswer) → goes_on q ≡ false → StepSays s.here s.begun bytes r t old new before now q → StepSays s.here s.begun bytes r u old new before now q
       by (Ok steps.Done) e says = says
-      by (Ok step) e says = absurd (apart e)
+      by (Ok step) e says = absurd (true≢false e)
       by (Err (Refused place cause)) e says = says
       by (Err ReadFault) e says = says
       by (Err WriteFault) e says = says
@@ -502,9 +499,9 @@ module _ (r t : Relay) (waiting waits : List ℕ) (old mid new before now : Opti
 
   -- where the relay goes on, no more waits than may
   pub turned_on : (result : Result Step RelayAnswer) → goes_on result ≡ true → (is_at_end r.coming ≡ true → t ≡ r) → Fits t waits → StepMoved s.here s.begun r t mid new (Some waiting) (Some waits) result → Turned t waits old new before now result
-  turned_on (Ok steps.Done) on stays_there fit m = absurd (apart (sym on))
+  turned_on (Ok steps.Done) on stays_there fit m = absurd (true≢false (sym on))
   turned_on (Ok step) on stays_there fit m = record { is = (passes_on step stays_there m, fit) }
-  turned_on (Err answer) on stays_there fit m = absurd (apart (sym on))
+  turned_on (Err answer) on stays_there fit m = absurd (true≢false (sym on))
 
   -- all that waits was written behind a step
   pub turned_flushed : (later : Option (List ℕ)) (none : List ℕ) (step : Step) → (is_at_end r.coming ≡ true → t ≡ r) → StepMoved s.here s.begun r t mid new (Some waiting) (Some waits) (Ok step) → Appends now later waits → none ≡ [] → Turned t none old new before later (Ok step)
@@ -544,7 +541,7 @@ module _ (r t : Relay) (waiting waits : List ℕ) (old mid new before now : Opti
 -- no read failed where the relay goes on
 pub read_on : (old new before now : Option (List ℕ)) (writes written : ℕ) (result : Result Step RelayAnswer) → goes_on result ≡ true → WritesOnReadFault old new before now writes written result
 read_on old new before now writes written (Ok step) on = tt
-read_on old new before now writes written (Err answer) on = absurd (apart (sym on))
+read_on old new before now writes written (Err answer) on = absurd (true≢false (sym on))
 
 -- or a write failed too
 pub read_broke_off : (old new before now : Option (List ℕ)) (writes written : ℕ) (result : Result Step RelayAnswer) → Rose writes written → WritesOnReadFault {X = Step} old new before now writes written (Err (unwritten result))

@@ -1,7 +1,7 @@
 use Rattle.mig_relay.proofs.Common.{arith, refl, sym, ap, ◌∙◌, [], fault_of_libxl_head, RecordHead, answer_of, Refused, Relay, KeepsGoing}
 use Rattle.mig_headers.specs.declared.fault.Place.TheVariants.{LibxlRecord as AtRecord}
 use Rattle.mig_relay.proofs.LibxlHeads.{HasBegunLibxl, begun_libxl, are_behind}
-use Rattle.mig_relay.proofs.Openings.{wrapper_same}
+use Rattle.mig_relay.proofs.Kept.{wrapper_same}
 use Rattle.mig_relay.proofs.Moves.{not_taken, not_allowed, not_written, went}
 use Rattle.mig_relay.proofs.SpotParts.{libxl_head_is, behind_libxl_head}
 use Rattle.mig_relay.proofs.state.Relay.pass_libxl_head.Goals as goal

@@ -1,5 +1,5 @@
 use Rattle.mig_relay.proofs.Common.{arith, refl, ap, [], fault_of_libxl, AtLibxlHead, wrapper_header}
-use Rattle.mig_relay.proofs.Openings.{wrapper_same}
+use Rattle.mig_relay.proofs.Kept.{wrapper_same}
 use Rattle.mig_relay.proofs.SpotParts.{header_is}
 use Rattle.mig_relay.proofs.Moves.{not_taken, not_allowed, not_written, went, err_fault, ok_none}
 use Rattle.mig_relay.proofs.state.Relay.pass_libxl_header.Goals as goal
