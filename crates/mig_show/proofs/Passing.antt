@@ -1,5 +1,9 @@
 -- What a viewer has seen behind a step of the relay.
-use Rattle.mig_show.proofs.Common.{◌≡◌, ◌≢◌, ◌⊎◌, inl, inr, ℕ, ◌+◌, ◌*◌, ◌≤◌, Bool, true, false, List, [], ◌∷◌, ◌++◌, length, take, Option, Some, None, refl, sym, ap, subst, ◌∙◌, arith, append_assoc, append-nil, length-append, count_by, is_some, padding_len, le32, LibxlRecord, ImageHeader, DomainHeader, Record, kind_of_number, head_in, RecordHead, Due, ComesBehind, NothingDue, CountDue, WordsDue, bytes_behind_head, due, head_spot, in_hand, place_of_spot, to_come, words_in_hand, Next, AtMarker, AtVersion, AtKind, AtHead, AtBody, AtFront, AtWords, AtPages, AtPadding, Outer, Alone, Behind, Spot, AtStart, AtLibxlHeader, AtLibxlHead, AtLibxlBody, AtLibxlPadding, InImage, AtEnd, begins_with_ident, Step, Relay, ShownFront, StandsBefore, StandsWhole, of_form, libxl_number, image_first, header_first, libxl_header, image_header, domain_header, SeenState, with_step, with_end, is_page_data, Seen1, nat_le, ◌&&◌, ◌||◌, option_map, drop-append-add, take-append-le, take_all, le-leb, ne_eqb, eq-eqb, FillsBody, ComesNext, image_opens, wrapper_opens, wrapper_header, marker, version, kind, libxl_begins, libxl_whole, image_begins, pages_begin, image_whole, count, more, whole, is_ident, IsStep, begun_record, counted_record, with_hand}
+use Rattle.mig_show.proofs.Common.{◌≡◌, ◌≢◌, ◌⊎◌, inl, inr, ℕ, ◌+◌, ◌*◌, ◌≤◌, Bool, true, false, List, [], ◌++◌, length, take, Option, Some, None, refl, sym, ap, subst, ◌∙◌, arith, append_assoc, append-nil, length-append, count_by, is_some, padding_len, le32, LibxlRecord, ImageHeader, DomainHeader, Record, kind_of_number, head_in, RecordHead, Due, ComesBehind, NothingDue, CountDue, WordsDue, bytes_behind_head, due, head_spot, in_hand, place_of_spot, to_come, words_in_hand, Next, AtMarker, AtVersion, AtKind, AtHead, AtBody, AtFront, AtWords, AtPages, AtPadding, Outer, Alone, Behind, Spot, AtStart, AtLibxlHeader, AtLibxlHead, AtLibxlBody, AtLibxlPadding, InImage, AtEnd, begins_with_ident, Step, Relay, ShownFront, StandsBefore, StandsWhole, of_form, libxl_number, image_first, header_first, libxl_header, image_header, domain_header, SeenState, with_step, with_end, is_page_data, Seen1, nat_le, ◌&&◌, ◌||◌, option_map, drop-append-add, take-append-le, take_all, le-leb, ne_eqb, eq-eqb, FillsBody, ComesNext, image_opens, wrapper_opens, wrapper_header, marker, version, kind, libxl_begins, libxl_whole, image_begins, pages_begin, image_whole, count, more, whole, is_ident, IsStep, begun_record, counted_record, with_hand}
+use Rattle.std.proofs.lemmas.Bool.{true≢false}
+use Rattle.std.proofs.lemmas.List.{nil_from_length}
+use Rattle.std.proofs.lemmas.Option.{none-some}
+use Rattle.std.proofs.Math.Bool.{or-false}
 use Rattle.byteorder.specs.Endian.{big_number}
 use Rattle.mig_bytes.specs.Fields.{be32}
 use Rattle.mig_headers.specs.declared.kind.Kind.{Kind as KindOf}
@@ -11,37 +15,20 @@ use Rattle.mig_relay.proofs.Paging.{words_number}
 use Rattle.mig_show.proofs.Stages.{Has, HandOf, HasSome, InHand, IsAround, IsAroundImage, finished, is_libxl, is_start, more_some, opened, same_at_head, stood}
 use Rattle.mig_relay.specs.declared.answer.Step.TheVariants as steps
 
-apart : true ≡ false → ⊥
-apart e = cc
-
-none_some : {X : Type 0} {x : X} → ◌≡◌ {A = Option X} None (Some x) → ⊥
-none_some e = cc
-
-some_is : {X : Type 0} {x y : X} → ◌≡◌ {A = Option X} (Some x) (Some y) → x ≡ y
-some_is e = cc
-
-no_bytes : (l : List ℕ) → length l ≡ 0 → l ≡ []
-no_bytes [] none = refl
-no_bytes (b ∷ bs) none = absurd (omega (arith, none))
-
-or_false : (b : Bool) → (b || false) ≡ b
-or_false true = refl
-or_false false = refl
-
 -- ---- which step passes on more of the record in hand
 
 held_image : (outer : Outer) (next : Next) (head : RecordHead) (piece : List ℕ) (t : Relay) (step : Step) → in_hand (InImage outer next) ≡ Some head → IsStep (InImage outer next) piece t step
     → ((step ≡ steps.Piece) × (due (InImage outer next) ≢ CountDue → due (InImage outer next) ≡ NothingDue)) ⊎ ((step ≡ steps.Words) × (n : ℕ) × (due (InImage outer next) ≡ WordsDue n) × (words_in_hand t ≡ words n piece) × (length piece ≡ 8 * n))
-held_image outer AtMarker head piece t step hand e = absurd (none_some hand)
-held_image outer AtVersion head piece t step hand e = absurd (none_some hand)
-held_image outer (AtKind n) head piece t step hand e = absurd (none_some hand)
-held_image outer (AtHead o records) head piece t step hand e = absurd (none_some hand)
+held_image outer AtMarker head piece t step hand e = absurd (none-some _ hand)
+held_image outer AtVersion head piece t step hand e = absurd (none-some _ hand)
+held_image outer (AtKind n) head piece t step hand e = absurd (none-some _ hand)
+held_image outer (AtHead o records) head piece t step hand e = absurd (none-some _ hand)
 held_image outer (AtBody o records h) head piece t steps.Piece hand e = inl (refl, λ _. refl)
 held_image outer (AtBody o records h) head piece t _ hand e = absurd e
 held_image outer (AtFront o records h) head piece t steps.Piece hand e = inl (refl, λ counted. absurd (counted refl))
 held_image outer (AtFront o records h) head piece t _ hand e = absurd e
 held_image outer (AtWords o records h n) head piece t steps.Words hand e = inr (refl, n, refl, e.0, e.1)
-held_image outer (AtWords o records h n) head piece t steps.Piece hand e = absurd (apart (sym e.0))
+held_image outer (AtWords o records h n) head piece t steps.Piece hand e = absurd (true≢false (sym e.0))
 held_image outer (AtWords o records h n) head piece t _ hand e = absurd e
 held_image outer (AtPages o records h coming behind) head piece t steps.Piece hand e = inl (refl, λ _. refl)
 held_image outer (AtPages o records h coming behind) head piece t _ hand e = absurd e
@@ -50,18 +37,18 @@ held_image outer (AtPadding o records h content) head piece t _ hand e = absurd 
 
 held_step : (here : Spot) (head : RecordHead) (piece : List ℕ) (t : Relay) (step : Step) → in_hand here ≡ Some head → IsStep here piece t step
     → ((step ≡ steps.Piece) × (due here ≢ CountDue → due here ≡ NothingDue)) ⊎ ((step ≡ steps.Words) × (n : ℕ) × (due here ≡ WordsDue n) × (words_in_hand t ≡ words n piece) × (length piece ≡ 8 * n))
-held_step AtStart head piece t step hand e = absurd (none_some hand)
-held_step AtLibxlHeader head piece t step hand e = absurd (none_some hand)
-held_step (AtLibxlHead records) head piece t step hand e = absurd (none_some hand)
+held_step AtStart head piece t step hand e = absurd (none-some _ hand)
+held_step AtLibxlHeader head piece t step hand e = absurd (none-some _ hand)
+held_step (AtLibxlHead records) head piece t step hand e = absurd (none-some _ hand)
 held_step (AtLibxlBody records h) head piece t steps.Piece hand e = inl (refl, λ _. refl)
 held_step (AtLibxlBody records h) head piece t _ hand e = absurd e
 held_step (AtLibxlPadding records h content) head piece t steps.Piece hand e = inl (refl, λ _. refl)
 held_step (AtLibxlPadding records h content) head piece t _ hand e = absurd e
 held_step (InImage outer next) head piece t step hand e = held_image outer next head piece t step hand e
-held_step (AtEnd s) head piece t step hand e = absurd (none_some hand)
+held_step (AtEnd s) head piece t step hand e = absurd (none-some _ hand)
 
 hand_goes_on : (s : Spot) (head : RecordHead) → in_hand s ≡ Some head → is_start s ≡ false
-hand_goes_on AtStart head hand = absurd (none_some hand)
+hand_goes_on AtStart head hand = absurd (none-some _ hand)
 hand_goes_on _ head hand = refl
 
 -- ---- the bytes tell the form
@@ -87,7 +74,7 @@ pub headed : (head : RecordHead) (wrapped : Bool) (part piece : List ℕ) (shown
 headed head wrapped part piece shown none size is begun some = record {
   first = piece;
   inner = [];
-  whole = ap (λ l. l ++ piece) (no_bytes part none) ∙ sym (append-nil piece);
+  whole = ap (λ l. l ++ piece) (nil_from_length part none) ∙ sym (append-nil piece);
   first_len = size;
   headed = is;
   kind = ap (λ (s : Seen1). s.kind) begun;
@@ -116,11 +103,11 @@ module _ (bytes piece front part : List ℕ) (split : bytes ≡ front ++ part) (
   module _ (next : Spot) (begun : List ℕ) (later : SeenState) (was : Bool) (on : is_start next ≡ false) (form : later.front.wrapper ≡ was) (is : was ≡ begins_with_ident bytes) (around : IsAround next later.front) where
     more_has : StandsBefore front later.front (place_of_spot next) → HandOf (in_hand next) (due next) (to_come next) (is_libxl next) (opened next) begun (part ++ piece) later.hand → Has next begun (bytes ++ piece) later
     more_has stands hand =
-        record { front = front; part = part ++ piece; split = split_more; stands = stands; hand = hand; around = around; form = form_more later.front.wrapper was form is; long = λ _. long_more; none = λ never. absurd (apart (sym never ∙ on)) }
+        record { front = front; part = part ++ piece; split = split_more; stands = stands; hand = hand; around = around; form = form_more later.front.wrapper was form is; long = λ _. long_more; none = λ never. absurd (true≢false (sym never ∙ on)) }
 
     rest_has : StandsBefore (front ++ (part ++ piece)) later.front (place_of_spot next) → HandOf (in_hand next) (due next) (to_come next) (is_libxl next) (opened next) begun [] later.hand → Has next begun (bytes ++ piece) later
     rest_has stands hand =
-        record { front = front ++ (part ++ piece); part = []; split = split_whole; stands = stands; hand = hand; around = around; form = form_more later.front.wrapper was form is; long = λ _. long_more; none = λ never. absurd (apart (sym never ∙ on)) }
+        record { front = front ++ (part ++ piece); part = []; split = split_whole; stands = stands; hand = hand; around = around; form = form_more later.front.wrapper was form is; long = λ _. long_more; none = λ never. absurd (true≢false (sym never ∙ on)) }
 
 -- nothing was in hand
 unhanded : (seen : SeenState) → seen.hand ≡ None → with_end false seen ≡ seen
@@ -148,9 +135,9 @@ first_passed wrapped next bytes piece seen t size is stands around on hand h (st
       around = subst (IsAround next) (sym same) around;
       form = ap (λ (f : ShownFront). f.wrapper) same ∙ sym (first_form bytes piece (h.none refl) size ∙ is);
       long = λ _. omega (arith, size, length-append bytes piece);
-      none = λ never. absurd (apart (sym never ∙ on));
+      none = λ never. absurd (true≢false (sym never ∙ on));
     })
-first_passed wrapped next bytes piece seen t size is stands around on hand h steps.Piece e = absurd (apart (sym e.0))
+first_passed wrapped next bytes piece seen t size is stands around on hand h steps.Piece e = absurd (true≢false (sym e.0))
 first_passed wrapped next bytes piece seen t size is stands around on hand h _ e = absurd e
 
 header_passed : (bytes piece : List ℕ) (seen : SeenState) (t : Relay) → length piece ≡ 8 → Has AtLibxlHeader [] bytes seen → (step : Step) → IsStep AtLibxlHeader piece t step → Has (AtLibxlHead []) [] (bytes ++ piece) (with_end false (with_step seen step (words_in_hand t)))
@@ -162,11 +149,11 @@ header_passed bytes piece seen t size h _ e = absurd e
 marker_passed : (outer : Outer) (bytes piece : List ℕ) (seen : SeenState) (t : Relay) → length piece ≡ 8 → Has (InImage outer AtMarker) [] bytes seen → (step : Step) → IsStep (InImage outer AtMarker) piece t step → Has (InImage outer AtVersion) [] (bytes ++ piece) (with_end false (with_step seen step (words_in_hand t)))
 marker_passed outer bytes piece seen t size h (steps.Marker w) e =
     let seen2 : SeenState = with_step seen (steps.Marker w) (words_in_hand t) in
-    let same : seen2.front ≡ seen.front = ap {B = ShownFront} (λ b. record seen.front { wrapper = seen.front.wrapper || b }) e ∙ ap {B = ShownFront} (λ b. record seen.front { wrapper = b }) (or_false seen.front.wrapper) in
+    let same : seen2.front ≡ seen.front = ap {B = ShownFront} (λ b. record seen.front { wrapper = seen.front.wrapper || b }) e ∙ ap {B = ShownFront} (λ b. record seen.front { wrapper = b }) (or-false seen.front.wrapper) in
     subst (Has (InImage outer AtVersion) [] (bytes ++ piece)) (sym (unhanded seen2 h.hand.0))
     (more_has bytes piece h.front h.part h.split (h.long refl) (InImage outer AtVersion) [] seen2 _ refl (ap (λ (f : ShownFront). f.wrapper) same) h.form (subst (IsAroundImage outer) (sym same) h.around)
     (subst (λ (f : ShownFront). StandsBefore h.front f (Some ImageHeader)) (sym same) h.stands) (h.hand.0, omega (arith, size, h.hand.1, length-append h.part piece)))
-marker_passed outer bytes piece seen t size h steps.Piece e = absurd (apart (sym e.0))
+marker_passed outer bytes piece seen t size h steps.Piece e = absurd (true≢false (sym e.0))
 marker_passed outer bytes piece seen t size h _ e = absurd e
 
 version_passed : (outer : Outer) (n : ℕ) (bytes piece : List ℕ) (seen : SeenState) (t : Relay) → length piece ≡ 16 → Has (InImage outer AtVersion) [] bytes seen → (step : Step) → IsStep (InImage outer AtVersion) piece t step → Has (InImage outer (AtKind n)) [] (bytes ++ piece) (with_end false (with_step seen step (words_in_hand t)))
@@ -178,18 +165,18 @@ version_passed outer n bytes piece seen t size h (steps.Version v) e =
     (rest_has bytes piece h.front h.part h.split (h.long refl) (InImage outer (AtKind n)) [] seen2 _ refl refl h.form (around_same outer seen.front seen2.front refl refl h.around)
     (subst (λ m. StandsBefore (h.front ++ (h.part ++ piece)) (record seen.front { version = Some m }) (Some DomainHeader)) field
     (image_header h.front (h.part ++ piece) seen.front h.stands (omega (arith, size, h.hand.1, length-append h.part piece)))) (h.hand.0, refl))
-version_passed outer n bytes piece seen t size h steps.Piece e = absurd (apart (sym e.0))
+version_passed outer n bytes piece seen t size h steps.Piece e = absurd (true≢false (sym e.0))
 version_passed outer n bytes piece seen t size h _ e = absurd e
 
 kind_passed : (outer : Outer) (n : ℕ) (o : Opening) (bytes piece : List ℕ) (seen : SeenState) (t : Relay) → length piece ≡ 16 → Has (InImage outer (AtKind n)) [] bytes seen → (step : Step) → IsStep (InImage outer (AtKind n)) piece t step → Has (InImage outer (AtHead o [])) [] (bytes ++ piece) (with_end false (with_step seen step (words_in_hand t)))
 kind_passed outer n o bytes piece seen t size h (steps.Kind k) e =
     let seen2 : SeenState = with_step seen (steps.Kind k) (words_in_hand t) in
-    let field : kind_of_number (le32 (h.part ++ piece) 0) ≡ k = ap (λ l. kind_of_number (le32 (l ++ piece) 0)) (no_bytes h.part h.hand.1) ∙ sym e in
+    let field : kind_of_number (le32 (h.part ++ piece) 0) ≡ k = ap (λ l. kind_of_number (le32 (l ++ piece) 0)) (nil_from_length h.part h.hand.1) ∙ sym e in
     subst (Has (InImage outer (AtHead o [])) [] (bytes ++ piece)) (sym (unhanded seen2 h.hand.0))
     (rest_has bytes piece h.front h.part h.split (h.long refl) (InImage outer (AtHead o [])) [] seen2 _ refl refl h.form (around_same outer seen.front seen2.front refl refl h.around)
     (subst (λ (m : KindOf). StandsBefore (h.front ++ (h.part ++ piece)) (record seen.front { kind = Some m }) (Some (Record 0))) field
     (domain_header h.front (h.part ++ piece) seen.front h.stands (omega (arith, size, h.hand.1, length-append h.part piece)))) (h.hand.0, refl))
-kind_passed outer n o bytes piece seen t size h steps.Piece e = absurd (apart (sym e.0))
+kind_passed outer n o bytes piece seen t size h steps.Piece e = absurd (true≢false (sym e.0))
 kind_passed outer n o bytes piece seen t size h _ e = absurd e
 
 -- ---- the end of a record
@@ -216,16 +203,16 @@ module _ (bytes piece : List ℕ) (seen : SeenState) (wrapped w : Bool) (head : 
 libxl_begun : (records : List LibxlRecord) (bytes piece : List ℕ) (seen : SeenState) (t : Relay) → length piece ≡ 8 → Has (AtLibxlHead records) [] bytes seen → (step : Step) → IsStep (AtLibxlHead records) piece t step → Has (AtLibxlBody records (head_in piece)) [] (bytes ++ piece) (with_end true (with_step seen step (words_in_hand t)))
 libxl_begun records bytes piece seen t size h (steps.Head w head) e =
     more_has bytes piece h.front h.part h.split (h.long refl) (AtLibxlBody records (head_in piece)) [] (with_step seen (steps.Head w head) (words_in_hand t)) _ refl refl h.form h.around h.stands
-    (begun_record true (head_in piece), begun_is bytes piece seen true w head e.0 e.1, headed (head_in piece) true h.part piece _ h.hand.1 size refl refl (λ paged. absurd (apart (sym paged)), λ _. (refl, refl)))
-libxl_begun records bytes piece seen t size h steps.Piece e = absurd (apart (sym e.0))
+    (begun_record true (head_in piece), begun_is bytes piece seen true w head e.0 e.1, headed (head_in piece) true h.part piece _ h.hand.1 size refl refl (λ paged. absurd (true≢false (sym paged)), λ _. (refl, refl)))
+libxl_begun records bytes piece seen t size h steps.Piece e = absurd (true≢false (sym e.0))
 libxl_begun records bytes piece seen t size h _ e = absurd e
 
 image_begun : (outer : Outer) (o : Opening) (records : List StreamRecord) (bytes piece : List ℕ) (seen : SeenState) (t : Relay) → length piece ≡ 8 → (head_in piece).kind ≢ 1 → Has (InImage outer (AtHead o records)) [] bytes seen → (step : Step) → IsStep (InImage outer (AtHead o records)) piece t step
     → Has (InImage outer (AtBody o records (head_in piece))) [] (bytes ++ piece) (with_end true (with_step seen step (words_in_hand t)))
 image_begun outer o records bytes piece seen t size other h (steps.Head w head) e =
     more_has bytes piece h.front h.part h.split (h.long refl) (InImage outer (AtBody o records (head_in piece))) [] (with_step seen (steps.Head w head) (words_in_hand t)) _ refl refl h.form h.around h.stands
-    (begun_record false (head_in piece), begun_is bytes piece seen false w head e.0 e.1, headed (head_in piece) false h.part piece _ h.hand.1 size refl refl (λ paged. absurd (apart (sym paged ∙ ne_eqb (head_in piece).kind 1 other)), λ _. (refl, refl)))
-image_begun outer o records bytes piece seen t size other h steps.Piece e = absurd (apart (sym e.0))
+    (begun_record false (head_in piece), begun_is bytes piece seen false w head e.0 e.1, headed (head_in piece) false h.part piece _ h.hand.1 size refl refl (λ paged. absurd (true≢false (sym paged ∙ ne_eqb (head_in piece).kind 1 other)), λ _. (refl, refl)))
+image_begun outer o records bytes piece seen t size other h steps.Piece e = absurd (true≢false (sym e.0))
 image_begun outer o records bytes piece seen t size other h _ e = absurd e
 
 pages_begun : (outer : Outer) (o : Opening) (records : List StreamRecord) (bytes piece : List ℕ) (seen : SeenState) (t : Relay) → length piece ≡ 8 → (head_in piece).kind ≡ 1 → Has (InImage outer (AtHead o records)) [] bytes seen → (step : Step) → IsStep (InImage outer (AtHead o records)) piece t step
@@ -233,26 +220,26 @@ pages_begun : (outer : Outer) (o : Opening) (records : List StreamRecord) (bytes
 pages_begun outer o records bytes piece seen t size one h (steps.Head w head) e =
     more_has bytes piece h.front h.part h.split (h.long refl) (InImage outer (AtFront o records (head_in piece))) [] (with_step seen (steps.Head w head) (words_in_hand t)) _ refl refl h.form h.around h.stands
     (begun_record false (head_in piece), begun_is bytes piece seen false w head e.0 e.1, headed (head_in piece) false h.part piece _ h.hand.1 size refl refl {d = CountDue} (refl, eq-eqb (head_in piece).kind 1 one))
-pages_begun outer o records bytes piece seen t size one h steps.Piece e = absurd (apart (sym e.0))
+pages_begun outer o records bytes piece seen t size one h steps.Piece e = absurd (true≢false (sym e.0))
 pages_begun outer o records bytes piece seen t size one h _ e = absurd e
 
 -- a head that is a whole record
 empty_stands : (piece part : List ℕ) (wrapped : Bool) → length part ≡ 0 → length piece ≡ 8 → (head_in piece).len ≡ 0 → is_page_data (begun_record wrapped (head_in piece)) ≡ false → StandsWhole wrapped (part ++ piece) (begun_record wrapped (head_in piece))
 empty_stands piece part wrapped none size empty plain =
-    finished (head_in piece) wrapped piece [] (part ++ piece) (begun_record wrapped (head_in piece)) (ap (λ l. l ++ piece) (no_bytes part none) ∙ sym (append-nil piece)) size refl refl refl refl (omega (arith, empty, ap padding_len empty)) (λ paged. absurd (apart (sym paged ∙ plain)), λ _. (refl, refl))
+    finished (head_in piece) wrapped piece [] (part ++ piece) (begun_record wrapped (head_in piece)) (ap (λ l. l ++ piece) (nil_from_length part none) ∙ sym (append-nil piece)) size refl refl refl refl (omega (arith, empty, ap padding_len empty)) (λ paged. absurd (true≢false (sym paged ∙ plain)), λ _. (refl, refl))
 
 libxl_ended : (records : List LibxlRecord) (next : Spot) (bytes piece : List ℕ) (seen : SeenState) (t : Relay) → length piece ≡ 8 → (head_in piece).len ≡ 0 → ComesBehind (AtLibxlHead records) (head_in piece).kind next → Has (AtLibxlHead records) [] bytes seen → (step : Step) → IsStep (AtLibxlHead records) piece t step
     → Has next [] (bytes ++ piece) (with_end (is_some (in_hand next)) (with_step seen step (words_in_hand t)))
 libxl_ended records next bytes piece seen t size empty behind h (steps.Head w head) e =
     ended behind bytes piece h.front h.part (with_step seen (steps.Head w head) (words_in_hand t)) (begun_record true (head_in piece)) h.split (h.long refl) h.form h.stands h.around (empty_stands piece h.part true h.hand.1 size empty refl) refl (begun_is bytes piece seen true w head e.0 e.1)
-libxl_ended records next bytes piece seen t size empty behind h steps.Piece e = absurd (apart (sym e.0))
+libxl_ended records next bytes piece seen t size empty behind h steps.Piece e = absurd (true≢false (sym e.0))
 libxl_ended records next bytes piece seen t size empty behind h _ e = absurd e
 
 image_ended : (outer : Outer) (o : Opening) (records : List StreamRecord) (next : Spot) (bytes piece : List ℕ) (seen : SeenState) (t : Relay) → length piece ≡ 8 → (head_in piece).len ≡ 0 → (head_in piece).kind ≢ 1 → ComesBehind (InImage outer (AtHead o records)) (head_in piece).kind next → Has (InImage outer (AtHead o records)) [] bytes seen
     → (step : Step) → IsStep (InImage outer (AtHead o records)) piece t step → Has next [] (bytes ++ piece) (with_end (is_some (in_hand next)) (with_step seen step (words_in_hand t)))
 image_ended outer o records next bytes piece seen t size empty other behind h (steps.Head w head) e =
     ended behind bytes piece h.front h.part (with_step seen (steps.Head w head) (words_in_hand t)) (begun_record false (head_in piece)) h.split (h.long refl) h.form h.stands h.around (empty_stands piece h.part false h.hand.1 size empty (ne_eqb (head_in piece).kind 1 other)) refl (begun_is bytes piece seen false w head e.0 e.1)
-image_ended outer o records next bytes piece seen t size empty other behind h steps.Piece e = absurd (apart (sym e.0))
+image_ended outer o records next bytes piece seen t size empty other behind h steps.Piece e = absurd (true≢false (sym e.0))
 image_ended outer o records next bytes piece seen t size empty other behind h _ e = absurd e
 
 -- ---- more of a record
@@ -337,7 +324,7 @@ grows here begun bytes piece head seen t hand counted full h step e = by (held_s
             },
             omega (arith, fills, number, ap (count_by word_has_data) ws),
           ),
-          λ plain. absurd (apart (sym d.2 ∙ plain)),
+          λ plain. absurd (true≢false (sym d.2 ∙ plain)),
         )
 
     by : ((step ≡ steps.Piece) × (due here ≢ CountDue → due here ≡ NothingDue)) ⊎ ((step ≡ steps.Words) × (n : ℕ) × (due here ≡ WordsDue n) × (words_in_hand t ≡ words n piece) × (length piece ≡ 8 * n)) → ShowsNoLess here begun piece h.part head seen (with_step seen step (words_in_hand t))

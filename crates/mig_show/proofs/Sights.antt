@@ -1,5 +1,7 @@
 -- What a viewer has seen while the relay goes on, and at its end.
-use Rattle.mig_show.proofs.Common.{arith, ◌≡◌, ◌≢◌, ℕ, Bool, true, false, List, [], ◌∷◌, ◌++◌, length, Option, Some, None, Ok, refl, sym, ap, subst, ◌∙◌, append_assoc, append-nil, is_some, IfOk, Consumes, Cause, Place, ImageHeader, in_hand, words_in_hand, Next, AtMarker, AtVersion, AtKind, AtHead, AtBody, AtFront, AtWords, AtPages, AtPadding, Outer, Spot, AtStart, AtLibxlHeader, AtLibxlHead, AtLibxlBody, AtLibxlPadding, InImage, AtEnd, begins_with_ident, StepSays, Step, Relay, ShownFront, StandsBefore, of_form, image_first, SeenState, with_step, with_end, Shows, RisesOnShow, front_tree, Err, RisesOnFault, Keeps, KeepsNext, StandsForBytes, PassesOn, IsRefusedBehind, IsNotRefused, is_at_end, is_at_start, ended_by, ShowsRefused}
+use Rattle.mig_show.proofs.Common.{◌≡◌, ◌≢◌, ℕ, Bool, true, false, List, [], ◌++◌, Option, Some, None, Ok, refl, sym, ap, subst, ◌∙◌, append_assoc, append-nil, is_some, IfOk, Consumes, Cause, Place, ImageHeader, in_hand, words_in_hand, Next, AtMarker, AtVersion, AtKind, AtHead, AtBody, AtFront, AtWords, AtPages, AtPadding, Outer, Spot, AtStart, AtLibxlHeader, AtLibxlHead, AtLibxlBody, AtLibxlPadding, InImage, AtEnd, begins_with_ident, StepSays, Step, Relay, ShownFront, StandsBefore, of_form, image_first, SeenState, with_step, with_end, Shows, RisesOnShow, front_tree, Err, RisesOnFault, Keeps, KeepsNext, StandsForBytes, PassesOn, IsRefusedBehind, IsNotRefused, is_at_end, is_at_start, ended_by, ShowsRefused}
+use Rattle.std.proofs.lemmas.Bool.{true≢false}
+use Rattle.std.proofs.lemmas.List.{nil_from_length}
 use Rattle.std.specs.Prelude.{◌≤◌}
 use Rattle.mig_bytes.specs.Faults.{Rose}
 use Rattle.mig_relay.specs.Streams.{open_stream_at}
@@ -22,9 +24,6 @@ none_taken : (old : Option (List ℕ)) → Consumes old old []
 none_taken None = tt
 none_taken (Some l) = refl
 
-apart : true ≡ false → ⊥
-apart e = cc
-
 -- nothing yet
 pub looks_first : (r : Relay) (seen : SeenState) (old : Option (List ℕ)) → Keeps r AtStart [] → StandsForBytes r [] → seen.front ≡ of_form false → seen.hand ≡ None → Looks r seen old old
 looks_first r seen old keeps stands front hand = record {
@@ -38,7 +37,7 @@ looks_first r seen old keeps stands front hand = record {
     hand = (hand, refl);
     around = front;
     form = ap (λ (f : ShownFront). f.wrapper) front;
-    long = λ never. absurd (apart never);
+    long = λ never. absurd (true≢false never);
     none = λ _. refl;
   };
   taken = none_taken old;
@@ -78,18 +77,14 @@ end_image r outer (AtPadding o records head content) begun k = ap is_at_end k.0
 
 -- what was seen of a whole stream
 whole_seen : (r : Relay) (here : Spot) (begun bytes : List ℕ) (seen : SeenState) → Keeps r here begun → is_at_end r.coming ≡ true → Has here begun bytes seen → StandsBefore bytes seen.front None
-whole_seen r AtStart begun bytes seen k over h = absurd (apart (sym over ∙ ap is_at_end k.0))
-whole_seen r AtLibxlHeader begun bytes seen k over h = absurd (apart (sym over ∙ ap is_at_end k.0))
-whole_seen r (AtLibxlHead records) begun bytes seen k over h = absurd (apart (sym over ∙ ap is_at_end k.0))
-whole_seen r (AtLibxlBody records head) begun bytes seen k over h = absurd (apart (sym over ∙ ap is_at_end k.0))
-whole_seen r (AtLibxlPadding records head content) begun bytes seen k over h = absurd (apart (sym over ∙ ap is_at_end k.0))
-whole_seen r (InImage outer next) begun bytes seen (around, k) over h = absurd (apart (sym over ∙ end_image r outer next begun k))
+whole_seen r AtStart begun bytes seen k over h = absurd (true≢false (sym over ∙ ap is_at_end k.0))
+whole_seen r AtLibxlHeader begun bytes seen k over h = absurd (true≢false (sym over ∙ ap is_at_end k.0))
+whole_seen r (AtLibxlHead records) begun bytes seen k over h = absurd (true≢false (sym over ∙ ap is_at_end k.0))
+whole_seen r (AtLibxlBody records head) begun bytes seen k over h = absurd (true≢false (sym over ∙ ap is_at_end k.0))
+whole_seen r (AtLibxlPadding records head content) begun bytes seen k over h = absurd (true≢false (sym over ∙ ap is_at_end k.0))
+whole_seen r (InImage outer next) begun bytes seen (around, k) over h = absurd (true≢false (sym over ∙ end_image r outer next begun k))
 whole_seen r (AtEnd s) begun bytes seen k over h =
-    subst (λ l. StandsBefore l seen.front None) (sym (h.split ∙ ap (λ l. h.front ++ l) (no_bytes h.part h.hand.1) ∙ append-nil h.front)) h.stands
-  where
-    no_bytes : (l : List ℕ) → length l ≡ 0 → l ≡ []
-    no_bytes [] none = refl
-    no_bytes (b ∷ bs) none = absurd (omega (arith, none))
+    subst (λ l. StandsBefore l seen.front None) (sym (h.split ∙ ap (λ l. h.front ++ l) (nil_from_length h.part h.hand.1) ∙ append-nil h.front)) h.stands
 
 pub shows_whole : (r t : Relay) (seen : SeenState) (old mid new before now : Option (List ℕ)) (l : Looks r seen old mid) → StepSays l.stands.here l.stands.begun l.bytes r t mid new before now (Ok steps.Done) → Shows old new None (front_tree seen.front None)
 shows_whole r t seen old mid new before now l (s, passable, stays, quiet, has) = record {
