@@ -139,6 +139,7 @@ fn status(outcome: Outcome) -> Status
 }
 
 /// Puts a text and a number behind it.
+#[tactic(auto, using(mig_bytes::proofs::Texts::puts_then, mig_bytes::proofs::Texts::puts_part))]
 fn put_field<R: Sink>(report: &mut R, text: &[u8], number: u64) -> Result<(), WriteFailed>
     ensures bytes { Puts (text.now ++ decimal number) (R.written report.old) (R.written report.new) result }
     ensures cause { FaultHasCause (R.faults report.old) (R.faults report.new) result }
@@ -328,6 +329,7 @@ pub fn put_checked_legacy<R: Sink>(report: &mut R, frames: u64) -> Result<(), Wr
 }
 
 /// Puts a line of two fields.
+#[tactic(auto, using(mig_bytes::proofs::Texts::puts_then, mig_bytes::proofs::Texts::puts_part))]
 fn put_two_fields<R: Sink>(
     report: &mut R,
     first: &[u8],
