@@ -1,5 +1,5 @@
 -- What a relay keeps behind the first parts of a stream.
-use Rattle.mig_relay.proofs.Common.{◌≡◌, ℕ, ◌≤◌, Bool, List, [], ◌++◌, length, take, true, false, cond, Option, None, Some, Ok, Err, refl, sym, ap, subst, ◌∙◌, arith, ◌&&◌, leb-true, AgreesWithJudging, part, Stop, part_passes, fault_of_marker, Cause, Truncated, ImageHeader, Kind, image_among, before, opening_of, IsSeen, RecordsSeen, LibxlRecord, KeepsRecords, KeepsWrapper, HasNumber, AtVersion, Alone, AtLibxlHeader, InImage, spot, is_ident, fault_of_first, IsNotRefused, answer_of, Relay, begins_with_ident}
+use Rattle.mig_relay.proofs.Common.{◌≡◌, ℕ, ◌≤◌, List, [], ◌++◌, length, take, true, false, cond, Option, None, Some, Ok, Err, refl, sym, ap, ◌∙◌, arith, leb-true, AgreesWithJudging, part, Stop, part_passes, fault_of_marker, Cause, Truncated, ImageHeader, Kind, before, opening_of, IsSeen, KeepsRecords, KeepsWrapper, AtVersion, Alone, AtLibxlHeader, InImage, spot, is_ident, fault_of_first, IsNotRefused, answer_of, Relay, begins_with_ident}
 use Rattle.std.specs.Prelude.{nat_le}
 use Rattle.std.proofs.Math.Seq.{take-append_seam}
 use Rattle.std.proofs.lemmas.Bool.{and_parts}
