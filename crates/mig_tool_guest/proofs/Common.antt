@@ -28,7 +28,7 @@ pub use Rattle.mig_tool_report.proofs.Promises.{finished, input_same, line_put, 
 pub use Rattle.mig_tool_report.proofs.Statuses.{line_reported, says_of}
 pub use Rattle.mig_tool_report.specs.Outcome.{IsUnwritten, line_of, status_of}
 pub use Rattle.mig_tool_report.specs.Promises.{CarriedOut, ComesTo, Effects, IsUntouched, Promise, SinkEffect, effects, input_effect, reports_line, sink_effect, unreached}
-pub use Rattle.mig_tool_report.specs.Statuses.{InputRises, OutcomeSays, OutputRises, PutsLineOf, PutsLineOrFault, Refusing, StatusSays}
+pub use Rattle.mig_tool_report.specs.Statuses.{InputRises, OutcomeSays, OutputRises, PutsLineOf, PutsLineOrFault, PutsSome, Refusing, StatusSays}
 pub use Rattle.mig_tool_report.specs.Words.{IsBase}
 pub use Rattle.mig_tool_report.specs.declared.outcome.Outcome.{Outcome}
 pub use Rattle.mig_tool_report.specs.declared.outcome.Refusal.{Refusal}
@@ -41,4 +41,4 @@ pub use Rattle.mig_host_view.specs.Sound.{IsSound, unsoundness}
 pub use Rattle.mig_libxl_form.proofs.Laws.{accepted_is_stream, never_both, one_front}
 pub use Rattle.mig_tool_guest.specs.Relays.{FrontRelayed, OutputStopped, PassableFront, PassedOn, ReportStopped, SaysRelayed, counts_of}
 pub use Rattle.mig_tool_guest.specs.Shown.{FrontShown, IsShown, PartShown, SaysShown}
-pub use Rattle.mig_tool_report.specs.Report.{Reports, ok_line, relayed_line, walked_line}
+pub use Rattle.mig_tool_report.specs.Report.{Reports, ok_line, relayed_line, walked_line, write_fault_line}

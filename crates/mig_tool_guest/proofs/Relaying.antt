@@ -1,5 +1,5 @@
 -- What a relay's answer says.
-use Rattle.mig_tool_guest.proofs.Common.{◌≡◌, ◌⊎◌, ℕ, List, Option, Some, None, sym, subst, arith, line_reported, says_of, CarriedOut, Effects, HasOpenRefusal, InputRises, relay_promise, inl, inr, Appends, AppendsPart, Passes, Cause, Place, StreamOf, status_of, Outcome, Status, ◌++◌, Ok, Err, refl, ap, ◌∙◌, PutsLineOrFault, Consumes, Rose, ◌≤◌, ◌≢◌, line_of, Reports, relayed_line, Refusal, FrontRelayed, OutputStopped, ReportStopped, PassableFront, PassedOn, SaysRelayed, counts_of}
+use Rattle.mig_tool_guest.proofs.Common.{◌≡◌, ◌⊎◌, ℕ, List, Option, Some, None, sym, subst, arith, line_reported, says_of, CarriedOut, Effects, HasOpenRefusal, InputRises, relay_promise, inl, inr, Appends, AppendsPart, Passes, Cause, Place, StreamOf, status_of, Outcome, Status, ◌++◌, Ok, Err, refl, ap, ◌∙◌, PutsLineOrFault, PutsSome, Consumes, Rose, ◌≤◌, ◌≢◌, line_of, Reports, relayed_line, write_fault_line, Refusal, FrontRelayed, OutputStopped, ReportStopped, PassableFront, PassedOn, SaysRelayed, counts_of}
 use Rattle.mig_tool_guest.proofs.Says.{RelayComes, RelaySays}
 use Rattle.mig_relay.specs.Streams.{open_stream_at, IsOpenRefused}
 use Rattle.mig_relay.specs.Relaying.{PassedWhole, IsRelayed, RisesOnAnswer}
@@ -65,64 +65,43 @@ unpassed_says told left old new answers.Memory r = r.is
 abbrev AnswerRises : Effects → RelayAnswer → Type 0
 AnswerRises e answer = RisesOnAnswer {X = Relayed} e.input.failed e.input.failed_now e.out.failed e.out.failed_now (Err answer)
 
+-- the line that says so was put, or a part of it
+put_some : (e : Effects) → Reports write_fault_line e.report.old e.report.new e.report.failed e.report.failed_now → PutsSome write_fault_line e.report.old e.report.new
+put_some e (inl put) = inl put.1
+put_some e (inr put) = inr put.2
+
+-- what is so with each answer, where the line of its outcome was put
+record IsAnswered (e : Effects) (answer : RelayAnswer) : Type 0 where
+  known : status_of (outcome_of_relay answer) ≢ statuses.Usage
+  undone : status_of (outcome_of_relay answer) ≡ statuses.Done → ⊥
+  read : InputRises (status_of (outcome_of_relay answer)) e.input.failed e.input.failed_now
+  out : e.out.failed ≤ e.out.failed_now
+  own : PutsLineOrFault relayed_line e.report.old e.report.new (status_of (outcome_of_relay answer))
+  stopped : status_of (outcome_of_relay answer) ≡ statuses.WriteFault → OutputStopped e
+
+answered : (e : Effects) (answer : RelayAnswer) → IsRelayed e.input.told e.input.left e.out.old e.out.new (Err answer) → AnswerRises e answer → Reports (line_of (outcome_of_relay answer)) e.report.old e.report.new e.report.failed e.report.failed_now → IsAnswered e answer
+answered e (answers.Refused place cause) r rises line = record { known = λ u. cc; undone = λ d. cc; read = rises.0; out = omega (arith, rises.1); own = tt; stopped = λ f. cc }
+answered e answers.ReadFault r rises line = record { known = λ u. cc; undone = λ d. cc; read = (rises.0, rises.1); out = rises.2; own = tt; stopped = λ f. cc }
+answered e answers.WriteFault r rises line = record { known = λ u. cc; undone = λ d. cc; read = rises.0; out = rises.1; own = inr (put_some e line); stopped = λ _. record { rose = rises.2; part = r.is.0; line = line } }
+answered e answers.Memory r rises line = record { known = λ u. cc; undone = λ d. cc; read = rises.0; out = omega (arith, rises.1); own = tt; stopped = λ f. cc }
+
 -- what came of a stream that wasn't passed on to its end: the line of its outcome is put
 unpassed_status : (e : Effects) (answer : RelayAnswer) → IsRelayed e.input.told e.input.left e.out.old e.out.new (Err answer) → RisesOnAnswer {X = Relayed} e.input.failed e.input.failed_now e.out.failed e.out.failed_now (Err answer)
     → Reports (line_of (outcome_of_relay answer)) e.report.old e.report.new e.report.failed e.report.failed_now → e.report.failed ≤ e.report.failed_now → CarriedOut relay_promise e (status_of (outcome_of_relay answer))
-unpassed_status e answer r rises line later = record {
-  said = says_of (λ input. relay_promise.Done input e) (λ input. relay_promise.DonePart input e) HasOpenRefusal e.input.told e.input.left (outcome_of_relay answer) _ refl (unpassed e.input.told e answer r);
-  known = known answer;
-  kept = λ never. absurd (never tt);
-  read = read answer rises;
-  write = λ failed. inl (write answer rises failed);
-  line = λ _. line_reported (λ input. relay_promise.Done input e) (λ input. relay_promise.DonePart input e) HasOpenRefusal e.input.told e.input.left (outcome_of_relay answer) _ _ _ _ _ refl (unpassed e.input.told e answer r) line;
-  own_line = own answer line;
-  out_faults = record { later = out answer rises; done = λ d. absurd (never_done answer d) };
-  report_faults = record { later = later; done = λ d. absurd (never_done answer d) };
-  besides = record { says = unpassed_says e.input.told e.input.left e.out.old e.out.new answer r; broke = λ failed. inl (stopped answer r rises line failed) };
-}
-  where
-    known : (answer : RelayAnswer) → status_of (outcome_of_relay answer) ≢ statuses.Usage
-    known (answers.Refused place cause) u = cc
-    known answers.ReadFault u = cc
-    known answers.WriteFault u = cc
-    known answers.Memory u = cc
-
-    never_done : (answer : RelayAnswer) → status_of (outcome_of_relay answer) ≡ statuses.Done → ⊥
-    never_done (answers.Refused place cause) d = cc
-    never_done answers.ReadFault d = cc
-    never_done answers.WriteFault d = cc
-    never_done answers.Memory d = cc
-
-    read : (answer : RelayAnswer) → AnswerRises e answer → InputRises (status_of (outcome_of_relay answer)) e.input.failed e.input.failed_now
-    read (answers.Refused place cause) rises = rises.0
-    read answers.ReadFault rises = (rises.0, rises.1)
-    read answers.WriteFault rises = rises.0
-    read answers.Memory rises = rises.0
-
-    out : (answer : RelayAnswer) → AnswerRises e answer → e.out.failed ≤ e.out.failed_now
-    out (answers.Refused place cause) rises = omega (arith, rises.1)
-    out answers.ReadFault rises = rises.2
-    out answers.WriteFault rises = rises.1
-    out answers.Memory rises = omega (arith, rises.1)
-
-    write : (answer : RelayAnswer) → AnswerRises e answer → status_of (outcome_of_relay answer) ≡ statuses.WriteFault → Rose e.out.failed e.out.failed_now
-    write (answers.Refused place cause) rises failed = cc
-    write answers.ReadFault rises failed = cc
-    write answers.WriteFault rises failed = rises.2
-    write answers.Memory rises failed = cc
-
-    own : (answer : RelayAnswer) → Reports (line_of (outcome_of_relay answer)) e.report.old e.report.new e.report.failed e.report.failed_now → PutsLineOrFault relayed_line e.report.old e.report.new (status_of (outcome_of_relay answer))
-    own (answers.Refused place cause) line = tt
-    own answers.ReadFault line = tt
-    own answers.WriteFault (inl put) = inr (inl put.1)
-    own answers.WriteFault (inr put) = inr (inr put.2)
-    own answers.Memory line = tt
-
-    stopped : (answer : RelayAnswer) → IsRelayed e.input.told e.input.left e.out.old e.out.new (Err answer) → AnswerRises e answer → Reports (line_of (outcome_of_relay answer)) e.report.old e.report.new e.report.failed e.report.failed_now → status_of (outcome_of_relay answer) ≡ statuses.WriteFault → OutputStopped e
-    stopped (answers.Refused place cause) r rises line failed = cc
-    stopped answers.ReadFault r rises line failed = cc
-    stopped answers.WriteFault r rises line failed = record { rose = rises.2; part = r.is.0; line = line }
-    stopped answers.Memory r rises line failed = cc
+unpassed_status e answer r rises line later =
+    let a = answered e answer r rises line in
+    record {
+      said = says_of (λ input. relay_promise.Done input e) (λ input. relay_promise.DonePart input e) HasOpenRefusal e.input.told e.input.left (outcome_of_relay answer) _ refl (unpassed e.input.told e answer r);
+      known = a.known;
+      kept = λ never. absurd (never tt);
+      read = a.read;
+      write = λ failed. inl (a.stopped failed).rose;
+      line = λ _. line_reported (λ input. relay_promise.Done input e) (λ input. relay_promise.DonePart input e) HasOpenRefusal e.input.told e.input.left (outcome_of_relay answer) _ _ _ _ _ refl (unpassed e.input.told e answer r) line;
+      own_line = a.own;
+      out_faults = record { later = a.out; done = λ d. absurd (a.undone d) };
+      report_faults = record { later = later; done = λ d. absurd (a.undone d) };
+      besides = record { says = unpassed_says e.input.told e.input.left e.out.old e.out.new answer r; broke = λ failed. inl (a.stopped failed) };
+    }
 
 pub unpassed_carried : (e : Effects) (answer : RelayAnswer) (outcome : Outcome) (status : Status) → outcome ≡ outcome_of_relay answer → status ≡ status_of outcome → IsRelayed e.input.told e.input.left e.out.old e.out.new (Err answer)
     → RisesOnAnswer {X = Relayed} e.input.failed e.input.failed_now e.out.failed e.out.failed_now (Err answer) → Reports (line_of outcome) e.report.old e.report.new e.report.failed e.report.failed_now → e.report.failed ≤ e.report.failed_now → CarriedOut relay_promise e status
