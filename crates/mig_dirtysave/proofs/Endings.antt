@@ -1,5 +1,8 @@
 -- How a save ends, by the answer of the step that ended it.
 use Rattle.mig_dirtysave.proofs.Common.{◌≡◌, ℕ, ◌≤◌, List, Option, Some, true, sym, ap, subst, ◌∙◌, arith, Result, Ok, Err, length, length-map, HostOf, MachineState, Unsound, UnsoundHas, is_of_no_type, unsoundness, entries_read, FrameTold, all_told, FramesSaved, KeepsShape, OnlyLooksUp, IsLittleBehind, IsTrusted, IsErrAnd, no_history, IsSameShape, all_read, HasRounds, IfUnsound, LeavesNoStream, PausesMachine, SaveEnds, SaveAnswer}
+use Rattle.mig_dirtysave.specs.SaveAnswers.{answer_to}
+use Rattle.mig_dirtysave_rounds.specs.declared.found.SendFault.{SendFault}
+use Rattle.mig_dirtysave_rounds.specs.declared.found.SendFault.TheVariants as faults
 use Rattle.mig_dirtysave.specs.declared.answer.SaveAnswer.TheVariants as answers
 use Rattle.mig_dirtysave.specs.declared.answer.SaveReport.{SaveReport}
 use Rattle.mig_dirtysave.proofs.Ends.{Stopped, nothing_read, stopped_behind, stopped_no_stream}
@@ -26,14 +29,10 @@ module _ (s t : MachineState) (old new : Option (List ℕ)) where
   pub ends_unwritten : (r : Result SaveReport SaveAnswer) → IsErrAnd r (λ x. x ≡ answers.WriteFault) → LeavesNoStream s t old new → SaveEnds s t old new r
   ends_unwritten r same left = passed_on r answers.WriteFault same left
 
-  -- by a step that judges nothing
-  pub ends_unjudged : (r : Result SaveReport SaveAnswer) (e : SaveAnswer) → IsErrAnd r (λ x. x ≡ e) → IfUnsound {X = Unit {0}} (Err e) (λ u. ⊥) → LeavesNoStream s t old new → SaveEnds s t old new r
-  ends_unjudged r e same none left = passed_on r e same (by e none)
-    where
-      by : (a : SaveAnswer) → IfUnsound {X = Unit {0}} (Err a) (λ u. ⊥) → SaveEnds s t old new (Err a)
-      by (answers.Unsound u) none = absurd none
-      by answers.MachineFault none = left
-      by answers.WriteFault none = left
+  -- by rounds that failed
+  pub ends_unsent : (r : Result SaveReport SaveAnswer) (fault : SendFault) → IsErrAnd r (λ x. x ≡ answer_to fault) → LeavesNoStream s t old new → SaveEnds s t old new r
+  ends_unsent r faults.MachineFault same left = passed_on r answers.MachineFault same left
+  ends_unsent r faults.WriteFault same left = passed_on r answers.WriteFault same left
 
 -- ---- a paused machine of which machine frames were looked up since
 

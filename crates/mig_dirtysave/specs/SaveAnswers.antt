@@ -7,6 +7,8 @@ use Rattle.mig_dirtysave.specs.Unread.{WroteNoStream}
 use Rattle.mig_dirtysave.specs.declared.answer.SaveAnswer.{SaveAnswer}
 use Rattle.mig_dirtysave.specs.declared.answer.SaveReport.{SaveReport}
 use Rattle.mig_dirtysave.specs.declared.answer.SaveAnswer.TheVariants as answers
+use Rattle.mig_dirtysave_rounds.specs.declared.found.SendFault.{SendFault}
+use Rattle.mig_dirtysave_rounds.specs.declared.found.SendFault.TheVariants as faults
 
 -- what is answered as wrong with the host, where the answer says so
 abbrev pub IfUnsound : {X : Type 0} → Result X SaveAnswer → (Unsound → Type 0) → Type 0
@@ -14,6 +16,11 @@ IfUnsound (Ok x) P = Unit {0}
 IfUnsound (Err (answers.Unsound u)) P = P u
 IfUnsound (Err answers.MachineFault) P = Unit {0}
 IfUnsound (Err answers.WriteFault) P = Unit {0}
+
+-- what a save answers where its rounds failed
+abbrev pub answer_to : SendFault → SaveAnswer
+answer_to faults.MachineFault = answers.MachineFault
+answer_to faults.WriteFault = answers.WriteFault
 
 -- the types that a saver saw last are those of the host's frames: the machine is honest, or no type is asked of an HVM host
 abbrev pub IsTrusted : MachineState → Type 0

@@ -2,6 +2,7 @@ ghost use Rattle.std.specs.Prelude.{◌≡◌};
 ghost use Rattle.mig_dirtysave.specs.declared.answer.SaveAnswer.TheVariants.{WriteFault};
 
 use mig_bytes::WriteFailed;
+use mig_dirtysave_rounds::SendFault;
 use mig_headers::Unsound;
 use thiserror::Error;
 
@@ -33,5 +34,18 @@ impl From<WriteFailed> for SaveAnswer {
 
     fn from(_failed: WriteFailed) -> SaveAnswer {
         SaveAnswer::WriteFault
+    }
+}
+
+impl From<SendFault> for SaveAnswer {
+    ghost use Rattle.mig_dirtysave.specs.SaveAnswers.{answer_to};
+
+    ghost from_gives = { λ fault answer. answer ≡ answer_to fault };
+
+    fn from(fault: SendFault) -> SaveAnswer {
+        match fault {
+            SendFault::MachineFault => SaveAnswer::MachineFault,
+            SendFault::WriteFault => SaveAnswer::WriteFault,
+        }
     }
 }

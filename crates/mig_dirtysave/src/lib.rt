@@ -26,7 +26,6 @@ mod listing;
 mod lookup;
 mod pause_law;
 mod saver;
-mod steps;
 mod unended_law;
 mod viewed_law;
 mod viewing;

@@ -28,10 +28,7 @@ fn look_up<M: Machine>(machine: &mut M, mfn: u64) -> Result<Option<u64>, Failed>
     ensures later { M.Later machine.old machine.new }
     ensures cause { FaultHasCause (M.faults machine.old) (M.faults machine.new) result }
 {
-    match machine.pfn_of(mfn) {
-        Ok(pfn) => Ok(pfn),
-        Err(fault) => Err(fault),
-    }
+    machine.pfn_of(mfn)
 }
 
 /// The PFN that has a machine frame of a paused machine, where its frame is of the type of a field.
@@ -50,13 +47,7 @@ pub(crate) fn pfn_for_field<M: Machine>(
     ensures cause { FaultHasCause (M.faults machine.old) (M.faults machine.new) result }
 {
     match look_up(machine, mfn)? {
-        Some(pfn) => {
-            if is_type_of_field(field, type_seen(types, pfn)) {
-                Ok(Some(pfn))
-            } else {
-                Ok(None)
-            }
-        }
-        None => Ok(None),
+        Some(pfn) if is_type_of_field(field, type_seen(types, pfn)) => Ok(Some(pfn)),
+        _ => Ok(None),
     }
 }

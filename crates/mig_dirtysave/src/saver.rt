@@ -6,10 +6,10 @@ ghost use Rattle.mig_dirtysave.specs.declared.answer.SaveAnswer.TheVariants.{Mac
 
 use crate::answer::{SaveAnswer, SaveReport};
 use crate::closing::close;
-use crate::steps::send;
+use crate::judging::host_is_valid;
 use mig_bytes::{Memory, Sink};
 use mig_dirtysave_parts::{copy_parts, make_marks, write_before};
-use mig_dirtysave_rounds::Room;
+use mig_dirtysave_rounds::{Room, send_frames};
 use mig_guest::Guest;
 use mig_guest::mig_machine_api::Machine;
 use mig_libxl::{write_closing, write_opening};
@@ -105,7 +105,9 @@ fn save<M: Machine, K: Sink>(
 {
     write_opening(sink, settings)?;
     write_before(sink, early)?;
-    let sent = send(machine, sink, room)?;
+    host_is_valid(machine);
+    let sent = send_frames(machine, sink, room)?;
+    host_is_valid(machine);
     close(machine, sink, settings, marks, &sent)?;
     write_closing(sink, settings)?;
     Ok(SaveReport {
