@@ -31,7 +31,7 @@ pub use Rattle.mig_host_view.specs.RenamedContexts.{field_named, renamed_context
 pub use Rattle.mig_host_view.specs.Sound.{IsSound, absent, fault_in, needed_keys, unsound_rows, unsoundness}
 pub use Rattle.mig_host_view.specs.View.{guest_in, view, without_machine}
 pub use Rattle.mig_pvtables.proofs.BlankSays.{field_there, place_field}
-pub use Rattle.mig_pvtables.proofs.Common.{Blank, Bool, Entry, Frame, FrameMap, FrameOf, GuestOf, Hvm, IsFormed, IsSome, IsWhole, List, None, NotPresent, Option, PageType, PartKey, PartMap, Pv, Some, Superpage, TooManyFrames, [], ap, arith, blanked_context, blanked_part, blanked_shared, cases_lt, cond, count_in, each_stays, each_value, entry, eq-eqb, eqb-true, false, fault_of_guest, faults_for, field_at, field_value, find, find_entry, find_p2m, find_slot, first_cause, first_some, fits_field, frame_of_field, gdt_ents, inl, inr, is_absent, is_none, is_notab, is_some, is_superpage, is_this, is_used, le-ltb, length, length_longs, level_of, list_any, listed, listed_in, long_at, long_of_longs, lt-ltb, ltb-true, most_frames, nat_cmp, nat_cmp-IsAntisymmetric, nat_cmp_total, nat_lt, not, option_map, option_or, p2m_key, part_cmp, part_exact, part_total, range_with_len, refl, shared_key, subst, suc, sym, true, type_at, value_blanked, vcpu_key, zero, ℕ, ◌%◌, ◌&&◌, ◌*◌, ◌+◌, ◌-◌, ◌/◌, ◌<◌, ◌==◌, ◌^◌, ◌||◌, ◌↔◌, ◌∙◌, ◌∷◌, ◌≡◌, ◌≤◌}
+pub use Rattle.mig_pvtables.proofs.Common.{Blank, Bool, Entry, Frame, FrameMap, FrameOf, GuestOf, Hvm, IsFormed, IsSome, IsWhole, List, None, NotPresent, Option, PageType, PartKey, PartMap, Pv, Some, Superpage, TooManyFrames, [], ap, arith, blanked_context, blanked_part, blanked_shared, cases_eq, cases_lt, cond, count_in, each_stays, each_value, entry, eq-eqb, eqb-true, false, fault_of_guest, faults_for, field_at, field_value, find, find_entry, find_p2m, find_slot, first_cause, first_some, fits_field, frame_of_field, gdt_ents, inl, inr, is_absent, is_none, is_notab, is_some, is_superpage, is_this, is_used, le-leb, le-ltb, length, length_longs, level_of, list_any, listed, listed_in, long_at, long_of_longs, lt-ltb, ltb-true, most_frames, nat_cmp, nat_cmp-IsAntisymmetric, nat_cmp_total, nat_le, nat_lt, ne_eqb, not, option_map, option_or, p2m_key, part_cmp, part_exact, part_total, put_long, range_with_len, refl, shared_key, subst, suc, sym, true, type_at, value_blanked, vcpu_key, zero, ℕ, ◌%◌, ◌&&◌, ◌*◌, ◌+◌, ◌-◌, ◌/◌, ◌<◌, ◌==◌, ◌^◌, ◌||◌, ◌↔◌, ◌∙◌, ◌∷◌, ◌≡◌, ◌≢◌, ◌≤◌}
 pub use Rattle.mig_pvtables.proofs.EachValue.{get_each, to_each}
 pub use Rattle.mig_pvtables.proofs.Moduli.{long_of_each}
 pub use Rattle.mig_pvtables.specs.BadEntries.{is_unknown}

@@ -1,9 +1,8 @@
 -- The four laws of fields: what a row says of values, row by row, and of fields in a context.
-use Rattle.mig_host_laws.proofs.Common.{recursion_from_All, AreBytes, Bytes, long_below, ◌≡◌, ℕ, ◌+◌, ◌-◌, ◌*◌, ◌/◌, ◌%◌, ◌^◌, ◌<◌, ◌≤◌, Bool, true, false, cond, not, List, length, Some, refl, sym, ap, subst, ◌∙◌, inl, inr, arith, nat_lt, ◌==◌, cases_lt, eqb-true, eq-eqb, long_at, long_of_longs, length_longs, field_at, is_used, Field, field_row, IsField, field_numbered, said_by, with_frame_in, longs, longs_bytes, field_there, IsNumbered}
+use Rattle.mig_host_laws.proofs.Common.{recursion_from_All, AreBytes, Bytes, long_below, ◌≡◌, ℕ, ◌+◌, ◌-◌, ◌*◌, ◌/◌, ◌%◌, ◌^◌, ◌<◌, ◌≤◌, Bool, true, false, cond, not, List, length, Some, refl, sym, ap, subst, ◌∙◌, inl, inr, arith, nat_lt, ◌==◌, cases_lt, eqb-true, eq-eqb, long_at, long_of_longs, length_longs, field_at, is_used, Field, field_row, IsField, field_numbered, said_by, with_frame_in, longs, longs_bytes, field_there, IsNumbered, ◌≢◌, nat_le, cases_eq, ne_eqb, le-leb, put_long}
 use Rattle.byteorder.specs.Endian.{little_bytes}
 use Rattle.mig_bytes.specs.Fields.{with_field}
 use Rattle.mig_guest.proofs.Longs.{longs_back, same_longs}
-use Rattle.mig_pvtables.proofs.Common.{◌≢◌, nat_le, cases_eq, ne_eqb, le-leb, put_long}
 use Rattle.mig_pvtables.specs.Faults.{is_notab, is_root}
 use Rattle.mig_host_laws.specs.Fields.Field.{Rdx, GdtFrame, Root, UserRoot}
 

@@ -368,23 +368,24 @@ module _ (s : Standing) where
       inr (inr (inr (inr (inr (inl (key, context, at, (code, (field, omega (arith, le), and_from _ _ uses (ap not other), refl, refl))))))))
   line_row _ _ (bad_context bytes fault at fails) = inr (inr (inr (inr (inr (inr (inl (bytes, fault, at, fails, refl, refl)))))))
 
+  -- what is so of each missing part is so of the first row
+  missed : {X : Type 0} (f : Unsound → X) (x : X) → ((code : ℕ) → f (causes.Missing code) ≡ x) → (k : ℕ) (c : Unsound) → Misses k c → f c ≡ x
+  missed f x so k c (inl h) = ap f h.2 ∙ so _
+  missed f x so k c (inr (inl h)) = ap f h.2 ∙ so _
+  missed f x so k c (inr (inr (inl h))) = ap f h.2 ∙ so _
+  missed f x so k c (inr (inr (inr h))) = ap f h.2 ∙ so _
+
   -- whatever finds superpages and entries without a name, the first of all rows is the first of all lines
   module _ (f g : Option Unsound) (of_large : Found Large f) (of_nameless : Found Nameless g) where
     all_rows : Found Rows (first_cause (row_1 s ∷ row_2 s ∷ f ∷ g ∷ row_5 s ∷ row_6 s ∷ row_7 s ∷ []))
     all_rows =
-        (firsts.row_then number_of_unsound 1 2 Misses _ _ _ (omega arith) misses_number row_1_named
+        (firsts.row_then number_of_unsound 1 2 Misses _ _ _ (omega arith) (missed number_of_unsound 1 (λ code. refl)) row_1_named
         (firsts.row_then number_of_unsound 2 3 IllListed _ _ _ (omega arith) (λ k c h. ap number_of_unsound h.4) row_2_named
         (firsts.row_then number_of_unsound 3 4 Large _ _ _ (omega arith) (λ k c h. ap number_of_unsound h.1.4) of_large
         (firsts.row_then number_of_unsound 4 5 Nameless _ _ _ (omega arith) (λ k c h. ap number_of_unsound h.1.4) of_nameless
         (firsts.row_then number_of_unsound 5 6 Many _ _ _ (omega arith) (λ k c h. ap number_of_unsound h.3.2) row_5_named
         (firsts.row_then number_of_unsound 6 7 Ill _ _ _ (omega arith) (λ k c h. ap number_of_unsound h.3.1.4) row_6_named
         (firsts.row_then number_of_unsound 7 8 Breaks _ _ _ (omega arith) (λ k c h. ap number_of_unsound h.5) row_7_named (firsts.no_rows number_of_unsound 8)))))))).least
-      where
-        misses_number : firsts.Numbered number_of_unsound 1 Misses
-        misses_number k c (inl h) = ap number_of_unsound h.2
-        misses_number k c (inr (inl h)) = ap number_of_unsound h.2
-        misses_number k c (inr (inr (inl h))) = ap number_of_unsound h.2
-        misses_number k c (inr (inr (inr h))) = ap number_of_unsound h.2
 
     pub rows_name : NamesFirstRow s (first_cause (row_1 s ∷ row_2 s ∷ f ∷ g ∷ row_5 s ∷ row_6 s ∷ row_7 s ∷ []))
     rows_name = firsts.turned number_of_unsound Rows (IsWrong s) _ all_rows row_line line_row
@@ -404,13 +405,7 @@ module _ (s : Standing) where
   LeftRows = Either Misses (Either IllListed (Either Nameless (Either Ill (λ k c. ⊥))))
 
   left_line : (k : ℕ) (c : Unsound) → LeftRows k c → Left k c
-  left_line k c (inl h) = (left_miss k c h, row_line k c (inl h))
-    where
-      left_miss : (k : ℕ) (c : Unsound) → Misses k c → is_left_at_end c ≡ true
-      left_miss k c (inl h) = ap is_left_at_end h.2
-      left_miss k c (inr (inl h)) = ap is_left_at_end h.2
-      left_miss k c (inr (inr (inl h))) = ap is_left_at_end h.2
-      left_miss k c (inr (inr (inr h))) = ap is_left_at_end h.2
+  left_line k c (inl h) = (missed is_left_at_end true (λ code. refl) k c h, row_line k c (inl h))
   left_line k c (inr (inl h)) = (ap is_left_at_end h.4, row_line k c (inr (inl h)))
   left_line k c (inr (inr (inl h))) = (ap is_left_at_end h.1.4, row_line k c (inr (inr (inr (inl h)))))
   left_line k c (inr (inr (inr (inl h)))) = (ap is_left_at_end h.3.1.4, row_line k c (inr (inr (inr (inr (inr (inl h)))))))
@@ -433,14 +428,8 @@ module _ (s : Standing) where
   pub left_named : (g : Option Unsound) → Found Nameless g → Found Left (first_cause (row_1 s ∷ row_2 s ∷ g ∷ row_6 s ∷ []))
   left_named g of_nameless =
       firsts.turned number_of_unsound LeftRows Left _
-      (firsts.row_then number_of_unsound 1 2 Misses _ _ _ (omega arith) misses_are_1 row_1_named
+      (firsts.row_then number_of_unsound 1 2 Misses _ _ _ (omega arith) (missed number_of_unsound 1 (λ code. refl)) row_1_named
       (firsts.row_then number_of_unsound 2 4 IllListed _ _ _ (omega arith) (λ k c h. ap number_of_unsound h.4) row_2_named
       (firsts.row_then number_of_unsound 4 6 Nameless _ _ _ (omega arith) (λ k c h. ap number_of_unsound h.1.4) of_nameless
       (firsts.row_then number_of_unsound 6 7 Ill _ _ _ (omega arith) (λ k c h. ap number_of_unsound h.3.1.4) row_6_named (firsts.no_rows number_of_unsound 7))))).least
       left_line (λ k c h. line_left_by k c h.0 (line_row k c h.1))
-    where
-      misses_are_1 : firsts.Numbered number_of_unsound 1 Misses
-      misses_are_1 k c (inl h) = ap number_of_unsound h.2
-      misses_are_1 k c (inr (inl h)) = ap number_of_unsound h.2
-      misses_are_1 k c (inr (inr (inl h))) = ap number_of_unsound h.2
-      misses_are_1 k c (inr (inr (inr h))) = ap number_of_unsound h.2

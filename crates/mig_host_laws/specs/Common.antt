@@ -12,7 +12,7 @@ pub use Rattle.mig_guest.specs.Parts.{PartMap}
 pub use Rattle.mig_guest.specs.Tables.{entry, entry_of}
 pub use Rattle.mig_guest.specs.declared.part_key.PartKey.{PartKey}
 pub use Rattle.mig_guest.specs.declared.table.Entry.{Entry}
-pub use Rattle.mig_guest.specs.declared.table.Entry.TheVariants.{NotPresent}
+pub use Rattle.mig_guest.specs.declared.table.Entry.TheVariants.{Frame, NotPresent, Superpage}
 pub use Rattle.mig_headers.specs.declared.fault.Cause.{Cause}
 pub use Rattle.mig_headers.specs.declared.kind.Kind.TheVariants.{Hvm, Pv}
 pub use Rattle.mig_headers.specs.declared.unsound.Unsound.{Unsound}

@@ -4,11 +4,10 @@ use Rattle.std.specs.Ordering.{is_lt}
 use Rattle.std.specs.FinMap as maps
 use Rattle.mig_headers.specs.Contexts.{scan}
 use Rattle.mig_headers.specs.declared.fault.ContextFault.{ContextFault}
-use Rattle.mig_host_laws.specs.Common.{Cause, Pv, Hvm, Unsound, number_of_unsound, Notab, PartKey, gdt_ents, GuestOf, HostOf, PartMap, p2m_key, vcpu_key, shared_key, context_key, most_gdt_entries, fits_field, listed, field_value, frame_of_field}
+use Rattle.mig_host_laws.specs.Common.{Cause, Pv, Hvm, Unsound, number_of_unsound, Notab, PartKey, gdt_ents, GuestOf, HostOf, PartMap, p2m_key, vcpu_key, shared_key, context_key, most_gdt_entries, fits_field, listed, field_value, frame_of_field, Superpage, Frame}
 use Rattle.mig_headers.specs.declared.fault.Cause.TheVariants as faults
 use Rattle.mig_headers.specs.declared.unsound.Unsound.TheVariants as causes
 use Rattle.mig_pagetypes.specs.Limits.{most_frames}
-use Rattle.mig_guest.specs.declared.table.Entry.TheVariants.{Superpage, Frame}
 use Rattle.mig_guest.specs.Order.{part_cmp}
 use Rattle.mig_host_laws.specs.NamedFirst.{NamesFirst}
 use Rattle.mig_host_laws.specs.Standing.{Standing, type_named, in_stream, in_host}

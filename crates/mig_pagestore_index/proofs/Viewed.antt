@@ -1,7 +1,6 @@
 -- What an index tells of a number that has no value in its tree.
-use Rattle.mig_pagestore_index.proofs.Common.{◌≡◌, ℕ, ◌≤◌, None, sym, ap, ◌∙◌, arith, Indexed}
+use Rattle.mig_pagestore_index.proofs.Common.{◌≡◌, ℕ, ◌≤◌, None, sym, ap, ◌∙◌, arith, Indexed, gathered}
 use Rattle.std.specs.FinMap as maps
-use Rattle.mig_pagestore_index.specs.Indexed.{gathered}
 use Rattle.mig_pagestore_index.proofs.Gathered.{none_at}
 
 -- r is what the tree found

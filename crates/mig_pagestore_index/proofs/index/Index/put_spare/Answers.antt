@@ -1,6 +1,5 @@
-use Rattle.mig_pagestore_index.proofs.Common.{◌≡◌, ℕ, ◌+◌, ◌<◌, ◌≤◌, sym, ap, ◌∙◌, arith, Indexed, number_limit, found}
+use Rattle.mig_pagestore_index.proofs.Common.{◌≡◌, ℕ, ◌+◌, ◌<◌, ◌≤◌, sym, ap, ◌∙◌, arith, Indexed, number_limit, found, gathered}
 use Rattle.std.specs.FinMap as maps
-use Rattle.mig_pagestore_index.specs.Indexed.{gathered}
 use Rattle.mig_pagestore_index.proofs.Gathered.{gathered_put, none_is_not_some}
 use Rattle.mig_pagestore_index.proofs.Counted.{put_in_place, put_anew, few}
 use Rattle.mig_pagestore_index.proofs.Viewed.{no_value_yet, some_spare}

@@ -1,5 +1,4 @@
-use Rattle.mig_pagestore_index.proofs.Common.{◌≡◌, ℕ, ◌<◌, ◌≤◌}
-use Rattle.mig_pagestore_index.specs.Leaves.{step}
+use Rattle.mig_pagestore_index.proofs.Common.{◌≡◌, ℕ, ◌<◌, ◌≤◌, step}
 use Rattle.mig_pagestore_index.proofs.level.Level.next.Given as goal
 
 abbrev pub invariant-loop-place : goal.invariant-loop-place

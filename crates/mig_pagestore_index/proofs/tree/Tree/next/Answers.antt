@@ -1,5 +1,4 @@
-use Rattle.mig_pagestore_index.proofs.Common.{◌≡◌, ℕ, ◌+◌, ◌-◌, ◌*◌, ◌/◌, ◌<◌, ◌≤◌, inl, inr, ap, ◌∙◌, arith, found, leaf, cases_lt}
-use Rattle.mig_pagestore_index.specs.Leaves.{step}
+use Rattle.mig_pagestore_index.proofs.Common.{◌≡◌, ℕ, ◌+◌, ◌-◌, ◌*◌, ◌/◌, ◌<◌, ◌≤◌, inl, inr, ap, ◌∙◌, arith, found, leaf, cases_lt, step}
 use Rattle.mig_pagestore_index.proofs.Fans.{at_place, none_under, passed}
 use Rattle.mig_pagestore_index.proofs.tree.Tree.next.Goals as goal
 use Rattle.mig_pagestore_index.proofs.tree.Tree.next.Goals.{In-Some}

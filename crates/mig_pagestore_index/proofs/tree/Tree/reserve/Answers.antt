@@ -1,5 +1,4 @@
-use Rattle.mig_pagestore_index.proofs.Common.{◌/◌, ◌%◌, ap, ◌∙◌, lead}
-use Rattle.mig_pagestore_index.specs.Leaves.{step}
+use Rattle.mig_pagestore_index.proofs.Common.{◌/◌, ◌%◌, ap, ◌∙◌, lead, step}
 use Rattle.mig_pagestore_index.proofs.Directories.{lead_same}
 use Rattle.mig_pagestore_index.proofs.Fans.{same_step}
 use Rattle.mig_pagestore_index.proofs.tree.Tree.reserve.Goals as goal
