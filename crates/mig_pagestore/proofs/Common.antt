@@ -6,9 +6,9 @@ pub use Rattle.std.specs.Option.{ghost_name_of, option_and_then, option_copied, 
 pub use Rattle.std.specs.Ordering.{eq_by_cmp, is_lt, nat_cmp}
 pub use Rattle.mig_pagestore_index.specs.Indexed.{ValueMap}
 pub use Rattle.mig_pagestore.specs.FrameLending.{repaged, with_page}
-pub use Rattle.mig_pagestore.specs.FrameView.{AreCells, IsCell, IsLed, Leads, LieInRun, Moved, SameBut, frame_at, frames_seen, is_place, place_of_page, place_or_0, whole_page}
+pub use Rattle.mig_pagestore.specs.FrameView.{AreCells, IsCell, IsLed, Leads, LieInRun, Moved, SameBut, cell_place, cell_type, frame_at, frames_seen, is_place, page_at_place, place_of_page, place_or_0, whole_page}
 pub use Rattle.mig_pagestore.specs.Frames.{FrameMap, FrameOf, Framed, IsFrame, IsRun, IsSized, frame_page}
-pub use Rattle.mig_pagestore.specs.Packed.{IsArena, Placed}
+pub use Rattle.mig_pagestore.specs.Packed.{IsArena, Placed, all_pages}
 pub use Rattle.mig_pagetypes.specs.PageTypes.{number_of, type_has_data, type_of, type_or_none}
 pub use Rattle.mig_pagetypes.specs.declared.page_type.PageType.{PageType}
 pub use Rattle.core.proofs.alloc.Calls.{Al, Answer-typed, Answered, Gives, Gives-Gives, Gives-goes, Goes-blank, Takes, Takes-gives, Takes-goes, answers, at_gives, at_takes, seen}

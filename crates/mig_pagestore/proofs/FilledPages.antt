@@ -1,9 +1,8 @@
 -- A page behind the others that is filled, and comes to be that of a frame.
-use Rattle.mig_pagestore.proofs.Common.{◌≡◌, ℕ, zero, suc, ◌+◌, ◌-◌, ◌<◌, ◌≤◌, true, false, List, [], ◌∷◌, ◌++◌, length, set, slice_get, Some, refl, sym, ap, ◌∙◌, subst, arith, length-append, ValueMap, PageType, type_has_data, Placed, IsCell, IsLed, SameBut, is_place, place_of_page, set_back}
+use Rattle.mig_pagestore.proofs.Common.{◌≡◌, ℕ, zero, suc, ◌+◌, ◌-◌, ◌<◌, ◌≤◌, true, false, List, [], ◌∷◌, ◌++◌, length, set, slice_get, Some, refl, sym, ap, ◌∙◌, subst, arith, length-append, ValueMap, PageType, type_has_data, Placed, IsCell, IsLed, SameBut, is_place, place_of_page, set_back, cell_type, cell_place, page_at_place}
 use Rattle.mig_pagestore.proofs.FrameCells.{some_place}
 use Rattle.std.specs.FinMap as maps
 use Rattle.mig_pagestore.specs.Filling.{PlacesLast}
-use Rattle.mig_pagestore.specs.FrameView.{cell_type, cell_place, page_at_place}
 use Rattle.mig_pagestore.proofs.Packing.{get_right}
 use Rattle.mig_pagestore.proofs.Led.{led_over, same_over, here_over, length_behind, led_behind, here_behind, same_behind}
 

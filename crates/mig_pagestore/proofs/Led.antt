@@ -1,7 +1,6 @@
 -- An index of cells that leads to pages, and what a new cell or page does to it.
-use Rattle.mig_pagestore.proofs.Common.{◌≡◌, ◌≢◌, ℕ, ◌+◌, ◌-◌, ◌<◌, ◌≤◌, ◌^◌, List, [], ◌∷◌, ◌++◌, length, set, Option, Some, None, refl, sym, ap, ◌∙◌, subst, inl, inr, arith, length-append, length-set, option_map, cases_eq, ValueMap, PageType, IsCell, AreCells, frame_at, whole_page, place_or_0, place_of_page, Leads, IsLed, SameBut, Moved, inserted, inserted_other, removed, removed_other}
+use Rattle.mig_pagestore.proofs.Common.{◌≡◌, ◌≢◌, ℕ, ◌+◌, ◌-◌, ◌<◌, ◌≤◌, ◌^◌, List, [], ◌∷◌, ◌++◌, length, set, Option, Some, None, refl, sym, ap, ◌∙◌, subst, inl, inr, arith, length-append, length-set, option_map, cases_eq, ValueMap, PageType, IsCell, AreCells, frame_at, whole_page, place_or_0, place_of_page, Leads, IsLed, SameBut, Moved, inserted, inserted_other, removed, removed_other, cell_type, cell_place, page_at_place}
 use Rattle.std.specs.FinMap as maps
-use Rattle.mig_pagestore.specs.FrameView.{cell_type, cell_place, page_at_place}
 use Rattle.mig_pagestore.proofs.FrameCells.{cell_some, cell_moved}
 use Rattle.mig_pagestore.proofs.Places.{leads_same, apart, in_range, leads_pushed, last_place, not_last, leads_popped, leads_swapped, whole_is, page_left, page_end, page_over, page_beside}
 

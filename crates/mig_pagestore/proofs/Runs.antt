@@ -1,6 +1,5 @@
 -- Pages that lie one behind another are those of frames one behind another.
-use Rattle.mig_pagestore.proofs.Common.{◌≡◌, ℕ, zero, suc, ◌+◌, ◌-◌, ◌<◌, ◌≤◌, List, [], ◌∷◌, length, take, drop, get_or, Some, refl, sym, ap, ◌∙◌, subst, arith, ValueMap, place_of_page, frame_page, frames_seen, drop-cons, length-drop, length-take, slice_get-get_or, IsRun}
-use Rattle.mig_pagestore.specs.FrameView.{LieInRun, page_at_place}
+use Rattle.mig_pagestore.proofs.Common.{◌≡◌, ℕ, zero, suc, ◌+◌, ◌-◌, ◌<◌, ◌≤◌, List, [], ◌∷◌, length, take, drop, get_or, Some, refl, sym, ap, ◌∙◌, subst, arith, ValueMap, place_of_page, frame_page, frames_seen, drop-cons, length-drop, length-take, slice_get-get_or, IsRun, LieInRun, page_at_place}
 use Rattle.mig_pagestore.proofs.Places.{page_found}
 use Rattle.mig_pagestore.proofs.Seen.{page_seen}
 

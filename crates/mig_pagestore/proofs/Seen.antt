@@ -1,7 +1,6 @@
 -- What the frames that are seen tell.
-use Rattle.mig_pagestore.proofs.Common.{◌≡◌, ◌≢◌, ℕ, ◌+◌, ◌<◌, ◌≤◌, ◌-◌, List, [], length, set, Option, Some, None, IsSome, IfNone, is_some, true, false, inl, inr, Bor, refl, sym, ap, ◌∙◌, subst, arith, nat_cmp, option_map, option_and_then, option_copied, get-empty, cases_eq, ValueMap, FrameOf, Framed, IsFrame, IsSized, frame_page, whole_page, is_place, IsCell, frame_at, frames_seen, place_or_0, place_of_page, IsLed, SameBut, repaged, with_page, PageType, type_has_data, pfn_limit, is_inserted, inserted, inserted_other, is_removed, removed, removed_other}
+use Rattle.mig_pagestore.proofs.Common.{◌≡◌, ◌≢◌, ℕ, ◌+◌, ◌<◌, ◌≤◌, ◌-◌, List, [], length, set, Option, Some, None, IsSome, IfNone, is_some, true, false, inl, inr, Bor, refl, sym, ap, ◌∙◌, subst, arith, nat_cmp, option_map, option_and_then, option_copied, get-empty, cases_eq, ValueMap, FrameOf, Framed, IsFrame, IsSized, frame_page, whole_page, is_place, IsCell, frame_at, frames_seen, place_or_0, place_of_page, IsLed, SameBut, repaged, with_page, PageType, type_has_data, pfn_limit, is_inserted, inserted, inserted_other, is_removed, removed, removed_other, cell_type, cell_place, page_at_place}
 use Rattle.std.specs.FinMap as maps
-use Rattle.mig_pagestore.specs.FrameView.{cell_type, cell_place, page_at_place}
 use Rattle.mig_pagetypes.specs.declared.page_type.PageType.TheVariants.{Xtab}
 use Rattle.mig_pagestore.proofs.Mapping.{get-mapped, len-mapped, mapped-empty}
 use Rattle.mig_pagestore.proofs.Places.{some_copied, no_page, page_over, page_is_some, page_is_whole}

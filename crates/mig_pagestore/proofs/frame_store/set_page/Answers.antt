@@ -1,5 +1,4 @@
-use Rattle.mig_pagestore.proofs.Common.{Some, sym, ap, ◌∙◌, option_copied}
-use Rattle.mig_pagestore.specs.FrameView.{page_at_place}
+use Rattle.mig_pagestore.proofs.Common.{Some, sym, ap, ◌∙◌, option_copied, page_at_place}
 use Rattle.mig_pagestore.proofs.Led.{led_put, led_over, led_behind, here_behind, same_behind}
 use Rattle.mig_pagestore.proofs.frame_store.set_page.Goals as goal
 

@@ -1,5 +1,4 @@
-use Rattle.mig_pagestore.proofs.Common.{◌<◌, ◌-◌, ◌*◌, ◌/◌, ◌%◌, length, slice_get, set, refl, sym, ap, subst, ◌∙◌, length-set, Placed}
-use Rattle.mig_pagestore.specs.Packed.{all_pages}
+use Rattle.mig_pagestore.proofs.Common.{◌<◌, ◌-◌, ◌*◌, ◌/◌, ◌%◌, length, slice_get, set, refl, sym, ap, subst, ◌∙◌, length-set, Placed, all_pages}
 use Rattle.mig_pagestore.proofs.Packing.{page_in_slab, arena_set, pages_set, with_pages}
 use Rattle.mig_pagestore.proofs.arena.Arena.lend.Goals as goal
 

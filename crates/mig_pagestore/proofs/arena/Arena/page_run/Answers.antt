@@ -1,5 +1,4 @@
-use Rattle.mig_pagestore.proofs.Common.{◌<◌, ◌≤◌, ◌+◌, length, sym, subst, arith, Placed}
-use Rattle.mig_pagestore.specs.Packed.{all_pages}
+use Rattle.mig_pagestore.proofs.Common.{◌<◌, ◌≤◌, ◌+◌, length, sym, subst, arith, Placed, all_pages}
 use Rattle.mig_pagestore.proofs.Packing.{run_within}
 use Rattle.mig_pagestore.proofs.arena.Arena.page_run.Goals as goal
 

@@ -1,5 +1,4 @@
-use Rattle.mig_pagestore.proofs.Common.{◌≡◌, ◌<◌, ◌-◌, Some, length, sym, ap, ◌∙◌, arith, inl, inr, length-set, Framed, frame_page, with_page}
-use Rattle.mig_pagestore.specs.FrameView.{page_at_place}
+use Rattle.mig_pagestore.proofs.Common.{◌≡◌, ◌<◌, ◌-◌, Some, length, sym, ap, ◌∙◌, arith, inl, inr, length-set, Framed, frame_page, with_page, page_at_place}
 use Rattle.mig_pagestore.proofs.Places.{page_found}
 use Rattle.mig_pagestore.proofs.Seen.{page_none, page_seen, repaged_seen}
 use Rattle.mig_pagestore.proofs.frame_store.FrameStore.lend.Goals as goal

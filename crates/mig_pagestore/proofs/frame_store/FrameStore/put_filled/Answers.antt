@@ -1,6 +1,5 @@
-use Rattle.mig_pagestore.proofs.Common.{◌≤◌, Some, sym, ap, ◌∙◌, subst, arith, ValueMap, Framed, FrameOf, IsCell, IsLed, frames_seen}
+use Rattle.mig_pagestore.proofs.Common.{◌≤◌, Some, sym, ap, ◌∙◌, subst, arith, ValueMap, Framed, FrameOf, IsCell, IsLed, frames_seen, page_at_place}
 use Rattle.std.specs.FinMap as maps
-use Rattle.mig_pagestore.specs.FrameView.{page_at_place}
 use Rattle.mig_pagestore.proofs.FrameCells.{cell_some}
 use Rattle.mig_pagestore.proofs.FilledPages.{filled_cell, comes_last}
 use Rattle.mig_pagestore.proofs.Seen.{numbers_left, put_seen}

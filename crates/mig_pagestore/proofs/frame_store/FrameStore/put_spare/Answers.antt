@@ -1,6 +1,5 @@
-use Rattle.mig_pagestore.proofs.Common.{IsSome, sym, ap, ◌∙◌, subst, arith, option_copied, ValueMap, Framed, FrameOf, frame_page, place_or_0, IsCell, IsLed, frames_seen}
+use Rattle.mig_pagestore.proofs.Common.{IsSome, sym, ap, ◌∙◌, subst, arith, option_copied, ValueMap, Framed, FrameOf, frame_page, place_or_0, IsCell, IsLed, frames_seen, page_at_place}
 use Rattle.std.specs.FinMap as maps
-use Rattle.mig_pagestore.specs.FrameView.{page_at_place}
 use Rattle.mig_pagestore.proofs.FrameCells.{cell_some}
 use Rattle.mig_pagestore.proofs.Seen.{page_some, spare_enough, numbers_left, cell_is, put_seen}
 use Rattle.mig_pagestore.proofs.frame_store.FrameStore.put_spare.Goals as goal
