@@ -1,10 +1,9 @@
 ghost use Rattle.std.specs.Prelude.{◌≡◌, IfOk};
 ghost use Rattle.mig_dirtysave_parts.specs.SaveTexts.{IsContextFront, unsound_in, judged_with};
 
-use crate::write::HVM_CONTEXT;
 use mig_guest::PartKey;
 use mig_guest::mig_machine_api::Machine;
-use mig_headers::Unsound;
+use mig_headers::{HVM_CONTEXT, Unsound};
 use mig_hvm::scan_context;
 
 /// The key of the context.

@@ -2,12 +2,9 @@ ghost use Rattle.std.specs.Prelude.{◌≡◌, IfSome};
 ghost use Rattle.std.specs.FinMap as maps;
 ghost use Rattle.mig_dirtysave_parts.specs.KeptParts.{is_early as is_early_code, is_setting as is_setting_code, kept_parts, parts_alone, part_len, HoldsParts, SameSettings};
 
-use crate::write::HVM_CONTEXT;
 use mig_guest::mig_machine_api::Machine;
-use mig_guest::{Guest, PartKey, is_fixed};
-
-/// The number of the pairs of an emulator.
-const EMULATOR_PAIRS: u32 = 258;
+use mig_guest::{EMULATOR_PAIRS, Guest, PartKey, is_fixed};
+use mig_headers::HVM_CONTEXT;
 
 /// Whether a part of this code stands before the frames. Its bytes never change while a guest runs.
 pub(crate) fn is_early(code: u32) -> bool

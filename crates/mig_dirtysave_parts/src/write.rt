@@ -10,11 +10,9 @@ use mig_canon::{
     write_codes, write_headers, write_info, write_p2m_frames, write_static, write_vcpus,
 };
 use mig_guest::{Guest, PartCode};
+use mig_headers::HVM_CONTEXT;
 use mig_records::{write_head, write_padding};
 use mig_records_pages::write_end;
-
-/// The type of HVM_CONTEXT, which is the number of its part too.
-pub(crate) const HVM_CONTEXT: u32 = 9;
 
 /// Appends what stands before the frames: the headers, the policies, and of a PV guest its P2M frames.
 pub fn write_before<K: Sink>(sink: &mut K, early: &Guest) -> Result<(), WriteFailed>
