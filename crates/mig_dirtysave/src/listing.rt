@@ -2,7 +2,7 @@ ghost use Rattle.std.specs.Prelude.{◌≡◌, ◌≤◌, ℕ, length, get_or, S
 ghost use Rattle.mig_dirtysave.specs.Common.{is_needed, find_misplaced};
 ghost use Rattle.mig_dirtysave.specs.Paused.{types_seen};
 
-use crate::lookup::type_seen;
+use crate::lookup::noted_at;
 use mig_bytes::u64_le;
 use mig_pagetypes::PageType;
 use mig_pvtables::is_misplaced;
@@ -17,7 +17,7 @@ fn has_frame(types: &[Option<PageType>], index: usize) -> bool
     }
     let start = 512 * index as u64;
     for slot in 0..512 {
-        if type_seen(types, start + slot).is_some() {
+        if noted_at(types, start + slot).is_some() {
             return true;
         }
     }
@@ -30,17 +30,6 @@ fn clear(marks: &mut [Option<bool>])
 {
     for mark in marks.iter_mut() {
         *mark = None;
-    }
-}
-
-/// The mark of a frame number; none beyond the marks.
-fn mark_of(marks: &[Option<bool>], pfn: u64) -> Option<bool>
-    ensures { result ≡ get_or marks.now pfn None }
-{
-    if pfn < marks.len() as u64 {
-        marks[pfn as usize]
-    } else {
-        None
     }
 }
 
@@ -59,7 +48,7 @@ pub fn misplaced_by_type(
     for index in 0..list.len() / 8 {
         let pfn = u64_le(list, 8 * index);
         let needed = has_frame(types, index);
-        if is_misplaced(type_seen(types, pfn), mark_of(marks, pfn), needed) {
+        if is_misplaced(noted_at(types, pfn), noted_at(marks, pfn), needed) {
             return Some(index);
         }
         marks[pfn as usize] = Some(needed);

@@ -1,4 +1,4 @@
-ghost use Rattle.std.specs.Prelude.{◌≡◌, ◌<◌, ◌^◌, true, Some, IfOk, IfSome, IsSome, is_some, option_and_then, length};
+ghost use Rattle.std.specs.Prelude.{◌≡◌, ◌<◌, ◌^◌, true, Some, None, IfOk, IfSome, IsSome, is_some, option_and_then, length, get_or};
 ghost use Rattle.mig_dirtysave.specs.Common.{FaultHasCause, pfn_in, fits_field};
 ghost use Rattle.mig_dirtysave.specs.Paused.{types_seen, OnlyLooksUp};
 
@@ -7,13 +7,13 @@ use mig_guest::mig_machine_api::Machine;
 use mig_pagetypes::PageType;
 use mig_pvtables::is_type_of_field;
 
-/// The type that was seen last at a frame number; none beyond those that were looked at.
-pub(crate) fn type_seen(types: &[Option<PageType>], pfn: u64) -> Option<PageType>
-    ensures value { result ≡ types_seen types.now pfn }
-    ensures inside { IsSome result → pfn < length types.now }
+/// What is noted at a frame number, as the type that was seen last; none beyond those that were looked at.
+pub(crate) fn noted_at<T: Copy>(notes: &[Option<T>], pfn: u64) -> Option<T>
+    ensures value { result ≡ get_or notes.now pfn None }
+    ensures inside { IsSome result → pfn < length notes.now }
 {
-    if pfn < types.len() as u64 {
-        types[pfn as usize]
+    if pfn < notes.len() as u64 {
+        notes[pfn as usize]
     } else {
         None
     }
@@ -47,7 +47,7 @@ pub(crate) fn pfn_for_field<M: Machine>(
     ensures cause { FaultHasCause (M.faults machine.old) (M.faults machine.new) result }
 {
     match look_up(machine, mfn)? {
-        Some(pfn) if is_type_of_field(field, type_seen(types, pfn)) => Ok(Some(pfn)),
+        Some(pfn) if is_type_of_field(field, noted_at(types, pfn)) => Ok(Some(pfn)),
         _ => Ok(None),
     }
 }

@@ -6,7 +6,7 @@ returns-then-index-types c = sym (none_has (types_seen c.args.types.now) c.args.
 
 pub returns-then-is_some : goal.returns-then-is_some
 returns-then-is_some c =
-    sym (one_has (types_seen c.args.types.now) c.args.index c.loop-slot.slot c.loop-slot-test.true (ap is_some (sym c.type_seen.ensures.value) ∙ sym c.is_some.ensures ∙ c.if-is_some.true))
+    sym (one_has (types_seen c.args.types.now) c.args.index c.loop-slot.slot c.loop-slot-test.true (ap is_some (sym c.noted_at.ensures.value) ∙ sym c.is_some.ensures ∙ c.if-is_some.true))
 
 pub returns : goal.returns
 returns c = sym (none_has (types_seen c.args.types.now) c.args.index (λ slot lt. c.loop-slot.invariant slot (omega (arith, lt, c.loop-slot-test.false))))

@@ -9,16 +9,16 @@ loop-index-init c = record { marked = nothing_marked _ _ c.clear.ensures; fine =
 
 pub returns-then-is_misplaced : goal.returns-then-is_misplaced
 returns-then-is_misplaced c =
-    found_ill _ _ c.loop-index.invariant.marked (listed_here c.args.list.now c.loop-index-test.true c.u64_le-pfn.ensures) c.type_seen.ensures.value c.mark_of.ensures c.has_frame-needed.ensures c.is_misplaced.ensures c.loop-index.invariant.fine c.if-is_misplaced.true
+    found_ill _ _ c.loop-index.invariant.marked (listed_here c.args.list.now c.loop-index-test.true c.u64_le-pfn.ensures) c.noted_at.ensures.value c.noted_at-in-loop-index.ensures.value c.has_frame-needed.ensures c.is_misplaced.ensures c.loop-index.invariant.fine c.if-is_misplaced.true
 
 pub loop-index-preserved : goal.loop-index-preserved
 loop-index-preserved c =
-    let typed = is_typed _ _ c.loop-index.invariant.marked (listed_here c.args.list.now c.loop-index-test.true c.u64_le-pfn.ensures) c.type_seen.ensures.value c.mark_of.ensures c.has_frame-needed.ensures c.is_misplaced.ensures c.if-is_misplaced.false in
-    let inside : c.u64_le-pfn.result < length c.loop-index.marks = omega (arith, c.type_seen.ensures.inside typed, c.requires, c.loop-index.auto.marks) in
+    let typed = is_typed _ _ c.loop-index.invariant.marked (listed_here c.args.list.now c.loop-index-test.true c.u64_le-pfn.ensures) c.noted_at.ensures.value c.noted_at-in-loop-index.ensures.value c.has_frame-needed.ensures c.is_misplaced.ensures c.if-is_misplaced.false in
+    let inside : c.u64_le-pfn.result < length c.loop-index.marks = omega (arith, c.noted_at.ensures.inside typed, c.requires, c.loop-index.auto.marks) in
     record {
-      marked = more_marked _ _ c.loop-index.invariant.marked (listed_here c.args.list.now c.loop-index-test.true c.u64_le-pfn.ensures) c.type_seen.ensures.value c.mark_of.ensures c.has_frame-needed.ensures c.is_misplaced.ensures c.if-is_misplaced.false
+      marked = more_marked _ _ c.loop-index.invariant.marked (listed_here c.args.list.now c.loop-index-test.true c.u64_le-pfn.ensures) c.noted_at.ensures.value c.noted_at-in-loop-index.ensures.value c.has_frame-needed.ensures c.is_misplaced.ensures c.if-is_misplaced.false
           (get_or-set_same c.loop-index.marks c.u64_le-pfn.result (Some c.has_frame-needed.result) None inside) (λ q ne. get_or-set_other c.loop-index.marks c.u64_le-pfn.result q (Some c.has_frame-needed.result) None ne);
-      fine = more_fine _ _ c.loop-index.invariant.marked (listed_here c.args.list.now c.loop-index-test.true c.u64_le-pfn.ensures) c.type_seen.ensures.value c.mark_of.ensures c.has_frame-needed.ensures c.is_misplaced.ensures c.loop-index.invariant.fine c.if-is_misplaced.false;
+      fine = more_fine _ _ c.loop-index.invariant.marked (listed_here c.args.list.now c.loop-index-test.true c.u64_le-pfn.ensures) c.noted_at.ensures.value c.noted_at-in-loop-index.ensures.value c.has_frame-needed.ensures c.is_misplaced.ensures c.loop-index.invariant.fine c.if-is_misplaced.false;
     }
 
 pub returns : goal.returns
