@@ -7,12 +7,10 @@ use crate::searching::{EntryTest, first_slot};
 use mig_bytes::{put_u64_le, u64_le};
 use mig_guest::Entry;
 use mig_headers::Cause;
+use mig_pagetypes::MACHINE_LIMIT;
 
 /// How many entries a table has.
 pub(crate) const SLOTS: usize = 512;
-
-/// An entry names a frame in 40 bits.
-const FRAMES: u64 = 1 << 40;
 
 /// What the entry in this slot says, as one of a table of this level.
 #[tactic(auto, unfolding(mig_guest::specs::Tables::entry_of))]
@@ -30,7 +28,7 @@ pub fn entry(page: &[u8; 4096], level: u8, slot: usize) -> Entry
     } else if level >= 2 && e / 128 % 2 == 1 {
         Entry::Superpage
     } else {
-        Entry::Frame(e / 4096 % FRAMES)
+        Entry::Frame(e / 4096 % MACHINE_LIMIT)
     }
 }
 
@@ -75,7 +73,7 @@ fn frame_at(page: &[u8; 4096], slot: usize) -> u64
     requires { slot < 512 }
     ensures { result ≡ named_frame (long_at page.now slot) }
 {
-    u64_le(page, 8 * slot) / 4096 % FRAMES
+    u64_le(page, 8 * slot) / 4096 % MACHINE_LIMIT
 }
 
 /// What is wrong with a table of this level in a stream: its first superpage before all else, then the first entry that
