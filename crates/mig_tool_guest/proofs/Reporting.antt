@@ -1,11 +1,7 @@
 -- What a command answers.
-use Rattle.mig_tool_guest.proofs.Common.{inl, inr, Appends, AppendsPart, Passes, Cause, Place, AcceptedLegacy, StreamOf, ReadsStream, Outcome, Status, Reading, ◌⊎◌, ◌≡◌, ℕ, ◌++◌, List, length, arith, Option, Some, None, Result, Ok, Err, refl, sym, ap, subst, ◌∙◌, GuestOf, AcceptedStream, HasStreamRefusal, HasLegacyRefusal, Kind, Hvm, Pv, Accepting, Normalised, PartWritten, IsCarried, IsFew, IsBase, restored_text, OutcomeSays, InputRises, IsUnwritten, ComesTo, Effects, restore_promise, text_written, unwritten, Refusal, status_of, summary_of, mean_kind, outcome_of, Puts, RisesOnReadFault, accepted_is_stream, canon_any, stream_at, IsStreamReading, ok_line, OutputRises}
+use Rattle.mig_tool_guest.proofs.Common.{inl, inr, Appends, AppendsPart, Passes, AcceptedLegacy, StreamOf, ReadsStream, Outcome, Status, Reading, ◌⊎◌, ◌≡◌, ℕ, ◌++◌, List, length, arith, Option, Some, None, Result, Ok, Err, refl, sym, ap, subst, ◌∙◌, GuestOf, AcceptedStream, Kind, Hvm, Pv, Accepting, Normalised, PartWritten, IsCarried, IsFew, IsBase, restored_text, InputRises, IsUnwritten, ComesTo, Effects, restore_promise, text_written, unwritten, status_of, summary_of, mean_kind, Puts, accepted_is_stream, canon_any, stream_at, IsStreamReading, ok_line, OutputRises}
 use Rattle.mig_tool_guest.proofs.Says.{ConvertComes, NormaliseComes, RestoreComes, VerifySays}
-use Rattle.mig_bytes.specs.Answers.{or_stop}
-use Rattle.mig_bytes.specs.declared.answer.Answer.{Answer}
 use Rattle.mig_bytes.specs.declared.failure.WriteFailed.{WriteFailed}
-use Rattle.mig_headers.specs.declared.legacy_fault.LegacyCause.{LegacyCause}
-use Rattle.mig_headers.specs.declared.legacy_fault.LegacyPlace.{LegacyPlace}
 use Rattle.mig_host.proofs.HostedGuests.{whole_valid, whole_sound, whole_seen}
 use Rattle.mig_host.specs.Hosted.{hosted, IsBaseOutside}
 use Rattle.mig_image.proofs.ImageReads.{held, image_reads}
@@ -21,47 +17,8 @@ use Rattle.mig_tool_report.specs.declared.outcome.Summary.{Summary}
 use Rattle.mig_restore_form.specs.Mean.{differs_of}
 use Rattle.mig_restore_form.specs.Stream.{ImageOf}
 use Rattle.std.specs.FinMap as maps
-use Rattle.mig_bytes.specs.declared.answer.Answer.TheVariants as answers
 use Rattle.mig_tool_report.specs.declared.outcome.Outcome.TheVariants as outcomes
-use Rattle.mig_tool_report.specs.declared.outcome.Refusal.TheVariants as refusals
 use Rattle.mig_tool_report.specs.declared.status.Status.TheVariants as statuses
-
--- ---- no stream was read
-
-module _ (D P : List ℕ → Type 0) where
-  pub not_read : (told left : Option (List ℕ)) (answer : Answer Place Cause) (outcome : Outcome) → ReadsStream told left (Err answer) → outcome ≡ outcome_of refusals.Stream answer → OutcomeSays D P HasStreamRefusal told left outcome
-  not_read told left answer outcome h is = subst (OutcomeSays D P HasStreamRefusal told left) (sym is) (by told answer h)
-    where
-      by : (told : Option (List ℕ)) (answer : Answer Place Cause) → ReadsStream told left (Err answer) → OutcomeSays D P HasStreamRefusal told left (outcome_of refusals.Stream answer)
-      by None answer h = tt
-      by (Some input) (answers.Refused place cause) (rest, refused, is) = (rest, refused, is)
-      by (Some input) _ h = tt
-
-  pub not_converted : (told left : Option (List ℕ)) (answer : Answer LegacyPlace LegacyCause) (outcome : Outcome) → ReadsLegacy told left (Err answer) → outcome ≡ outcome_of refusals.Legacy answer → OutcomeSays D P HasLegacyRefusal told left outcome
-  not_converted told left answer outcome h is = subst (OutcomeSays D P HasLegacyRefusal told left) (sym is) (by told answer h)
-    where
-      by : (told : Option (List ℕ)) (answer : Answer LegacyPlace LegacyCause) → ReadsLegacy told left (Err answer) → OutcomeSays D P HasLegacyRefusal told left (outcome_of refusals.Legacy answer)
-      by None answer h = tt
-      by (Some input) (answers.Refused place cause) (rest, refused, is) = (rest, refused, is)
-      by (Some input) _ h = tt
-
--- nothing was written then
-pub not_written : {P C : Type 0} (told : P → C → Refusal) (answer : Answer P C) (outcome : Outcome) → outcome ≡ outcome_of told answer → IsUnwritten outcome
-not_written {P} {C} told answer outcome is = subst IsUnwritten (sym is) (by answer)
-  where
-    by : (answer : Answer P C) → IsUnwritten (outcome_of told answer)
-    by (answers.Refused place cause) = tt
-    by answers.ReadFault = tt
-    by answers.Memory = tt
-
--- and the count of the input rose with a read fault alone
-pub not_read_count : {P C : Type 0} (X : Type 0) (told : P → C → Refusal) (answer : Answer P C) (outcome : Outcome) (before now : ℕ) → outcome ≡ outcome_of told answer → RisesOnReadFault {X = X} before now (or_stop (Err answer)) → InputRises (status_of outcome) before now
-not_read_count {P} {C} X told answer outcome before now is rises = subst (λ o. InputRises (status_of o) before now) (sym is) (by answer rises)
-  where
-    by : (answer : Answer P C) → RisesOnReadFault {X = X} before now (or_stop (Err answer)) → InputRises (status_of (outcome_of told answer)) before now
-    by (answers.Refused place cause) rises = rises
-    by answers.ReadFault rises = rises
-    by answers.Memory rises = rises
 
 -- ---- what a reading and a writing come to
 

@@ -1,13 +1,9 @@
 -- What a check answers.
-use Rattle.mig_tool_guest.proofs.Common.{Appends, AppendsPart, Passes, Cause, Place, StreamOf, Status, Outcome, OutcomeSays, StatusSays, ◌≡◌, ◌∙◌, ℕ, List, length, Option, Some, None, Result, Ok, Err, refl, sym, subst, GuestOf, AcceptedStream, HasStreamRefusal, HasLegacyRefusal, summary_of, outcome_of, Puts, accepted_is_stream, stream_at}
+use Rattle.mig_tool_guest.proofs.Common.{Appends, AppendsPart, Passes, StreamOf, Status, StatusSays, ◌≡◌, ◌∙◌, ℕ, List, length, Option, Some, None, Result, Ok, Err, refl, sym, subst, GuestOf, AcceptedStream, HasStreamRefusal, HasLegacyRefusal, summary_of, Puts, accepted_is_stream, stream_at}
 use Rattle.mig_tool_guest.proofs.Reporting.{accepted_legacy, reported}
-use Rattle.mig_bytes.specs.declared.answer.Answer.{Answer}
-use Rattle.mig_bytes.specs.declared.answer.Answer.TheVariants as answers
 use Rattle.mig_bytes.specs.declared.failure.WriteFailed.{WriteFailed}
 use Rattle.mig_legacy.specs.Legacy.{mean_legacy}
 use Rattle.mig_legacy.specs.Stream.{JudgesLegacy}
-use Rattle.mig_headers.specs.declared.legacy_fault.LegacyCause.{LegacyCause}
-use Rattle.mig_headers.specs.declared.legacy_fault.LegacyPlace.{LegacyPlace}
 use Rattle.mig_libxl.specs.Reads.{IsStreamTally, JudgesStream}
 use Rattle.mig_libxl_form.specs.Stream.{guest_of}
 use Rattle.mig_outline.specs.declared.judge.Tally.{Tally}
@@ -15,18 +11,8 @@ use Rattle.mig_restore_form.specs.Mean.{differs_of}
 use Rattle.mig_tool_guest.specs.Fronts.{Checked, LegacyChecked}
 use Rattle.mig_tool_report.specs.Report.{checked_legacy_line, checked_line, uncompared}
 use Rattle.mig_tool_report.specs.declared.outcome.CheckSummary.{CheckSummary}
-use Rattle.mig_tool_report.specs.declared.outcome.Refusal.TheVariants as refusals
 use Rattle.std.specs.FinMap as maps
 use Rattle.std.specs.Prelude.{is_some}
-
--- no stream was accepted
-pub not_checked : (D P : List ℕ → Type 0) (told left : Option (List ℕ)) (answer : Answer Place Cause) (outcome : Outcome) → JudgesStream told left (Err answer) → outcome ≡ outcome_of refusals.Stream answer → OutcomeSays D P HasStreamRefusal told left outcome
-not_checked D P told left answer outcome h is = subst (OutcomeSays D P HasStreamRefusal told left) (sym is) (by told answer h)
-  where
-    by : (told : Option (List ℕ)) (answer : Answer Place Cause) → JudgesStream told left (Err answer) → OutcomeSays D P HasStreamRefusal told left (outcome_of refusals.Stream answer)
-    by None answer h = tt
-    by (Some input) (answers.Refused place cause) (rest, refused, is) = (rest, refused, is)
-    by (Some input) _ h = tt
 
 -- the stream that has this tally
 tallied : (input rest : List ℕ) (stream : StreamOf) (tally : Tally) → stream_at input ≡ Passes stream rest → (is : IsStreamTally tally stream) → AcceptedStream input (guest_of is.image stream) rest
@@ -62,14 +48,6 @@ checked (Some input) left old new tally s r status (stream, rest, accepts, left_
 
 abbrev pub LegacyCheckSays : (told left old new : Option (List ℕ)) → Status → Type 0
 LegacyCheckSays told left old new status = StatusSays (λ input. LegacyChecked (Appends old new) input left) (λ input. LegacyChecked (AppendsPart old new) input left) HasLegacyRefusal told left status
-
-pub not_checked_legacy : (D P : List ℕ → Type 0) (told left : Option (List ℕ)) (answer : Answer LegacyPlace LegacyCause) (outcome : Outcome) → JudgesLegacy told left (Err answer) → outcome ≡ outcome_of refusals.Legacy answer → OutcomeSays D P HasLegacyRefusal told left outcome
-not_checked_legacy D P told left answer outcome h is = subst (OutcomeSays D P HasLegacyRefusal told left) (sym is) (by told answer h)
-  where
-    by : (told : Option (List ℕ)) (answer : Answer LegacyPlace LegacyCause) → JudgesLegacy told left (Err answer) → OutcomeSays D P HasLegacyRefusal told left (outcome_of refusals.Legacy answer)
-    by None answer h = tt
-    by (Some input) (answers.Refused place cause) (rest, refused, is) = (rest, refused, is)
-    by (Some input) _ h = tt
 
 pub legacy_checked : (told left old new : Option (List ℕ)) (n : ℕ) (r : Result (Unit {0}) WriteFailed) (status : Status) → JudgesLegacy told left (Ok n)
     → Puts (checked_legacy_line n) old new r → status ≡ reported r → LegacyCheckSays told left old new status

@@ -1,19 +1,16 @@
-use Rattle.mig_tool_guest.proofs.Common.{Ok, Err, refl, rules, inl, inr, HasStreamRefusal, AcceptedStream, effects, finished, input_effect, line_put, never_failed, no_line, sink_effect, unreached, untouched_sink, unwritten, Effects, HasFront}
-use Rattle.mig_outline.specs.declared.judge.Tally.{Tally}
-use Rattle.mig_tool_guest.proofs.Tallied.{checked, not_checked}
-use Rattle.mig_tool_guest.proofs.Reporting.{not_read_count, not_written}
+use Rattle.mig_tool_guest.proofs.Common.{Ok, Err, refl, rules, inl, inr, HasStreamRefusal, AcceptedStream, effects, input_effect, line_put, sink_effect, stream_at, unreached, untouched_sink, Effects, HasFront}
+use Rattle.mig_libxl.specs.Reads.{IsStreamTally}
+use Rattle.mig_tool_guest.proofs.Tallied.{checked}
+use Rattle.mig_tool_guest.proofs.Unread.{unread_told}
 use Rattle.mig_tool_guest.specs.Fronts.{Checked}
-use Rattle.mig_tool_guest.specs.Promises.{check_promise}
 use Rattle.mig_tool_report.specs.Report.{checked_line}
+use Rattle.mig_tool_report.specs.declared.outcome.Refusal.TheVariants as refusals
 use Rattle.mig_tool_guest.proofs.checks.check.Goals as goal
 
 pub returns-in-Err : goal.returns-in-Err
 returns-in-Err g c =
     let e : Effects = effects (input_effect g.S.Source.left g.S.Source.faults c.args.input.now c.judge_any.new.src) unreached (sink_effect g.R.Sink.written g.R.Sink.faults c.args.report.now c.finish.new.report) in
-    let none = not_written _ c.in-Err.answer _ c.unread.ensures in
-    finished check_promise e c.unread.result c.finish.result c.finish.ensures.status
-    (unwritten check_promise e c.unread.result none (not_checked _ _ _ _ c.in-Err.answer _ c.in-Err.ensures.read c.unread.ensures) (not_read_count Tally _ c.in-Err.answer _ _ _ c.unread.ensures c.in-Err.ensures.faults) tt refl)
-    (never_failed c.unread.result c.finish.result none c.finish.ensures.status) c.finish.ensures.line c.finish.ensures.quiet c.finish.ensures.later (no_line checked_line _ _ c.unread.result c.finish.result none c.finish.ensures.status) tt
+    unread_told IsStreamTally stream_at refusals.Stream checked_line (HasFront AcceptedStream) HasStreamRefusal Checked (λ _ _ _ _ h. h) e c.in-Err.answer c.unread.result c.finish.result c.unread.ensures c.in-Err.ensures.read c.in-Err.ensures.faults untouched_sink c.finish.ensures.status c.finish.ensures.line c.finish.ensures.quiet c.finish.ensures.later
 
 pub returns-in-Ok-put_checked : goal.returns-in-Ok-put_checked
 returns-in-Ok-put_checked g c =

@@ -1,18 +1,18 @@
-use Rattle.mig_tool_guest.proofs.Common.{Ok, Err, refl, inl, inr, ℕ, HasLegacyRefusal, AcceptedLegacy, effects, finished, input_effect, line_put, never_failed, no_line, sink_effect, unreached, untouched_sink, unwritten, Effects, HasFront}
-use Rattle.mig_tool_guest.proofs.Tallied.{legacy_checked, not_checked_legacy}
-use Rattle.mig_tool_guest.proofs.Reporting.{not_read_count, not_written}
+use Rattle.mig_tool_guest.proofs.Common.{◌≡◌, Ok, Err, refl, inl, inr, HasLegacyRefusal, AcceptedLegacy, effects, input_effect, line_put, sink_effect, unreached, untouched_sink, Effects, HasFront}
+use Rattle.mig_tool_guest.proofs.Tallied.{legacy_checked}
+use Rattle.mig_tool_guest.proofs.Unread.{unread_told}
+use Rattle.mig_legacy.specs.Legacy.{mean_legacy}
+use Rattle.mig_legacy.specs.Stream.{legacy_at}
 use Rattle.mig_tool_guest.specs.Fronts.{LegacyChecked}
-use Rattle.mig_tool_guest.specs.Promises.{check_legacy_promise}
 use Rattle.mig_tool_report.specs.Report.{checked_legacy_line}
+use Rattle.mig_tool_report.specs.declared.outcome.Refusal.TheVariants as refusals
+use Rattle.std.specs.FinMap as maps
 use Rattle.mig_tool_guest.proofs.checks.check_legacy.Goals as goal
 
 pub returns-in-Err : goal.returns-in-Err
 returns-in-Err g c =
     let e : Effects = effects (input_effect g.S.Source.left g.S.Source.faults c.args.input.now c.judge_legacy.new.src) unreached (sink_effect g.R.Sink.written g.R.Sink.faults c.args.report.now c.finish.new.report) in
-    let none = not_written _ c.in-Err.answer _ c.unconverted.ensures in
-    finished check_legacy_promise e c.unconverted.result c.finish.result c.finish.ensures.status
-    (unwritten check_legacy_promise e c.unconverted.result none (not_checked_legacy _ _ _ _ c.in-Err.answer _ c.in-Err.ensures.read c.unconverted.ensures) (not_read_count ℕ _ c.in-Err.answer _ _ _ c.unconverted.ensures c.in-Err.ensures.faults) tt refl)
-    (never_failed c.unconverted.result c.finish.result none c.finish.ensures.status) c.finish.ensures.line c.finish.ensures.quiet c.finish.ensures.later (no_line checked_legacy_line _ _ c.unconverted.result c.finish.result none c.finish.ensures.status) tt
+    unread_told (λ frames s. frames ≡ maps.len (mean_legacy s).frames) legacy_at refusals.Legacy checked_legacy_line (HasFront AcceptedLegacy) HasLegacyRefusal LegacyChecked (λ _ _ _ _ h. h) e c.in-Err.answer c.unconverted.result c.finish.result c.unconverted.ensures c.in-Err.ensures.read c.in-Err.ensures.faults untouched_sink c.finish.ensures.status c.finish.ensures.line c.finish.ensures.quiet c.finish.ensures.later
 
 pub returns-in-Ok-put_checked_legacy : goal.returns-in-Ok-put_checked_legacy
 returns-in-Ok-put_checked_legacy g c =

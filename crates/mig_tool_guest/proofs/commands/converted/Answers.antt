@@ -1,5 +1,9 @@
-use Rattle.mig_tool_guest.proofs.Common.{GuestOf, refl, text_written, unwritten, inl, inr, convert_promise, effects, input_effect, sink_effect, unreached, Effects}
-use Rattle.mig_tool_guest.proofs.Reporting.{came_of_legacy, not_converted, not_read_count, not_written}
+use Rattle.mig_tool_guest.proofs.Common.{◌≡◌, refl, text_written, inl, inr, convert_promise, effects, input_effect, sink_effect, unreached, Effects}
+use Rattle.mig_tool_guest.proofs.Reporting.{came_of_legacy}
+use Rattle.mig_tool_guest.proofs.Unread.{unread_comes}
+use Rattle.mig_tool_report.specs.declared.outcome.Refusal.TheVariants as refusals
+use Rattle.mig_legacy.specs.Legacy.{mean_legacy}
+use Rattle.mig_legacy.specs.Stream.{legacy_at}
 use Rattle.mig_tool_guest.proofs.commands.converted.Goals as goal
 
 pub returns-in-Ok : goal.returns-in-Ok
@@ -13,5 +17,4 @@ returns-in-Ok g c =
 pub returns-in-Err : goal.returns-in-Err
 returns-in-Err g c =
     let e : Effects = effects (input_effect g.S.Source.left g.S.Source.faults c.args.input.now c.read_legacy.new.src) (sink_effect g.K.Sink.written g.K.Sink.faults c.args.out.now c.args.out.now) unreached in
-    unwritten convert_promise e c.unconverted.result (not_written _ c.in-Err.answer _ c.unconverted.ensures) (not_converted _ _ _ _ c.in-Err.answer _ c.in-Err.ensures.read c.unconverted.ensures)
-    (not_read_count GuestOf _ c.in-Err.answer _ _ _ c.unconverted.ensures c.in-Err.ensures.faults) refl refl
+    unread_comes (λ guest s. guest ≡ mean_legacy s) legacy_at refusals.Legacy convert_promise (λ _ _ _ _ h. h) e c.in-Err.answer c.unconverted.result c.unconverted.ensures c.in-Err.ensures.read c.in-Err.ensures.faults (record { untouched = refl; quiet = refl })

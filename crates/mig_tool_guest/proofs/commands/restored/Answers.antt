@@ -1,5 +1,7 @@
-use Rattle.mig_tool_guest.proofs.Common.{Reading, refl, unwritten, restore_promise, effects, input_effect, sink_effect, unreached, Effects}
-use Rattle.mig_tool_guest.proofs.Reporting.{came_restored, not_read, not_read_count, not_written, restored_came}
+use Rattle.mig_tool_guest.proofs.Common.{IsStreamReading, stream_at, refl, restore_promise, effects, input_effect, sink_effect, unreached, Effects}
+use Rattle.mig_tool_guest.proofs.Reporting.{came_restored, restored_came}
+use Rattle.mig_tool_guest.proofs.Unread.{unread_comes}
+use Rattle.mig_tool_report.specs.declared.outcome.Refusal.TheVariants as refusals
 use Rattle.mig_tool_guest.proofs.commands.restored.Goals as goal
 
 pub returns : goal.returns
@@ -13,5 +15,4 @@ returns g c =
 pub returns-in-Err : goal.returns-in-Err
 returns-in-Err g c =
     let e : Effects = effects (input_effect g.S.Source.left g.S.Source.faults c.args.input.now c.read_any.new.src) (sink_effect g.K.Sink.written g.K.Sink.faults c.args.out.now c.args.out.now) unreached in
-    unwritten (restore_promise c.args.base) e c.unread.result (not_written _ c.in-Err.answer _ c.unread.ensures) (not_read _ _ _ _ c.in-Err.answer _ c.in-Err.ensures.read c.unread.ensures)
-    (not_read_count Reading _ c.in-Err.answer _ _ _ c.unread.ensures c.in-Err.ensures.faults) refl refl
+    unread_comes IsStreamReading stream_at refusals.Stream (restore_promise c.args.base) (λ _ _ _ _ h. h) e c.in-Err.answer c.unread.result c.unread.ensures c.in-Err.ensures.read c.in-Err.ensures.faults (record { untouched = refl; quiet = refl })

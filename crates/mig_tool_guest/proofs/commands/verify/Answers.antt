@@ -1,15 +1,14 @@
-use Rattle.mig_tool_guest.proofs.Common.{Reading, Ok, Err, refl, ◌∙◌, rules, inl, inr, HasStreamRefusal, AcceptedStream, effects, finished, input_effect, line_put, never_failed, no_line, sink_effect, unreached, untouched_sink, unwritten, verify_promise, Effects, Verified, HasFront, ok_line}
-use Rattle.mig_tool_guest.proofs.Reporting.{not_read, not_read_count, not_written, verified}
+use Rattle.mig_tool_guest.proofs.Common.{IsStreamReading, Ok, Err, refl, ◌∙◌, rules, inl, inr, HasStreamRefusal, AcceptedStream, effects, input_effect, line_put, sink_effect, stream_at, unreached, untouched_sink, Effects, Verified, HasFront, ok_line}
+use Rattle.mig_tool_guest.proofs.Reporting.{verified}
+use Rattle.mig_tool_guest.proofs.Unread.{unread_told}
+use Rattle.mig_tool_report.specs.declared.outcome.Refusal.TheVariants as refusals
 use Rattle.std.specs.FinMap as maps
 use Rattle.mig_tool_guest.proofs.commands.verify.Goals as goal
 
 pub returns-in-Err : goal.returns-in-Err
 returns-in-Err g c =
     let e : Effects = effects (input_effect g.S.Source.left g.S.Source.faults c.args.input.now c.read_any.new.src) unreached (sink_effect g.R.Sink.written g.R.Sink.faults c.args.report.now c.finish.new.report) in
-    let none = not_written _ c.in-Err.answer _ c.unread.ensures in
-    finished verify_promise e c.unread.result c.finish.result c.finish.ensures.status
-    (unwritten verify_promise e c.unread.result none (not_read _ _ _ _ c.in-Err.answer _ c.in-Err.ensures.read c.unread.ensures) (not_read_count Reading _ c.in-Err.answer _ _ _ c.unread.ensures c.in-Err.ensures.faults) tt refl)
-    (never_failed c.unread.result c.finish.result none c.finish.ensures.status) c.finish.ensures.line c.finish.ensures.quiet c.finish.ensures.later (no_line ok_line _ _ c.unread.result c.finish.result none c.finish.ensures.status) tt
+    unread_told IsStreamReading stream_at refusals.Stream ok_line (HasFront AcceptedStream) HasStreamRefusal Verified (λ _ _ _ _ h. h) e c.in-Err.answer c.unread.result c.finish.result c.unread.ensures c.in-Err.ensures.read c.in-Err.ensures.faults untouched_sink c.finish.ensures.status c.finish.ensures.line c.finish.ensures.quiet c.finish.ensures.later
 
 pub returns-in-Ok-put_ok : goal.returns-in-Ok-put_ok
 returns-in-Ok-put_ok g c =
