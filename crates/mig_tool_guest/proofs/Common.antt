@@ -24,7 +24,7 @@ pub use Rattle.mig_tool_guest.specs.Fronts.{Accepting, Normalised, PartWritten, 
 pub use Rattle.mig_tool_guest.specs.Outcomes.{outcome_of}
 pub use Rattle.mig_tool_guest.specs.Promises.{HasFront, convert_promise, normalise_promise, relay_promise, restore_promise, show_promise, verify_promise, walk_image_promise, walk_promise}
 pub use Rattle.mig_tool_guest.specs.Refusals.{HasLegacyRefusal, HasOpenRefusal, HasStreamRefusal, HasWalkImageRefusal, HasWalkRefusal}
-pub use Rattle.mig_tool_report.proofs.Promises.{finished, input_same, line_put, never_failed, never_usage, no_line, own_line_alone, text_rose, text_written, unchanged, untouched_sink, unwritten}
+pub use Rattle.mig_tool_report.proofs.Promises.{finished, input_same, line_put, never_failed, never_usage, no_line, own_line_alone, text_rose, text_told, text_written, unchanged, untouched_sink, unwritten}
 pub use Rattle.mig_tool_report.proofs.Statuses.{line_reported, says_of}
 pub use Rattle.mig_tool_report.specs.Outcome.{IsUnwritten, line_of, status_of}
 pub use Rattle.mig_tool_report.specs.Promises.{CarriedOut, ComesTo, Effects, IsUntouched, Promise, SinkEffect, effects, input_effect, reports_line, sink_effect, unreached}

@@ -1,7 +1,7 @@
 -- Promises that are kept.
 use Rattle.mig_tool_report.proofs.Common.{◌≡◌, ℕ, ◌≤◌, List, Option, refl, subst, sym, ◌∙◌, arith, line_of, inl, inr, ◌⊎◌, ◌≢◌, AppendsPart, Rose, IsUnwritten, status_of, Reports, EndsWithOwnLine, InputRises, NoneFailed, OutcomeSays, OutputRises, PutsLineOf, Refusing, StatusSays, Outcome, Status}
 use Rattle.std.specs.Io.KnownBytes.{Appends}
-use Rattle.mig_tool_report.specs.Promises.{CarriedOut, ComesTo, Effects, InputEffect, IsUntouched, Promise, SinkEffect, effects, reports_line, unreached}
+use Rattle.mig_tool_report.specs.Promises.{CarriedOut, ComesTo, Effects, InputEffect, IsUntouched, Promise, SinkEffect, effects, reports_line, unreached, writes_text}
 use Rattle.mig_tool_report.specs.declared.outcome.Outcome.TheVariants as outcomes
 use Rattle.mig_tool_report.specs.declared.status.Status.TheVariants as statuses
 use Rattle.mig_tool_report.proofs.Statuses.{line_reported, says_of}
@@ -160,3 +160,11 @@ beside line Accepts Refuses Says input out report status idle c = record {
 
 pub untouched_sink : IsUntouched unreached
 untouched_sink = record { untouched = tt; quiet = refl }
+
+-- a command that writes a text puts no line but that of its status
+pub text_told : (Accepts : List ℕ → Type 0) (Refuses : Refusing) (Text Part : List ℕ → (left old new : Option (List ℕ)) → Type 0) (input : InputEffect) (out report : SinkEffect) (outcome : Outcome) (status : Status)
+    → status ≡ status_of outcome → ComesTo (writes_text Accepts Refuses Text Part) (effects input out unreached) outcome → Reports (line_of outcome) report.old report.new report.failed report.failed_now
+    → (outcome ≡ outcomes.Done → report.failed_now ≡ report.failed) → report.failed ≤ report.failed_now → CarriedOut (writes_text Accepts Refuses Text Part) (effects input out report) status
+text_told Accepts Refuses Text Part input out report outcome status is c line quiet later =
+    let came : ComesTo (writes_text Accepts Refuses Text Part) (effects input out report) outcome = record { said = c.said; known = c.known; kept = c.kept; read = c.read; write = c.write } in
+    finished (writes_text Accepts Refuses Text Part) (effects input out report) outcome status is came (text_rose outcome status _ _ is c.write) line quiet later tt tt

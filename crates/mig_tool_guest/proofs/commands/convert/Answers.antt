@@ -1,11 +1,5 @@
-use Rattle.mig_tool_guest.proofs.Common.{ComesTo, finished, text_rose, convert_promise, effects, input_effect, sink_effect, Effects}
+use Rattle.mig_tool_guest.proofs.Common.{AcceptedLegacy, HasFront, HasLegacyRefusal, Normalised, PartWritten, canon_any, text_told}
 use Rattle.mig_tool_guest.proofs.commands.convert.Goals as goal
 
 pub returns : goal.returns
-returns g c =
-    let e : Effects = effects (input_effect g.S.Source.left g.S.Source.faults c.args.input.now c.converted-outcome.new.input) (sink_effect g.K.Sink.written g.K.Sink.faults c.args.out.now c.converted-outcome.new.out)
-    (sink_effect g.R.Sink.written g.R.Sink.faults c.args.report.now c.finish.new.report) in
-    let k = c.converted-outcome.ensures in
-    let came : ComesTo convert_promise e c.converted-outcome.result = record { said = k.said; known = k.known; kept = k.kept; read = k.read; write = k.write } in
-    finished convert_promise e c.converted-outcome.result c.finish.result c.finish.ensures.status came (text_rose c.converted-outcome.result c.finish.result _ _ c.finish.ensures.status came.write)
-    c.finish.ensures.line c.finish.ensures.quiet c.finish.ensures.later tt tt
+returns g c = text_told (HasFront AcceptedLegacy) HasLegacyRefusal (Normalised AcceptedLegacy) (PartWritten AcceptedLegacy canon_any) _ _ _ c.converted-outcome.result c.finish.result c.finish.ensures.status c.converted-outcome.ensures c.finish.ensures.line c.finish.ensures.quiet c.finish.ensures.later
