@@ -12,9 +12,7 @@ ghost use Rattle.mig_legacy.specs.Seen.{cut_short, put_in_guest, put_in_emulator
 use crate::batch::{batch_fault, page_data_words};
 use crate::text::put;
 use crate::toolstack::{physmap_pairs, toolstack_fault};
-use mig_bytes::{
-    Memory, ReadFailed, Source, Stop, are_bytes, skip, take_long, take_part, u32_le,
-};
+use mig_bytes::{Memory, ReadFailed, Source, Stop, are_bytes, skip, take_long, take_part, u32_le};
 use mig_guest::{EMULATOR_PAIRS, Guest, PartKey};
 use mig_headers::{Cause, LegacyCause, MOST_BODY, VCPU_LIMIT};
 use mig_libxl_form::Emulators;

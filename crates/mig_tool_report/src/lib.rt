@@ -17,8 +17,8 @@ mod words;
 pub use command::{Command, command_in};
 pub use outcome::{
     CheckSummary, ExerciseSummary, Outcome, Refusal, RelaySummary, SaveSummary, Summary, WalkEnd,
-    WalkSummary, finish, put_checked, put_checked_legacy, put_exercised, put_line, put_ok, put_relayed,
-    put_saved, put_walked,
+    WalkSummary, finish, put_checked, put_checked_legacy, put_exercised, put_line, put_ok,
+    put_relayed, put_saved, put_walked,
 };
 pub use status::Status;
 pub use words::{INPUT_BUFFER, words_of};
