@@ -87,6 +87,19 @@ The stream is judged as `mig relay` does it, so what needs the whole guest isn't
 kept in memory, but what is shown of each record is, until the line is written."""
 
 
+INFO = """\
+Files and folders, with all files below, and `-` for standard input; each is what `mig check` takes.
+
+It judges no file: `mig check` does that, and what is told here may be damaged. Told are the file's form; of the configuration in xl's
+or libvirt's header the domain's name, uuid and type, its vCPUs and its memory; and of the stream its version and kind, which Xen wrote
+it, how many records it has, how many frame numbers were sent and how many pages with them, and which parts it has. That of the stream
+comes from the program's `show`, so of a stream that is refused what stands in front of the refused part is told; of an old save its
+frames alone. A name is told as it stands in the file: nobody vouches for it.
+
+With --json there is an object in a line for each file, with --table a line. No page is kept in memory, but a list of the records is,
+up to some 2^20 of them; of a stream with more than that nothing is told but its form and its domain, with status 5."""
+
+
 DIGEST = """\
 A line has the SHA-256 of the canonical stream of a file's guest, and the file's name, as sha256sum writes them. It is the
 digest of what `mig normalise`, or of an old save `mig convert`, writes: so two saves of the same guest state have the same,
@@ -229,6 +242,11 @@ def show(words):
         return refused.status
 
 
+def info(words):
+    from front.info import info as run
+    return run(words)
+
+
 def walk(words):
     from front.walk import walk as run
     return run(words)
@@ -276,6 +294,12 @@ def parser():
     listing.add_argument('paths', metavar='PATH', nargs='+')
     listing.add_argument('--names', action='store_true', help='put each text in an object with the name of its file')
     listing.set_defaults(run=show)
+    telling = verb(verbs, 'info', 'tell what is in each file: its form, its domain and its parts; it judges nothing', INFO)
+    telling.add_argument('paths', metavar='PATH', nargs='+')
+    ways = telling.add_mutually_exclusive_group()
+    ways.add_argument('--json', action='store_true', help='print one JSON object for each file')
+    ways.add_argument('--table', action='store_true', help='print a line for each file, in columns')
+    telling.set_defaults(run=info)
     sums = verb(verbs, 'digest', "print the digest of each guest's canonical stream, or check a list of them", DIGEST)
     sums.add_argument('paths', metavar='PATH', nargs='+')
     sums.add_argument('-j', dest='jobs', metavar='N', type=number(1), default=1, help='up to N files at once, as far as memory allows')

@@ -1,0 +1,257 @@
+"""`mig info`: what is in each file, for people, and with --json or --table for others. It judges nothing: what it tells of a stream
+it takes from the program's `show`, and of an old save from `mig_check legacy`."""
+import json
+import os
+import sys
+from collections import namedtuple
+
+from front import check, domain, forms, parts, program, resolve, sources, verdict
+from front.sharing import Memory
+from front.text import put_lines, shown
+
+TOLD, NOT_TOLD = 'told', 'not told'                  # the results of a file of which all is told, and of one that isn't looked at
+AHEAD = 4096                                         # so much of a stream's front is kept, for what no record tells
+MOST_TEXT = 128 << 20                                # bytes of a list of records, which is some 2^20 of them
+MOST_TAKEN = 512 << 20                               # what the program may take for such a list
+MOST_SHOWN = 200                                     # letters of a name that are printed
+TOO_MANY = 'too many records to list'
+NOT_KEPT = 'not told of a pipe'
+ROW = '%-8s %-4s %5s %14s %-6s %9s %9s  %-20s %s'
+HEADINGS = 'RESULT', 'KIND', 'VCPUS', 'MEMORY', 'XEN', 'RECORDS', 'PAGES', 'NAME', 'FILE'
+
+# Of one file: a verdict, the bytes that it has, its domain, why that isn't told, and what its stream holds; None where nothing is
+# said of it.
+Fields = namedtuple('Fields', 'found size domain unread stream')
+Fields.__new__.__defaults__ = (None,) * 4            # of the last four; python3.6 has no better word for it
+
+
+def cut(text, most=MOST_SHOWN):
+    """What a file says of itself, as one line that isn't too long."""
+    return shown(text[:most]) + ' ..' * (len(text) > most)
+
+
+def with_most(now, most, unit=''):
+    """A number, and what it may become at most."""
+    if now is None or most is None or now == most:
+        return '%d%s' % (most if now is None else now, unit)
+    return '%d of %d%s' % (now, most, unit)
+
+
+def memory(now, most):
+    """Amounts of KiB, in MiB where they are whole."""
+    if any(one is not None and one % 1024 for one in (now, most)):
+        return with_most(now, most, ' KiB')
+    return with_most(*(one if one is None else one >> 10 for one in (now, most)), ' MiB')
+
+
+class Info(Fields):
+    """What is told of one file."""
+
+    def lines(self):
+        """What is printed of it."""
+        found = self.found
+        yield 'file: ' + shown(found.name)
+        if found.form:
+            yield 'form: ' + found.form
+        if self.size is not None:
+            yield 'size: %d bytes' % self.size
+        if self.unread:
+            yield 'configuration: not told: ' + self.unread
+        if self.domain:
+            told = ['    ' + line for line in of_domain(self.domain)]
+            yield 'configuration:' + ' it says nothing of the domain' * (not told)
+            yield from told
+        if self.stream:
+            yield 'stream:'
+            yield from ('    ' + line for line in of_stream(self.stream))
+        yield from self.of_verdict()
+
+    def of_verdict(self):
+        """What the program answered, where it isn't that all was listed."""
+        found = self.found
+        if found.status:
+            yield found.line
+        elif found.line != 'ok':
+            yield 'stream:'
+            yield '    frames: ' + verdict.LEGACY_FACTS.fullmatch(found.line)[1]
+        if found.means:
+            yield '    %s%s; %s' % (found.where(), found.means, found.do)
+        if found.status and self.stream:
+            yield '    what is told of the stream stands in front of that'
+        if found.follows:
+            yield 'behind the end: %d bytes' % found.follows
+
+    def facts(self):
+        """It as one object, for JSON: what isn't there is left out."""
+        facts = self.found.facts()
+        if self.found.status == program.OK:
+            facts['result'] = TOLD
+            del facts['line']
+        facts.pop('size', None)
+        if self.size is not None:
+            facts['size'] = self.size
+        if self.unread:
+            facts['configuration'] = self.unread
+        if self.domain:
+            facts['domain'] = {name: value for name, value in self.domain._asdict().items() if value is not None}
+        if self.stream:
+            facts['stream'] = self.stream
+        return facts
+
+    def row(self):
+        """It as the columns of a table."""
+        told = self.domain or domain.Domain(*[None] * len(domain.Domain._fields))
+        stream = self.stream or {}
+        vcpus = (told.vcpus, told.max_vcpus) if told.vcpus is not None else (stream.get('vcpus'), told.max_vcpus)
+        amounts = told.memory, told.max_memory
+        return (TOLD if self.found.status == program.OK else self.found.result, stream.get('kind') or told.type or '-',
+                with_most(*vcpus).replace(' of ', '/') if vcpus != (None, None) else '-',
+                memory(*amounts).replace(' of ', '/') if amounts != (None, None) else '-', stream.get('xen', '-'),
+                stream.get('records', '-'), stream.get('pages', '-'), '-' if told.name is None else cut(told.name, 40),
+                shown(self.found.name))
+
+
+def of_domain(told):
+    """What is printed of a domain."""
+    for name in 'name', 'uuid', 'type':
+        if getattr(told, name) is not None:
+            yield '%s: %s' % (name, cut(getattr(told, name)))
+    if (told.vcpus, told.max_vcpus) != (None, None):
+        yield 'vCPUs: ' + with_most(told.vcpus, told.max_vcpus)
+    if (told.memory, told.max_memory) != (None, None):
+        yield 'memory: ' + memory(told.memory, told.max_memory)
+
+
+def of_stream(stream):
+    """What is printed of a stream."""
+    if 'version' in stream:
+        yield 'version: %d' % stream['version']
+    if 'kind' in stream:
+        yield 'kind: ' + stream['kind']
+    if 'xen' in stream:
+        yield 'Xen: %s%s' % (stream['xen'], ', which a canonical or a converted stream names' * (stream['xen'] == '0.1'))
+    yield 'records: %d' % stream['records']
+    yield 'frames sent: %d, %d with a page' % (stream['frames_sent'], stream['pages'])
+    if 'X86_PV_VCPU_BASIC' in stream['counts']:
+        yield 'vCPUs: %s' % stream.get('vcpus', NOT_KEPT)
+    yield 'parts: ' + (', '.join(parts_of(stream)) or 'none')
+    if {parts.STORE, parts.CONTEXT} & set(stream['counts']):
+        yield from emulators(stream)
+    if stream['verify']:
+        yield 'VERIFY: frames were sent again, to be compared'
+
+
+def parts_of(stream):
+    """The types of records, in the order in which they come first, with what is known of each."""
+    known = {'HVM_PARAMS': ('parameters', stream.get('parameters')), 'X86_PV_P2M_FRAMES': ('P2M frames', stream.get('p2m_frames'))}
+    for name, count in stream['counts'].items():
+        more = ['records: %d' % count] * (count > 1) + (['%s: %d' % known[name]] if name in known else [])
+        if name != 'END':
+            yield name + (' (%s)' % ', '.join(more) if more else '')
+
+
+def emulators(stream):
+    if 'emulators' not in stream:
+        yield 'emulators: ' + NOT_KEPT
+    for one in stream.get('emulators', ()):
+        state = ['%s %d bytes' % (name, one[name]) for name in ('xenstore', 'context') if name in one]
+        yield 'emulator: %s, id %d, index %d: %s' % (one.get('name', 'unknown'), one['id'], one['index'], ', '.join(state))
+
+
+# ---- what is asked of the programs
+
+def size_of(source):
+    """How many bytes a file has; None of a pipe."""
+    if source.packed:
+        return os.fstat(source.fd).st_size
+    return source.size
+
+
+def text_of(process):
+    """What a program writes, or a little more of it than is kept."""
+    text = bytearray()
+    with process.stdout as pipe:
+        while len(text) <= MOST_TEXT:
+            block = sources.read_some(pipe.fileno(), sources.BLOCK)
+            if not block:
+                break
+            text += block
+    return text
+
+
+def listed(path, source, begins):
+    """The program's answer to `show`, and the text that it wrote."""
+    process = program.start(path, ['show'], source, begins, program.subprocess.PIPE)
+    try:
+        text = text_of(process)
+        if len(text) > MOST_TEXT:
+            process.kill()
+    finally:
+        said = program.answer_of(process)
+        fault = source.ended(said.status == program.OK)
+    if len(text) > MOST_TEXT:
+        return program.Answer(program.NO_MEMORY, TOO_MANY), b''
+    if said.line == 'fault: memory':
+        said = said._replace(line=TOO_MANY)
+    return program.Answer(program.READ_FAULT, 'fault: read: ' + fault) if fault else said, text
+
+
+def domain_of(source, form):
+    """The domain of a form's header, and why it isn't told."""
+    if not form.header:
+        return None, None
+    try:
+        return domain.of_header(source, form.header), None
+    except domain.Unread as unread:
+        return None, str(unread)
+
+
+def without_judging(told):
+    """What `check` doesn't judge isn't told here."""
+    if told.found.result != verdict.NOT_JUDGED:
+        return told
+    return told._replace(found=told.found._replace(result=NOT_TOLD, line=told.found.line.replace(verdict.NOT_JUDGED, NOT_TOLD, 1)))
+
+
+class Files:
+    """What is told of each file, one after another."""
+
+    def __init__(self):
+        self.memory, self.tool, self.check = Memory(1), program.find(), program.find(resolve.CHECK)
+
+    def told(self, name):
+        told = verdict.of_file(name, self.of_source)
+        return without_judging(told if isinstance(told, Info) else Info(told))
+
+    def of_source(self, name, source):
+        form = forms.form_of(source)
+        early = verdict.without_program(name, form)
+        if early:
+            words = early.form and ', '.join(filter(None, (source.packed, early.form)))
+            return Info(early._replace(form=words, packed=source.packed), size_of(source))
+        told = domain_of(source, form)
+        if form.kind == forms.LEGACY:
+            with self.memory.taken(check.MOST_TAKEN):
+                return Info(verdict.judged(name, self.check, source), size_of(source), *told)
+        ahead = source.at(form.begins, AHEAD)
+        with self.memory.taken(MOST_TAKEN):
+            said, text = listed(self.tool, source, form.begins)
+        found = verdict.of_answer(name, source, form, 'show', said)
+        return Info(found, size_of(source), *told, parts.stream_of(text, source, form.begins, ahead))
+
+
+def info(words):
+    files, statuses, before = Files(), set(), False
+    if words.table:
+        put_lines([ROW % HEADINGS], sys.stdout)
+    for name in check.files_of(words.paths):
+        told = files.told(name)
+        statuses.add(told.found.status)
+        if words.json:
+            put_lines([json.dumps(told.facts())], sys.stdout)
+        elif words.table:
+            put_lines([(ROW % told.row()).rstrip()], sys.stdout)
+        else:
+            put_lines([''] * before + list(told.lines()), sys.stdout)
+        before = True
+    return check.status_of(statuses)
