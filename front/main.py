@@ -12,7 +12,7 @@ exit status:
   0    each file was accepted; `compare`: the same guest state
   1    a file was refused, is no save, or isn't judged; `compare`: another guest state; `save`: the image, the script or
        the paused host was refused; `walk`: the address means no frame; `relay` may have written a part of the stream,
-       and `show` has written what stands in front of the refused part
+       and `show` and `info` have told what stands in front of the refused part
   2    the words make no command, OUT is there already, is a terminal, or names no file
   3    a file couldn't be read or unpacked
   4    OUT, or what is told, couldn't be written
