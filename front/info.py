@@ -13,10 +13,11 @@ TOLD, NOT_TOLD = 'told', 'not told'                  # the results of a file of 
 AHEAD = 4096                                         # so much of a stream's front is kept, for what no record tells
 MOST_TEXT = 128 << 20                                # bytes of a list of records, which is some 2^20 of them
 MOST_TAKEN = 512 << 20                               # what the program may take for such a list
-MOST_SHOWN = 200                                     # letters of a name that are printed
+MOST_SHOWN, MOST_IN_COLUMN = 200, 40                 # letters of a name that are printed
 TOO_MANY = 'too many records to list'
 NOT_KEPT = 'not told of a pipe'
 ROW = '%-8s %-4s %5s %14s %-6s %9s %9s  %-20s %s'
+NOTHING = domain.Domain(*[None] * len(domain.Domain._fields))
 HEADINGS = 'RESULT', 'KIND', 'VCPUS', 'MEMORY', 'XEN', 'RECORDS', 'PAGES', 'NAME', 'FILE'
 
 # Of one file: a verdict, the bytes that it has, its domain, why that isn't told, and what its stream holds; None where nothing is
@@ -42,6 +43,16 @@ def memory(now, most):
     if any(one is not None and one % 1024 for one in (now, most)):
         return with_most(now, most, ' KiB')
     return with_most(*(one if one is None else one >> 10 for one in (now, most)), ' MiB')
+
+
+def word_of(text):
+    """A text of a file in a column."""
+    return '-' if text is None else cut(text, MOST_IN_COLUMN)
+
+
+def amount(now, most, show):
+    """A number, and what it may become, in a column."""
+    return '-' if now is None and most is None else show(now, most).replace(' of ', '/')
 
 
 class Info(Fields):
@@ -100,15 +111,12 @@ class Info(Fields):
 
     def row(self):
         """It as the columns of a table."""
-        told = self.domain or domain.Domain(*[None] * len(domain.Domain._fields))
-        stream = self.stream or {}
-        vcpus = (told.vcpus, told.max_vcpus) if told.vcpus is not None else (stream.get('vcpus'), told.max_vcpus)
-        amounts = told.memory, told.max_memory
-        return (TOLD if self.found.status == program.OK else self.found.result, stream.get('kind') or told.type or '-',
-                with_most(*vcpus).replace(' of ', '/') if vcpus != (None, None) else '-',
-                memory(*amounts).replace(' of ', '/') if amounts != (None, None) else '-', stream.get('xen', '-'),
-                stream.get('records', '-'), stream.get('pages', '-'), '-' if told.name is None else cut(told.name, 40),
-                shown(self.found.name))
+        told, stream = self.domain or NOTHING, self.stream or {}
+        result = TOLD if self.found.status == program.OK else self.found.result
+        vcpus = stream.get('vcpus') if told.vcpus is None else told.vcpus
+        return (result, stream.get('kind') or word_of(told.type), amount(vcpus, told.max_vcpus, with_most),
+                amount(told.memory, told.max_memory, memory), stream.get('xen', '-'), stream.get('records', '-'),
+                stream.get('pages', '-'), word_of(told.name), shown(self.found.name))
 
 
 def of_domain(told):
@@ -155,7 +163,7 @@ def emulators(stream):
         yield 'emulators: ' + NOT_KEPT
     for one in stream.get('emulators', ()):
         state = ['%s %d bytes' % (name, one[name]) for name in ('xenstore', 'context') if name in one]
-        yield 'emulator: %s, id %d, index %d: %s' % (one.get('name', 'unknown'), one['id'], one['index'], ', '.join(state))
+        yield 'emulator: %s, id %d, index %d: %s' % (one['name'], one['id'], one['index'], ', '.join(state))
 
 
 # ---- what is asked of the programs

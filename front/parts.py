@@ -12,7 +12,6 @@ XEN_PLACE = 32                                       # of the two numbers of Xen
 NUMBERS = struct.Struct('<II')
 EMULATORS = {0: 'unknown emulator', 1: 'qemu traditional', 2: 'qemu upstream'}
 STORE, CONTEXT, VCPU = 'EMULATOR_XENSTORE_DATA', 'EMULATOR_CONTEXT', 'X86_PV_VCPU_BASIC'
-POLICIES = 'X86_CPUID_POLICY', 'X86_MSR_POLICY'
 
 
 class Parts:
@@ -76,7 +75,7 @@ def emulators_of(numbers):
     found = {}
     for name, length, key in numbers:
         if name != VCPU:
-            one = found.setdefault(key, {'id': key[0], 'index': key[1], 'name': EMULATORS.get(key[0])})
+            one = found.setdefault(key, {'id': key[0], 'index': key[1], 'name': EMULATORS.get(key[0], EMULATORS[0])})
             field = 'context' if name == CONTEXT else 'xenstore'
             one[field] = length - NUMBERS.size + (one.get(field, 0) if name == STORE else 0)
     return list(found.values())
