@@ -96,6 +96,8 @@ it, how many records it has, how many frame numbers were sent and how many pages
 comes from the program's `show`, so of a stream that is refused what stands in front of the refused part is told; of an old save its
 frames alone. A name is told as it stands in the file: nobody vouches for it.
 
+The status is 0 where all of each file could be told, 1 where one is no save or is refused in a part, and 3 where one couldn't be read.
+
 With --json there is an object in a line for each file, with --table a line. No page is kept in memory, but a list of the records is,
 up to some 2^20 of them; of a stream with more than that nothing is told but its form and its domain, with status 5."""
 
