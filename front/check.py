@@ -3,7 +3,8 @@ import collections
 import os
 import sys
 
-from front import forms, program, resolve, sources, verdict
+from front import forms, program, resolve, verdict
+from front.files import chosen, files_of  # noqa: F401  (the second is for others)
 from front.sharing import Memory
 from front.text import put_lines, shown
 
@@ -12,52 +13,23 @@ MOST_TAKEN = (16 << 24) + (1 << 36 >> 8) + (64 << 20)
 COUNTED = verdict.OK, verdict.REFUSED, verdict.NO_SAVE, verdict.NOT_JUDGED, verdict.FAULT
 
 
-def entries_of(folder):
-    """What is in a folder, in the order of names."""
-    with os.scandir(folder) as entries:
-        return sorted((entry.path for entry in entries), key=os.path.basename)
-
-
-def files_below(folder):
-    """All files below a folder, in the order of their names; a folder that can't be read is answered as itself, and so is a
-    link to a folder, which isn't followed."""
-    unreadable, left = [], [folder]
-    while left:
-        place = left.pop()
-        try:
-            paths = entries_of(place)
-        except OSError:
-            unreadable.append(place)
-            continue
-        folders = [path for path in paths if os.path.isdir(path)]
-        yield from (path for path in folders if os.path.islink(path))
-        yield from (sources.Found(path) for path in paths if not os.path.isdir(path))
-        left += reversed([path for path in folders if not os.path.islink(path)])
-    yield from unreadable
-
-
-def files_of(paths):
-    for path in paths:
-        if path == '-' or not os.path.isdir(path):
-            yield path
-            continue
-        none = True
-        for found in files_below(path):
-            none = False
-            yield found
-        if none:                                     # a folder that isn't mounted isn't well
-            yield sources.EmptyFolder(path)
-
-
 class Progress:
-    """A line on the terminal that says what is being checked; nowhere else."""
+    """A line on the terminal that says what is being done, and of how many files; nowhere else."""
 
-    def __init__(self):
-        self.shown = sys.stderr.isatty()
+    def __init__(self, doing='checking'):
+        self.shown, self.doing, self.count = sys.stderr.isatty(), doing, None
+
+    def counted(self, names):
+        """The names; where they are shown they are counted first."""
+        if not self.shown:
+            return names
+        names = list(names)
+        self.count = len(names)
+        return names
 
     def tell(self, done, name):
         if self.shown:
-            line = '%d done, checking %s' % (done, shown(name))
+            line = 'file %d of %d, %s %s' % (done + 1, self.count, self.doing, shown(name))
             print('\r\x1b[K' + line[:os.get_terminal_size(2).columns - 1], end='', file=sys.stderr, flush=True)
 
     def clear(self):
@@ -65,10 +37,10 @@ class Progress:
             print('\r\x1b[K', end='', file=sys.stderr, flush=True)
 
 
-def verdicts(names, at_once, judge):
+def verdicts(names, at_once, judge, doing='checking'):
     """The verdict of each file, as a function of its name answers it, in the order of the names."""
-    progress = Progress()
-    for done, (name, check) in enumerate(checks(names, at_once, judge)):
+    progress = Progress(doing)
+    for done, (name, check) in enumerate(checks(progress.counted(names), at_once, judge)):
         progress.tell(done, name)
         found = check()
         progress.clear()
@@ -99,7 +71,9 @@ def checks(names, at_once, judge):
 
 
 def count_of(counts):
-    told = ['%d %s' % (counts[result], result) for result in COUNTED if counts[result] or result == verdict.OK]
+    """How many files there were of each result, the first one also where there was none."""
+    first = next(iter(counts))
+    told = ['%d %s' % (counts[result], result) for result in counts if counts[result] or result == first]
     total = sum(counts.values())
     return '%d %s: %s' % (total, 'file' if total == 1 else 'files', ', '.join(told))
 
@@ -133,7 +107,7 @@ class Checks:
 
 def check(words):
     counts, statuses = dict.fromkeys(COUNTED, 0), set()
-    for found in verdicts(files_of(words.paths), words.jobs, Checks(words).judged):
+    for found in verdicts(chosen(words), words.jobs, Checks(words).judged):
         counts[found.result] += 1
         statuses.add(found.status)
         if words.quiet and found.status == program.OK:

@@ -5,7 +5,7 @@ import os
 import re
 import sys
 
-from front import check, forms, program, sources, verdict
+from front import check, files, forms, program, sources, verdict
 from front.sharing import Memory
 from front.text import put_lines, shown, tell
 from front.write import Refused, put
@@ -13,7 +13,6 @@ from front.write import Refused, put
 LINE = re.compile(rb'(\\?)([0-9a-f]{64}) [ *](.+)', re.S)
 ESCAPED = {b'\\': b'\\\\', b'\n': b'\\n', b'\r': b'\\r'}  # as sha256sum does, with a backslash in front of the line
 UNESCAPED = {escaped: letter for letter, escaped in ESCAPED.items()}
-MOST_LINES = 64 << 20                                # bytes of a list
 
 
 def judge_of(path, at_once):
@@ -67,7 +66,7 @@ def tell_of(found):
 def written(words, path):
     """Writes the digest of each file; the status."""
     statuses = set()
-    for found in check.verdicts(check.files_of(words.paths), words.jobs, judge_of(path, words.jobs)):
+    for found in check.verdicts(files.chosen(words), words.jobs, judge_of(path, words.jobs), 'reading'):
         if found.digest:
             put(1, line_of(found))
         tell_of(found)
@@ -75,23 +74,10 @@ def written(words, path):
     return check.status_of(statuses)
 
 
-def lines_of(name):
-    """The lines of a list, without their ends."""
-    source = sources.source_of(name)
-    try:
-        text = sources.read_upto(source.input_from(0), MOST_LINES + 1)
-        fault = source.ended(len(text) <= MOST_LINES)
-    finally:
-        source.close()
-    if fault or len(text) > MOST_LINES:
-        raise sources.Unreadable(fault or 'it has more than %d MiB' % (MOST_LINES >> 20))
-    return text.splitlines()
-
-
 def compared(words, name, path):
     """Says of each file of a list whether it has the digest that stands there; the status."""
     try:
-        lines = [listed(line) for line in lines_of(name)]
+        lines = [listed(line) for line in files.text_of(name).splitlines()]
     except sources.Unreadable as why:
         tell('%s: fault: read: %s' % (shown(name), why))
         return program.READ_FAULT
@@ -118,4 +104,7 @@ def digest(words):
     path = program.find()
     if not words.check:
         return written(words, path)
+    files.refuse_choice(words, "don't go with --check")
+    if not words.paths:
+        words.usage_fault('the following arguments are required: PATH')
     return check.status_of({compared(words, name, path) for name in words.paths})

@@ -6,6 +6,7 @@ import sys
 from collections import namedtuple
 
 from front import check, domain, forms, parts, program, resolve, sources, verdict
+from front.files import chosen
 from front.sharing import Memory
 from front.text import put_lines, shown
 
@@ -252,7 +253,7 @@ def info(words):
     files, statuses, before = Files(), set(), False
     if words.table:
         put_lines([ROW % HEADINGS], sys.stdout)
-    for name in check.files_of(words.paths):
+    for name in chosen(words):
         told = files.told(name)
         statuses.add(told.found.status)
         if words.json:

@@ -25,6 +25,16 @@ exit status:
 Answers are explained in docs/refusals.md. An `ok` says that the stream is well formed and holds a whole guest, and of
 `relay`, as status 0 of `show`, that its parts are well formed: a bit that was flipped inside a page can't be seen by any
 reader of this format."""
+CHOICE = """\
+A name on the command line, and in a list, is always taken; --include and --exclude look at the names of the files that are
+found below a folder, and leave it all its folders. GLOB is a pattern of the shell: *, ? and [..]."""
+INTO = """\
+With -t DIR there are many PATHs, files and folders with all files below, and one result for each file in DIR, which has to be
+there. A file that is named gets its base name in DIR, one that is found below a folder the path that it has below that folder;
+folders are made where they aren't there. A name that ends in .gz, .zst or .xz loses that end. Of two files with one place the
+second isn't written. Nothing is written over without --force. What fails is told, all are counted at the end, and the status
+is the greatest; what was broken off is begun again with --skip-existing. DIR may stand in a folder that is named: no file in it
+is taken then."""
 INPUT = """\
 IN is a file or `-`: a file of `xl save` or of libvirt's libxl driver, a libxl stream, the image of a libxc stream, or
 a stream of Xen 4.5 or older, also packed by gzip, zstd or xz."""
@@ -146,6 +156,13 @@ class Words(argparse.ArgumentParser):
         """A word that begins with -- is an option only where it is one whole. (python3.6 takes no `-j4` with allow_abbrev=False.)"""
         return [] if option_string.startswith('--') else super()._get_option_tuples(option_string)
 
+    def parse_known_args(self, args=None, namespace=None):
+        """Of a verb that takes many files, those behind an option are taken too."""
+        found, left = super().parse_known_args(args, namespace)
+        if self.get_default('usage_fault') and not any(word.startswith('-') and word != '-' for word in left):
+            found.paths, left = [*found.paths, *left], []
+        return found, left
+
     def _print_message(self, message, file=None):
         put_lines(message.splitlines(), file or sys.stderr)
 
@@ -168,11 +185,23 @@ def verb(verbs, name, says, more=''):
     return words
 
 
+def takes_files(words, says=None):
+    """The words of a verb that takes many files."""
+    words.add_argument('paths', metavar='PATH', nargs='*', help=says)
+    words.add_argument('--include', metavar='GLOB', action='append', help='of the files below folders take those with such a name')
+    words.add_argument('--exclude', metavar='GLOB', action='append', help='of the files below folders take none with such a name')
+    words.add_argument('--files-from', metavar='FILE', action='append', help='take the paths too that FILE, or -, names, one a line')
+    words.add_argument('-0', dest='ends_with_nul', action='store_true', help='with --files-from: each path ends with NUL')
+    words.set_defaults(usage_fault=words.error)
+
+
 def writing_verb(verbs, name, says, with_xl=True):
     words = verb(verbs, name, says, INPUT + '\n\nOUT is written beside its place and renamed when all is well; `-` is '
-                                            'standard output.')
-    words.add_argument('input', metavar='IN')
-    words.add_argument('output', metavar='OUT')
+                                            'standard output.\n\n' + INTO + '\n\n' + CHOICE)
+    words.usage = 'mig %s [OPTION...] IN OUT\n       mig %s [OPTION...] -t DIR PATH...' % (name, name)
+    takes_files(words, 'IN and OUT; with -t files and folders')
+    words.add_argument('-t', '--target-directory', dest='directory', metavar='DIR', help='write one result for each PATH in DIR')
+    words.add_argument('--skip-existing', action='store_true', help='with -t: pass over what has its result in DIR')
     words.add_argument('--force', action='store_true', help='write over OUT where it is there')
     if with_xl:
         words.add_argument('--xl', action='store_true',
@@ -263,8 +292,8 @@ def parser():
     verbs = words.add_subparsers(dest='verb', metavar='VERB')
     verbs.required = True                            # python3.6 takes no such word above
     one = verb(verbs, 'check', 'say of each file whether it is a whole, well formed save',
-               'Files and folders, with all files below, and `-` for standard input.\n' + INPUT)
-    one.add_argument('paths', metavar='PATH', nargs='+')
+               'Files and folders, with all files below, and `-` for standard input.\n' + INPUT + '\n\n' + CHOICE)
+    takes_files(one)
     one.add_argument('-j', dest='jobs', metavar='N', type=number(1), default=1,
                      help='check up to N files at once, as far as memory allows')
     one.add_argument('--json', action='store_true', help='print one JSON object for each file, and no count')
@@ -292,18 +321,18 @@ def parser():
     passing.add_argument('--force', action='store_true', help='write over OUT where it is there')
     passing.add_argument('--json', action='store_true', help='print one JSON object')
     passing.set_defaults(run=relay)
-    listing = verb(verbs, 'show', 'write the records of each file as JSON, up to the part that is refused', SHOW)
-    listing.add_argument('paths', metavar='PATH', nargs='+')
+    listing = verb(verbs, 'show', 'write the records of each file as JSON, up to the part that is refused', SHOW + '\n\n' + CHOICE)
+    takes_files(listing)
     listing.add_argument('--names', action='store_true', help='put each text in an object with the name of its file')
     listing.set_defaults(run=show)
-    telling = verb(verbs, 'info', 'tell what is in each file: its form, its domain and its parts; it judges nothing', INFO)
-    telling.add_argument('paths', metavar='PATH', nargs='+')
+    telling = verb(verbs, 'info', 'tell what is in each file: its form, its domain and its parts; it judges nothing', INFO + '\n\n' + CHOICE)
+    takes_files(telling)
     ways = telling.add_mutually_exclusive_group()
     ways.add_argument('--json', action='store_true', help='print one JSON object for each file')
     ways.add_argument('--table', action='store_true', help='print a line for each file, in columns')
     telling.set_defaults(run=info)
-    sums = verb(verbs, 'digest', "print the digest of each guest's canonical stream, or check a list of them", DIGEST)
-    sums.add_argument('paths', metavar='PATH', nargs='+')
+    sums = verb(verbs, 'digest', "print the digest of each guest's canonical stream, or check a list of them", DIGEST + '\n\n' + CHOICE)
+    takes_files(sums)
     sums.add_argument('-j', dest='jobs', metavar='N', type=number(1), default=1, help='up to N files at once, as far as memory allows')
     sums.add_argument('--check', action='store_true', help='each PATH is a list of digests: say of each digest whether it is that of its file')
     sums.add_argument('-q', dest='quiet', action='store_true', help='with --check: print nothing of what is well')
@@ -362,6 +391,9 @@ def main(arguments):
         if str(missing):
             tell(str(missing))
         return program.NO_PROGRAM
+    except program.Refused as refused:
+        tell(str(refused))
+        return refused.status
     except BrokenPipeError:                          # who reads the lines is gone
         return untold()
     except Untold as fault:

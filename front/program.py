@@ -42,6 +42,14 @@ def surroundings(words):
     return {**os.environ, 'GLIBC_TUNABLES': ':'.join(filter(None, (told, HUGE_PAGES + '=1')))}
 
 
+class Refused(Exception):
+    """What can't be done, with its status."""
+
+    def __init__(self, status, line):
+        super().__init__(line)
+        self.status = status
+
+
 class Running:
     """The programs at work, which are ended where a signal ends the front."""
 

@@ -4,8 +4,8 @@ import json
 import sys
 
 from front import forms, program, sources, verdict, write
-from front.check import files_of, status_of
-from front.text import put_lines, shown, tell
+from front.check import Progress, chosen, status_of
+from front.text import put_lines, shown
 
 OLD = 'not judged: an old save has no such records; what `mig convert` makes of it has'
 
@@ -40,25 +40,29 @@ def listed(words, path, name, source):
     return early or verdict.of_answer(name, source, form, 'show', answer(words, path, name, source, form.begins))
 
 
-def status_of_file(words, path, name):
-    """The status of a file, of which all that isn't its text is told."""
+def listed_file(words, path, name):
+    """The status of a file whose records are written, and the lines that tell all that isn't its text."""
     source = None
     try:
         source = sources.source_of(name)
         found = listed(words, path, name, source)
     except sources.Special:
-        tell('%s: %s' % (shown(name), verdict.SPECIAL))
-        return program.REFUSED
+        return program.REFUSED, ['mig: %s: %s' % (shown(name), verdict.SPECIAL)]
     except sources.Unreadable as unreadable:
-        tell('%s: fault: read: %s' % (shown(name), unreadable))
-        return program.READ_FAULT
+        return program.READ_FAULT, ['mig: %s: fault: read: %s' % (shown(name), unreadable)]
     finally:
         if source:
             source.close()
-    put_lines(list(found.lines())[found.status == program.OK:], sys.stderr)
-    return found.status
+    return found.status, list(found.lines())[found.status == program.OK:]
 
 
 def show(words):
-    path = program.find()
-    return status_of({status_of_file(words, path, name) for name in files_of(words.paths)})
+    path, progress, statuses = program.find(), Progress('listing'), set()
+    progress.shown = progress.shown and not sys.stdout.isatty()  # where the program's own text would stand behind it
+    for done, name in enumerate(progress.counted(chosen(words))):
+        progress.tell(done, name)
+        status, lines = listed_file(words, path, name)
+        progress.clear()
+        put_lines(lines, sys.stderr)
+        statuses.add(status)
+    return status_of(statuses)

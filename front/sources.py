@@ -17,11 +17,21 @@ TOLD_UNPACKERS = 'GZIP', 'XZ_', 'ZSTD_'              # names of variables by whi
 
 
 class Found(str):
-    """The name of a file that was found in a folder, and not given by who calls."""
+    """The name of a file that was found in a folder, and not given by who calls; and of the folder that was."""
+    top = None
+
+
+class Folder(Found):
+    """The name of a folder that was found and stands for itself, as it can't be read, or is a link."""
 
 
 class EmptyFolder(str):
-    """The name of a folder in which no file is."""
+    """The name of a folder in which no file is, or of a list that names none."""
+
+    def __new__(cls, name, why='no file is in it'):
+        made = super().__new__(cls, name)
+        made.why = why
+        return made
 
 
 class Special(Exception):
@@ -305,7 +315,7 @@ def is_special(status):
 def source_of(name):
     """The source of a file with this name; `-` is standard input. A file that gives none is closed again."""
     if isinstance(name, EmptyFolder):
-        raise Unreadable('no file is in it')
+        raise Unreadable(name.why)
     fd = source = None
     try:
         fd = 0 if name == '-' else opened(name)

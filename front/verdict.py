@@ -167,7 +167,7 @@ def of_file(name, judge):
         return Verdict(name, NOT_JUDGED, program.REFUSED, SPECIAL)
     except sources.Unreadable as unreadable:
         return fault(name, str(unreadable))
-    except (program.NoProgram, MemoryError):
+    except (program.NoProgram, program.Refused, MemoryError):
         raise
     except Exception as unforeseen:                  # the other files are checked all the same
         return Verdict(name, FAULT, program.FAULTY, guarding.told_of(unforeseen))

@@ -4,7 +4,8 @@ import errno
 import os
 import sys
 
-from front import forms, headers, program, sources, verdict
+from front import files, forms, headers, program, sources, verdict
+from front.program import Refused
 from front.text import put_lines, shown, tell
 
 LIBXL_FRONT = bytes.fromhex('4c6962786c466d74 00000002 00000000 01000000 00000000')
@@ -13,12 +14,21 @@ MODE = 0o600                                         # a guest's memory is its o
 UNSYNCED = errno.EINVAL, errno.ENOTSUP, errno.EACCES  # of a folder whose file system has no such call, or which can't be read
 
 
-class Refused(Exception):
-    """What can't be done, with its status."""
+class BadWords(Refused):
+    """Words that no file makes good."""
 
-    def __init__(self, status, line):
-        super().__init__(line)
-        self.status = status
+
+def settle(name):
+    """Has the names in a folder written to the disk too, so that who removes the input behind this loses nothing."""
+    try:
+        folder = os.open(name, os.O_RDONLY | os.O_DIRECTORY | os.O_CLOEXEC)
+        try:
+            os.fsync(folder)
+        finally:
+            os.close(folder)
+    except OSError as fault:
+        if fault.errno not in UNSYNCED:
+            raise
 
 
 class Output:
@@ -59,23 +69,11 @@ class Output:
             else:
                 self.move()
             self.part = None
-            self.settle()
+            settle(self.folder)
         except FileExistsError:
             raise Refused(program.USAGE, '%s is there meanwhile; --force writes over it' % shown(self.name)) from None
         except OSError as fault:
             raise Refused(program.WRITE_FAULT, '%s: %s' % (shown(self.name), sources.why(fault))) from None
-
-    def settle(self):
-        """Has the file's name written to the disk too, so that who removes the input behind this loses nothing."""
-        try:
-            folder = os.open(self.folder, os.O_RDONLY | os.O_DIRECTORY | os.O_CLOEXEC)
-            try:
-                os.fsync(folder)
-            finally:
-                os.close(folder)
-        except OSError as fault:
-            if fault.errno not in UNSYNCED:
-                raise
 
     def move(self):
         """Gives the file a name that nobody has. Where there are no hard links an empty file holds it meanwhile."""
@@ -164,35 +162,50 @@ def command_of(words):
     return [words.verb] + ([base] if base is not None else [])
 
 
-def written(words, path, source, output):
+def written(words, path, name, source, output):
     """The verdict of a file of which the program writes what was asked for."""
     form = forms.form_of(source)
-    early = verdict.without_program(words.input, form)
+    early = verdict.without_program(name, form)
     if early:
         return early
     if words.xl:
         configuration(source, form)
     said = answer(words, path, command_of(words), source, form, output.fd)
     if said.status == program.USAGE:
-        raise Refused(program.USAGE, '--base has to be from 1 to 1099494850560')
-    return verdict.of_answer(words.input, source, form, words.verb, said)
+        raise BadWords(program.USAGE, '--base has to be from 1 to 1099494850560')
+    return verdict.of_answer(name, source, form, words.verb, said)
+
+
+def result_of(words, path, name, source, place):
+    """The verdict of a file of which the result gets this place where all is well."""
+    output = Output(place, words.force)
+    try:
+        found = written(words, path or program.find(), name, source, output)
+        if found.status == program.OK:
+            output.place()
+        return found
+    finally:
+        output.close()
 
 
 def write(words):
     words.xl = getattr(words, 'xl', False)
+    if words.directory is not None:
+        from front.into import into
+        return into(words)
+    files.refuse_choice(words, 'go with -t')
+    if words.skip_existing:
+        raise Refused(program.USAGE, '--skip-existing goes with -t')
+    if len(words.paths) != 2:
+        words.usage_fault('IN and OUT are wanted, or -t DIR and PATHs')
+    words.input, words.output = words.paths
     try:
         source = sources.source_of(words.input)
     except sources.Unreadable as unreadable:
         tell('%s: fault: read: %s' % (shown(words.input), unreadable))
         return program.READ_FAULT
     try:
-        output = Output(words.output, words.force)
-        try:
-            found = written(words, program.find(), source, output)
-            if found.status == program.OK:
-                output.place()
-        finally:
-            output.close()
+        found = result_of(words, None, words.input, source, words.output)
     except sources.Unreadable as unreadable:
         tell('%s: fault: read: %s' % (shown(words.input), unreadable))
         return program.READ_FAULT

@@ -21,6 +21,12 @@ complete -c mig -l help -s h -d 'print how it is used'
 complete -c mig -n "__fish_seen_subcommand_from help; and not __fish_seen_subcommand_from $verbs" -f -a "$verbs"
 
 complete -c mig -n '__fish_seen_subcommand_from check normalise convert restore save relay show info digest compare exercise walk' -l memory -x -d 'the most memory that what is started may take'
+complete -c mig -n '__fish_seen_subcommand_from check normalise convert restore show info digest' -l include -x -d 'of the files below folders take those with such a name'
+complete -c mig -n '__fish_seen_subcommand_from check normalise convert restore show info digest' -l exclude -x -d 'of the files below folders take none with such a name'
+complete -c mig -n '__fish_seen_subcommand_from check normalise convert restore show info digest' -l files-from -r -d 'take the paths too that a file names'
+complete -c mig -n '__fish_seen_subcommand_from check normalise convert restore show info digest' -s 0 -d 'each path in the file ends with NUL'
+complete -c mig -n '__fish_seen_subcommand_from normalise convert restore' -s t -l target-directory -r -d 'write one result for each file in this folder'
+complete -c mig -n '__fish_seen_subcommand_from normalise convert restore' -l skip-existing -d 'pass over what has its result there'
 complete -c mig -n '__fish_seen_subcommand_from check digest' -s j -x -d 'up to so many files at once'
 complete -c mig -n '__fish_seen_subcommand_from check digest' -s q -d 'print nothing of what is well'
 complete -c mig -n '__fish_seen_subcommand_from digest' -l check -d 'check a list of digests'

@@ -136,7 +136,7 @@ def options_in(text):
     found = set()
     for line in text.splitlines():
         if re.match(' {2}-', line):
-            found.update(re.findall(r'(?<![\w-])--?[a-z][\w-]*', line.strip().split('  ')[0]))
+            found.update(re.findall(r'(?<![\w-])--?[a-z0][\w-]*', line.strip().split('  ')[0]))
     return found - {'-h'}
 
 

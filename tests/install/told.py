@@ -56,11 +56,16 @@ def written_for_fish():
     found = {verb: {'--help'} for verb in by_verb}
     for names, rest in re.findall(r"-n '__fish_seen_subcommand_from ([\w ]+)'(.*)", text):
         for verb in names.split():
-            found[verb].update('--' + name for name in re.findall(r' -l (\w+)', rest))
+            found[verb].update('--' + name for name in re.findall(r' -l ([\w-]+)', rest))
             found[verb].update('-' + name for name in re.findall(r' -s (\w)', rest))
     yield from wanted(found, by_verb)
     for name, of_program in ('mig_tool', set(commands())), ('mig_check', check_commands()):
         yield from wanted(set(re.findall(r' -a (\w+)', read(COMPLETIONS, 'fish', name + '.fish'))), of_program)
+
+
+def in_zsh_list(text, name):
+    """The options of a list that several verbs have."""
+    return re.findall(r"'\*?(--?[\w-]+)\[", re.search(r'^local -a %s=\((.*)\)$' % name, text, re.M)[1])
 
 
 def written_for_zsh():
@@ -72,8 +77,9 @@ def written_for_zsh():
     yield from wanted(set(re.findall(r"\(- \*\)(--\w+)\[", text)), without)
     found = {}
     for names, rest in re.findall(r'^ +([\w |]+)\) _arguments (.*);;$', text, re.M):
-        options = set(re.findall(r"['\"](--?\w+)\[", rest))
+        options = set(re.findall(r"['\"](--?[\w-]+)\[", rest))
         options.update('--' + name for name in ('force', 'help', 'memory') if '$' + name in rest)
+        options.update(option for name in ('choice', 'into') if '$' + name in rest for option in in_zsh_list(text, name))
         found.update((verb, options) for verb in names.split(' | '))
     yield from wanted(found, by_verb)
     for name, of_program in ('mig_tool', set(commands())), ('mig_check', check_commands()):
@@ -141,7 +147,7 @@ def verbs_and_options():
     synopsis = {unescaped(words.split()[0]): unescaped(words) for words in begun}
     yield from wanted(synopsis.keys() - {'help', '--version'}, by_verb.keys())
     for verb, options in by_verb.items():
-        yield from wanted((verb, set(re.findall(r'(?<![\w-])--?[a-z]+', synopsis[verb]))), (verb, options - {'--help'}))
+        yield from wanted((verb, set(re.findall(r'(?<![\w-])--?[a-z0][a-z-]*', synopsis[verb]))), (verb, options - {'--help'}))
         if '\n.B mig %s\n' % verb not in section(text, 'COMMANDS'):
             yield 'mig(1) does not say what %s does' % verb
     yield from ('mig(1) has no ' + option for option in without if option not in unescaped(text))

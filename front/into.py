@@ -1,0 +1,131 @@
+"""`mig normalise`, `mig convert`, `mig restore` with -t DIR: many files in, one result for each in DIR. A file that was named gets
+its base name there, one that was found below a folder its path below that folder; a name that ends in .gz, .zst or .xz loses that,
+since no result is packed. A file that fails stops no other."""
+import os
+import stat
+import sys
+
+from front import check, files, program, sources, verdict, write
+from front.digest import tell_of
+from front.text import put_lines, shown
+
+PACKED = '.gz', '.zst', '.xz'                        # ends of names
+WRITTEN, THERE, PASSED_OVER = 'written', 'there already', 'passed over'
+COUNTED = WRITTEN, THERE, PASSED_OVER, verdict.REFUSED, verdict.NO_SAVE, verdict.NOT_JUDGED, verdict.FAULT
+MODE = 0o700                                         # of folders that are made: a guest's memory is below
+
+
+def status_of_folder(name):
+    """The status of DIR, which has to be there: where it isn't mounted nothing is written in its place."""
+    try:
+        found = os.stat(name)
+    except OSError as fault:
+        raise program.Refused(program.WRITE_FAULT, '%s: %s' % (shown(name), sources.why(fault))) from None
+    if not stat.S_ISDIR(found.st_mode):
+        raise program.Refused(program.WRITE_FAULT, '%s: Not a directory' % shown(name))
+    return found
+
+
+def below(name):
+    """The path of a file below the folder in which it was found; its base name where it was named."""
+    top = getattr(name, 'top', None)
+    if top is None:
+        return os.path.basename(name.rstrip(os.sep))
+    return name[len(top):].lstrip(os.sep)
+
+
+def unpacked_name(path):
+    """A path without the end that tells how the file is packed, where the name has more than that."""
+    front, end = os.path.splitext(path)
+    return front if end in PACKED else path
+
+
+def make_folders(top, path, made):
+    """Makes the folders of a path below a folder that aren't there, and appends each that it made."""
+    place = top
+    for name in path.split(os.sep)[:-1]:
+        place = os.path.join(place, name)
+        if not os.path.isdir(place):
+            os.mkdir(place, MODE)
+            made.append(place)
+
+
+def remove_folders(made):
+    """Takes away folders that were made for a file that failed; what isn't empty stays."""
+    for folder in reversed(made):
+        try:
+            os.rmdir(folder)
+        except OSError:
+            return
+
+
+class Into:
+    """Writes the results of files into a folder. No two of them have one place."""
+
+    def __init__(self, words):
+        self.words, self.path, self.taken = words, program.find(), {}
+
+    def place_of(self, name):
+        """Where below DIR the result of a file goes, and the other file whose result goes there, or None."""
+        path = unpacked_name(below(name))
+        return path, self.taken.setdefault(path, name)
+
+    def made(self, name):
+        """The verdict of a file of which the result is written."""
+        if name == '-':
+            return verdict.Verdict(name, verdict.FAULT, program.USAGE, 'standard input has no name that its result could have')
+        if isinstance(name, (sources.Folder, sources.EmptyFolder)):
+            return verdict.of_file(name, None)       # which can't be read
+        path, other = self.place_of(name)
+        place = os.path.join(self.words.directory, path)
+        if other is not name:
+            return verdict.Verdict(name, THERE, program.USAGE, '%s is the place of what is made of %s' % (shown(place), shown(other)))
+        if not self.words.force and os.path.lexists(place):
+            return self.there(name, place)
+        return verdict.of_file(name, lambda name, source: self.written(name, source, path, place))
+
+    def there(self, name, place):
+        """The verdict of a file whose result is there. An empty one is none: where there are no hard links it held the place."""
+        if self.words.skip_existing and os.path.isfile(place) and os.path.getsize(place):
+            return verdict.Verdict(name, PASSED_OVER, program.OK, '')
+        line = '%s is there already; --force writes over a file, --skip-existing passes it over' % shown(place)
+        return verdict.Verdict(name, THERE, program.USAGE, line)
+
+    def written(self, name, source, path, place):
+        """The verdict of a source of which the result is written at this place. Where it fails no folder that was made for it
+        stays."""
+        made, found = [], None
+        try:
+            make_folders(self.words.directory, path, made)
+            found = write.result_of(self.words, self.path, name, source, place)
+            for folder in made:
+                write.settle(os.path.dirname(folder))
+        except OSError as fault:
+            return self.fault(name, program.WRITE_FAULT, '%s: %s' % (shown(fault.filename or place), sources.why(fault)))
+        except write.BadWords:
+            raise
+        except program.Refused as refused:
+            return self.fault(name, refused.status, str(refused))
+        finally:
+            if not found or found.status:
+                remove_folders(made)
+        return found._replace(result=WRITTEN) if found.status == program.OK else found
+
+    @staticmethod
+    def fault(name, status, line):
+        return verdict.Verdict(name, verdict.FAULT, status, line)
+
+
+def into(words):
+    """Writes the result of each file that is chosen into DIR; tells what fails, and counts all at the end. The greatest status."""
+    if words.force and words.skip_existing:
+        raise program.Refused(program.USAGE, "--force and --skip-existing don't go together")
+    counts, statuses = dict.fromkeys(COUNTED, 0), set()
+    names = list(files.chosen(words, status_of_folder(words.directory)))  # before any result stands among them
+    for found in check.verdicts(names, 1, Into(words).made, 'writing what is made of'):
+        counts[found.result] += 1
+        statuses.add(found.status)
+        if found.result != PASSED_OVER:
+            tell_of(found)
+    put_lines([check.count_of(counts)], sys.stdout)
+    return check.status_of(statuses)
