@@ -157,10 +157,11 @@ class Words(argparse.ArgumentParser):
         return [] if option_string.startswith('--') else super()._get_option_tuples(option_string)
 
     def parse_known_args(self, args=None, namespace=None):
-        """Of a verb that takes many files, those behind an option are taken too."""
+        """Of a verb that takes many files, those behind an option are taken too; behind `--` none is an option."""
         found, left = super().parse_known_args(args, namespace)
-        if self.get_default('usage_fault') and not any(word.startswith('-') and word != '-' for word in left):
-            found.paths, left = [*found.paths, *left], []
+        end = left.index('--') if '--' in left else len(left)
+        if self.get_default('usage_fault') and not any(word.startswith('-') and word != '-' for word in left[:end]):
+            found.paths, left = [*found.paths, *left[:end], *left[end + 1:]], []
         return found, left
 
     def _print_message(self, message, file=None):
