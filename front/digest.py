@@ -63,10 +63,10 @@ def tell_of(found):
     put_lines(lines if found.status else ['%s: %s' % (shown(found.name), line.strip()) for line in lines[1:]], sys.stderr)
 
 
-def written(words, path):
+def written(words):
     """Writes the digest of each file; the status."""
-    statuses = set()
-    for found in check.verdicts(files.chosen(words), words.jobs, judge_of(path, words.jobs), 'reading'):
+    names, statuses = files.chosen(words), set()
+    for found in check.verdicts(names, words.jobs, judge_of(program.find(), words.jobs), 'reading'):
         if found.digest:
             put(1, line_of(found))
         tell_of(found)
@@ -101,10 +101,10 @@ def compared(words, name, path):
 def digest(words):
     if words.quiet and not words.check:
         raise Refused(program.USAGE, '-q goes with --check')
-    path = program.find()
     if not words.check:
-        return written(words, path)
+        return written(words)
     files.refuse_choice(words, "don't go with --check")
     if not words.paths:
         words.usage_fault('the following arguments are required: PATH')
+    path = program.find()
     return check.status_of({compared(words, name, path) for name in words.paths})

@@ -59,6 +59,15 @@ def remove_folders(made):
             return
 
 
+def is_result(place, name):
+    """Whether the result of a file is at this place: neither an empty file, which held the place where there are no hard links, nor
+    the file itself."""
+    try:
+        return os.path.isfile(place) and os.path.getsize(place) > 0 and not os.path.samefile(place, name)
+    except OSError:
+        return False
+
+
 class Into:
     """Writes the results of files into a folder. No two of them have one place."""
 
@@ -85,8 +94,8 @@ class Into:
         return verdict.of_file(name, lambda name, source: self.written(name, source, path, place))
 
     def there(self, name, place):
-        """The verdict of a file whose result is there. An empty one is none: where there are no hard links it held the place."""
-        if self.words.skip_existing and os.path.isfile(place) and os.path.getsize(place):
+        """The verdict of a file at whose place something is there."""
+        if self.words.skip_existing and is_result(place, name):
             return verdict.Verdict(name, PASSED_OVER, program.OK, '')
         line = '%s is there already; --force writes over a file, --skip-existing passes it over' % shown(place)
         return verdict.Verdict(name, THERE, program.USAGE, line)

@@ -57,9 +57,9 @@ def listed_file(words, path, name):
 
 
 def show(words):
-    path, progress, statuses = program.find(), Progress('listing'), set()
+    names, path, progress, statuses = chosen(words), program.find(), Progress('listing'), set()
     progress.shown = progress.shown and not sys.stdout.isatty()  # where the program's own text would stand behind it
-    for done, name in enumerate(progress.counted(chosen(words))):
+    for done, name in enumerate(progress.counted(names)):
         progress.tell(done, name)
         status, lines = listed_file(words, path, name)
         progress.clear()
