@@ -11,6 +11,7 @@ from front.sharing import Memory
 from front.text import put_lines, shown
 
 TOLD, NOT_TOLD = 'told', 'not told'                  # the results of a file of which all is told, and of one that isn't looked at
+COUNTED = TOLD, verdict.REFUSED, verdict.NO_SAVE, NOT_TOLD, verdict.FAULT
 AHEAD = 4096                                         # so much of a stream's front is kept, for what no record tells
 MOST_TEXT = 128 << 20                                # bytes of a list of records, which is some 2^20 of them
 MOST_TAKEN = 512 << 20                               # what the program may take for such a list
@@ -59,6 +60,11 @@ def amount(now, most, show):
 class Info(Fields):
     """What is told of one file."""
 
+    @property
+    def result(self):
+        """What is counted: a stream that the program lists whole is told, and nobody judged it."""
+        return TOLD if self.found.status == program.OK else self.found.result
+
     def lines(self):
         """What is printed of it."""
         found = self.found
@@ -95,9 +101,8 @@ class Info(Fields):
 
     def facts(self):
         """It as one object, for JSON: what isn't there is left out."""
-        facts = self.found.facts()
+        facts = {**self.found.facts(), 'result': self.result}
         if self.found.status == program.OK:
-            facts['result'] = TOLD
             del facts['line']
         facts.pop('size', None)
         if self.size is not None:
@@ -113,9 +118,8 @@ class Info(Fields):
     def row(self):
         """It as the columns of a table."""
         told, stream = self.domain or NOTHING, self.stream or {}
-        result = TOLD if self.found.status == program.OK else self.found.result
         vcpus = stream.get('vcpus') if told.vcpus is None else told.vcpus
-        return (result, stream.get('kind') or word_of(told.type), amount(vcpus, told.max_vcpus, with_most),
+        return (self.result, stream.get('kind') or word_of(told.type), amount(vcpus, told.max_vcpus, with_most),
                 amount(told.memory, told.max_memory, memory), stream.get('xen', '-'), stream.get('records', '-'),
                 stream.get('pages', '-'), word_of(told.name), shown(self.found.name))
 
@@ -250,17 +254,19 @@ class Files:
 
 
 def info(words):
-    files, statuses, before = Files(), set(), False
+    files, statuses, counts = Files(), set(), dict.fromkeys(COUNTED, 0)
     if words.table:
         put_lines([ROW % HEADINGS], sys.stdout)
     for name in chosen(words):
-        told = files.told(name)
-        statuses.add(told.found.status)
+        told, before = files.told(name), any(counts.values())
         if words.json:
             put_lines([json.dumps(told.facts())], sys.stdout)
         elif words.table:
             put_lines([(ROW % told.row()).rstrip()], sys.stdout)
         else:
             put_lines([''] * before + list(told.lines()), sys.stdout)
-        before = True
+        statuses.add(told.found.status)
+        counts[told.result] += 1
+    if not words.json and sum(counts.values()) > 1:
+        put_lines([check.count_of(counts)], sys.stderr)
     return check.status_of(statuses)
