@@ -4,7 +4,7 @@ import os
 import re
 from collections import namedtuple
 
-from front import advice, forms, guarding, places, program, sources
+from front import causes, forms, guarding, places, program, sources
 from front.text import shown
 
 OK, REFUSED, NO_SAVE, NOT_JUDGED, FAULT = 'ok', 'refused', 'no save', 'not judged', 'fault'
@@ -118,7 +118,7 @@ def without_program(name, form):
         return Verdict(name, NO_SAVE, program.REFUSED, 'no save: ' + form.why)
     if form.kind == forms.BROKEN:
         return Verdict(name, REFUSED, program.REFUSED, 'refused: ' + form.why, form.words, means='no stream was reached',
-                       do=advice.COPY)
+                       do=causes.COPY)
     if form.kind == forms.IMAGE:
         return Verdict(name, NOT_JUDGED, program.REFUSED, 'not judged: `mig save` and `mig walk` alone read guest images', form.words)
     return None
@@ -135,7 +135,7 @@ def of_answer(name, source, form, command, answer):
     refusal = REFUSAL.match(answer.line)
     if answer.status != program.REFUSED or not refusal:
         return found
-    said = advice.of_refusal(command, refusal[1], int(refusal[2]))
+    said = causes.of_refusal(refusal[1], int(refusal[2]))
     return found._replace(result=REFUSED, offset=places.place_of(source, form.begins, command, refusal[1]),
                           means=said and said.means, do=said and said.do)
 

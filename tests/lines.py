@@ -2,7 +2,7 @@
 
 Cases and runners name a line by what it says, as `refused record 3 BadLength 7`, and `line_of` spells it. So the wording of
 a line stands here, in docs/refusals.md and in the program with its definition, and no case repeats it. The texts were worked
-out from docs/refusals.md, never copied from the program.
+out from docs/refusals.md, never copied from the program; names and numbers of causes are those of the table that it is made of.
 
 The names are those of the tests: a place in small letters, then a cause. A text that is changed here keeps its name.
 """
@@ -14,6 +14,7 @@ TOP = os.path.dirname(os.path.dirname(os.path.abspath(__file__)))
 if TOP not in sys.path:
     sys.path.insert(0, TOP)
 from build.words import CHECK_USAGE, USAGE  # noqa: E402  what the programs say of words that name no command
+from front import causes  # noqa: E402  of which docs/refusals.md is made
 
 READ_FAULT, WRITE_FAULT, MEMORY = 'fault: read', 'fault: write', 'fault: memory'
 
@@ -36,40 +37,9 @@ DONE = {
 REFUSED = 'refused: {}: {}'
 
 # The causes of each kind of input, by their names, with their numbers. Behind a cause stand its arguments.
-STREAM = {
-    'Truncated': '1 Truncated', 'NotStream': '2 NotStream', 'BadId': '3 BadId', 'BadVersion': '4 BadVersion',
-    'BigEndian': '5 BigEndian', 'BadKind': '6 BadKind', 'BadPageShift': '7 BadPageShift', 'BodyTooLong': '8 BodyTooLong',
-    'Unsupported': '9 Unsupported', 'UnknownMandatory': '10 UnknownMandatory', 'WrongKind': '11 WrongKind',
-    'OutOfOrder': '12 OutOfOrder', 'BadLength': '13 BadLength', 'NoPages': '14 NoPages', 'BadPageType': '15 BadPageType',
-    'PfnOutside': '16 PfnOutside', 'Superpage': '17 Superpage', 'EntryOutside': '18 EntryOutside', 'Pv32': '19 Pv32',
-    'BadPvInfo': '20 BadPvInfo', 'P2mStart': '21 P2mStart', 'VcpuId': '23 VcpuId', 'GdtEnts': '24 GdtEnts',
-    'BadContext': '25 BadContext', 'ParamIndex': '26 ParamIndex', 'Missing': '27 Missing', 'P2mFrame': '28 P2mFrame',
-    'TargetAbsent': '29 TargetAbsent', 'VcpuFrame': '30 VcpuFrame', 'TooManyRecords': '31 TooManyRecords',
-    'TooManyFrames': '32 TooManyFrames', 'BadPairs': '33 BadPairs', 'BadKey': '34 BadKey', 'BadEmulator': '35 BadEmulator',
-    'EmulatorForPv': '36 EmulatorForPv', 'ContextCount': '37 ContextCount', 'TooManyPairs': '38 TooManyPairs',
-    'EmulatorIndex': '39 EmulatorIndex',
-}
-LEGACY = {
-    'Truncated': '1 Truncated', 'Modern': '2 Modern', 'Tools32': '3 Tools32', 'VerifyOrPv': '4 VerifyOrPv',
-    'Tmem': '5 Tmem', 'Compressed': '6 Compressed', 'UnknownChunk': '7 UnknownChunk', 'BatchTooLarge': '8 BatchTooLarge',
-    'BadPageType': '9 BadPageType', 'WordHigh': '10 WordHigh', 'BadVcpuMax': '11 BadVcpuMax',
-    'BadToolstack': '12 BadToolstack', 'UnpairedIoreq': '13 UnpairedIoreq', 'BadContext': '14 BadContext',
-    'BadSignature': '15 BadSignature', 'TooManyChunks': '16 TooManyChunks', 'TooManyFrames': '17 TooManyFrames',
-    'BodyTooLong': '18 BodyTooLong', 'TooManyPairs': '19 TooManyPairs',
-}
-IMAGE = {
-    'Truncated': '1 Truncated', 'NotImage': '2 NotImage', 'BadKind': '3 BadKind', 'Reserved': '4 Reserved',
-    'Width': '5 Width', 'FrameCount': '6 FrameCount', 'BadPageType': '7 BadPageType', 'FrameOrder': '8 FrameOrder',
-    'FrameOutside': '9 FrameOutside', 'MachineFrame': '10 MachineFrame', 'MachineTwice': '11 MachineTwice',
-    'PartKey': '12 PartKey', 'PartOrder': '13 PartOrder', 'PartMany': '14 PartMany', 'PartLength': '15 PartLength',
-    'PartBytes': '16 PartBytes', 'PartPadding': '17 PartPadding', 'ZeroPage': '18 ZeroPage',
-}
-SCRIPT = {'BadLine': '1 BadLine', 'TooLong': '2 TooLong'}
-HOST = {
-    'Missing': '1 Missing', 'P2mFrame': '2 P2mFrame', 'Superpage': '3 Superpage', 'NoFrame': '4 NoFrame',
-    'GdtEnts': '5 GdtEnts', 'VcpuFrame': '6 VcpuFrame', 'BadContext': '7 BadContext',
-}
-WALK = {'NoVcpu': '1 NoVcpu', 'NotCanonical': '2 NotCanonical', 'Absent': '3 Absent', 'NotTable': '4 NotTable'}
+STREAM, LEGACY, IMAGE, SCRIPT, HOST, WALK = (
+    {cause.name: '%d %s' % (cause.number, cause.name) for cause in table.values()}
+    for table in (causes.STREAM, causes.LEGACY, causes.IMAGE, causes.SCRIPT, causes.HOST, causes.WALK))
 # what is wrong with a context, which stands behind BadContext
 CONTEXT = {'NoHeader': 'NoHeader', 'HeaderSize': 'HeaderSize', 'ShortEntry': 'ShortEntry', 'NoEnd': 'NoEnd'}
 

@@ -1,7 +1,7 @@
 #!/usr/bin/env python3
-"""Counts the files that five small changes touch, and makes the section "Changes" of docs/design.md of it.
+"""Counts the files that five small changes touch; tests/documents/made.py puts the table into docs/design.md.
 
-usage: tests/documents/changes.py [--write | --files]
+usage: tests/documents/changes.py [--files]
 
 A change is told by what it replaces: names or literals. A file counts where it spells one of them, so that it has to be edited
 by hand, or looked at. The five are
@@ -16,22 +16,18 @@ by hand, or looked at. The five are
 Counted apart, as inputs: cases, images and other inputs of the tests that lie at the limit or hold the record or the command,
 and must-fail edits. Their names and bytes stay what they are, or follow from the change one by one. Cases name a line by a name
 of tests/lines.py, which stays where the wording changes; so does tests/examples/run. Not counted: the shipped program, CHANGELOG.md and this
-script, and a file that spells the number or the line for something else (SOMETHING_ELSE).
+script; the parts of a document that are made, each of which names its script, and that tests/documents/run compares with what the
+script makes (tests/documents/made.py: `--write` makes them anew, so nobody has to look); and a file that spells the number or the line
+for something else (SOMETHING_ELSE).
 
-Prints the table; --files the files too; --write puts the section into docs/design.md. tests/documents/run compares them.
+Prints the table, and with --files the files.
 """
-import pathlib
 import re
 import subprocess
 import sys
 
-from rooms import DESIGN, TOP
+from made import TOP, without_made
 
-HEADING = "## Changes\n"
-INTRODUCTION = """
-How many files a small change touches, by a search for what it replaces. tests/documents/changes.py counts them and tells what is \
-counted; `--files` lists them. Inputs are cases and other inputs of tests, and must-fail edits.
-"""
 CHANGES = (
     ("a limit: 7168 descriptors of a GDT", r"(?<![\w-])7168\b", 4),
     ("a cause: `BadKey`", r"\bBadKey\b", 14),
@@ -43,12 +39,12 @@ CHANGES = (
 INPUTS = re.compile(r"tests/examples/(?:cases|hosts|hosts\.rows|run$)|tests/edits/|crates/\w+/must-fail/|examples/|tests/hostile/mutations$"
                     r"|tests/second_reader/\w*streams\.py$|tests/(?:first_command|real_xen|operators)/")
 LEFT_OUT = re.compile(r"dist/|CHANGELOG\.md$|tests/documents/changes\.py$")
-# files that spell it for something else: sizes of memory in KiB; what bin/xl-stream says
-SOMETHING_ELSE = {"7168": ("tests/hostile/memory.py",), "fault: read": ("tests/xl_stream/run",)}
+# files that spell it for something else: sizes of memory in KiB; what bin/xl-stream says; the place of a refusal, which has its name
+SOMETHING_ELSE = {"7168": ("tests/hostile/memory.py",), "fault: read": ("tests/xl_stream/run",), "`walk": ("tests/lines.py",)}
 
 
 def tracked():
-    """The texts of the tracked files by their paths, without the section that is made here."""
+    """The texts of the tracked files by their paths, without what is made in them."""
     said = subprocess.run(["git", "ls-files", "-z"], cwd=str(TOP), stdout=subprocess.PIPE, check=True).stdout.decode()
     for name in sorted(filter(None, said.split("\0"))):
         path = TOP / name
@@ -58,7 +54,7 @@ def tracked():
             text = path.read_text(encoding="utf-8")
         except UnicodeDecodeError:
             continue
-        yield name, "".join(parts_of(text)[::2]) if path == DESIGN else text
+        yield name, without_made(text)
 
 
 def found():
@@ -71,31 +67,15 @@ def found():
     return rows
 
 
-def parts_of(text):
-    """The page in front of the section, the section, and what stands behind it."""
-    front, heading, rest = text.partition("\n" + HEADING)
-    end = re.search(r"^## ", rest, re.M)
-    if not heading or not end:
-        sys.exit("%s has no section %s, or none behind it" % (DESIGN.name, HEADING.strip()))
-    return front + "\n", HEADING + rest[:end.start()], rest[end.start():]
-
-
-def section():
-    lines = [HEADING.rstrip(), INTRODUCTION.rstrip(), "", "| change | files | aim | inputs |", "|---|---|---|---|"]
+def made(_):
+    lines = ["", "| change | files | aim | inputs |", "|---|---|---|---|"]
     for (change, _, aim), (files, inputs) in zip(CHANGES, found()):
         lines.append("| %s | %d | %s | %d |" % (change, len(files), "at most %d" % aim if aim else "none", len(inputs)))
-    return "\n".join(lines) + "\n\n"
-
-
-def is_as_made():
-    return parts_of(DESIGN.read_text(encoding="utf-8"))[1] == section()
+    return "\n".join([*lines, "", ""])
 
 
 def main():
-    if sys.argv[1:] == ["--write"]:
-        front, _, behind = parts_of(DESIGN.read_text(encoding="utf-8"))
-        DESIGN.write_text(front + section() + behind, encoding="utf-8")
-    elif sys.argv[1:] == ["--files"]:
+    if sys.argv[1:] == ["--files"]:
         for (change, _, _), (files, inputs) in zip(CHANGES, found()):
             print(change)
             for name in files:
@@ -104,7 +84,7 @@ def main():
     elif sys.argv[1:]:
         sys.exit(__doc__)
     else:
-        print(section(), end="")
+        print(made("changes"), end="")
 
 
 if __name__ == "__main__":

@@ -1,26 +1,10 @@
-#!/usr/bin/env python3
-"""Makes the section "Rooms" of docs/design.md from crates.txt and the first lines of each crate.
-
-usage: tests/documents/rooms.py [--write]
-
-Prints the section; with --write puts it into docs/design.md. tests/documents/run compares them.
-"""
+"""Makes the rooms of docs/design.md, a picture and a table, from crates.txt and the first lines of each crate;
+tests/documents/made.py puts them there."""
 import pathlib
 import re
-import sys
 import textwrap
 
 TOP = pathlib.Path(__file__).resolve().parents[2]
-DESIGN = TOP / "docs" / "design.md"
-HEADING = "## Rooms\n"
-INTRODUCTION = """
-`ls crates` shows the rooms of the house: `mig_ROOM`, or `mig_ROOM_PART`, so that those of one room stand together. A room whose \
-name ends in `_laws` has no code, and those of `mig_test_` have tests alone. Each crate's lib.rt says what it answers for, what \
-it leaves to which other, and what those above rely on; what it passes on is reached at its path too. This section is made of \
-these first lines and of crates.txt by tests/documents/rooms.py.
-
-A room of a row stands on rooms of lower rows alone:
-"""
 PICTURE_WIDTH = 120
 PASSED_ON = re.compile(r"^pub use (mig_\w+)::(?:(\w+)|\{([^}]*)\});", re.M)
 
@@ -83,37 +67,9 @@ def picture(below):
                                  break_on_hyphens=False)
 
 
-def section():
+def made(_):
     below = rooms_below()
-    lines = [HEADING.rstrip(), INTRODUCTION.rstrip(), "", *picture(below), "",
-             "| room | stands on | answers for | passes on |", "|---|---|---|---|"]
+    lines = ["", *picture(below), "", "| room | stands on | answers for | passes on |", "|---|---|---|---|"]
     for room in sorted(below, key=lambda it: (height_of(it, below), it)):
         lines.append(f"| {room} | {', '.join(nearest(room, below))} | {duty_of(room)} | {passed_on_by(room)} |")
-    return "\n".join(lines) + "\n\n"
-
-
-def parts_of(text):
-    """The page in front of the section, the section, and what stands behind it."""
-    front, heading, rest = text.partition("\n" + HEADING)
-    end = re.search(r"^## ", rest, re.M)
-    if not heading or not end:
-        sys.exit(f"{DESIGN.name} has no section {HEADING.strip()}, or none behind it")
-    return front + "\n", HEADING + rest[:end.start()], rest[end.start():]
-
-
-def is_as_made():
-    return parts_of(DESIGN.read_text(encoding="utf-8"))[1] == section()
-
-
-def main():
-    if sys.argv[1:] == ["--write"]:
-        front, _, behind = parts_of(DESIGN.read_text(encoding="utf-8"))
-        DESIGN.write_text(front + section() + behind, encoding="utf-8")
-    elif sys.argv[1:]:
-        sys.exit(__doc__)
-    else:
-        print(section(), end="")
-
-
-if __name__ == "__main__":
-    main()
+    return "\n".join([*lines, "", ""])

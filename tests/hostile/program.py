@@ -67,9 +67,14 @@ def named(words):
 
 
 @functools.cache
+def loaded(name):
+    """A case of tests/examples."""
+    return examples.load(os.path.join(TESTS, 'examples', 'cases', name + '.case'))
+
+
 def case(name):
     """The input of a case of tests/examples."""
-    return bytes(examples.load(os.path.join(TESTS, 'examples', 'cases', name + '.case'))['in'])
+    return bytes(loaded(name)['in'])
 
 
 def wanted(words, data):
@@ -306,6 +311,6 @@ def forms(tool):
     yield 'small legacy', ['convert'], case('legacy-hvm')
     yield 'HVM image', ['save'], live_host()
     yield 'PV image', ['save'], case('save-pv-host')
-    yield 'PV', ['walk', '0', '1000'], case('walk-a-frame')
-    yield 'PV image', ['walkimage', '0', '1000'], case('save-pv-host')
+    for form, name in ('PV', 'walk-a-frame'), ('PV image', 'walkimage-a-frame'):
+        yield form, loaded(name)['words'].split(), case(name)
     yield 'no input', ['exercise', '3', '20'], b''

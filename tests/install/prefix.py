@@ -316,7 +316,7 @@ def a_program_that_was_changed():
     with copy_and_prefix() as (copy, prefix):
         place = place_in(os.path.dirname(prefix), copy)
         mig = os.path.join(prefix, 'bin', 'mig')
-        for name, words in ('mig_check', ['check', 'three-frames.stream']), ('mig_tool', ['walk', 'three-frames.stream', '0', '0']):
+        for name, words in ('mig_check', ['check', 'three-frames.stream']), ('mig_tool', ['show', 'three-frames.stream']):
             copy.install('--prefix', prefix)
             own = os.path.join(prefix, 'lib', 'mig', 'bin', name)
             os.truncate(own, os.path.getsize(own) - 1)

@@ -8,7 +8,6 @@ import subprocess
 from places import COMPLETED, PATH, PROGRAMS, TOP, check_commands, commands, copy_and_prefix, folder, read, run, skipped, verbs, wanted
 
 from build.words import CHECK_USAGE  # noqa: E402  (places.py has put the repository's folder on the path)
-from front import advice  # noqa: E402
 
 COMPLETIONS = os.path.join(TOP, 'completions')
 FORCE = "local force='--force["                      # the zsh file has this option once, for several verbs
@@ -189,20 +188,11 @@ def check_lines():
             yield 'no line ' + form
 
 
-def causes():
-    """Each cause of docs/refusals.md stands in mig_tool(1) with its arguments and with what front/advice.py says of it."""
-    document = dict(it.split('\n', 1) for it in read(TOP, 'docs', 'refusals.md').split('\n## ')[1:])
-    subsections = dict(it.split('\n', 1) for it in section(page('mig_tool'), 'REFUSALS').split('\n.SS ')[1:])
-    for name, heading, said in (
-            ('Of a stream', 'Causes', advice.STREAM), ('Of a legacy stream', 'Legacy streams', advice.LEGACY),
-            ('Of a guest image', 'Guest images', advice.IMAGE), ('Of a script', 'Scripts', advice.SCRIPT),
-            ('Of a host', 'Live saves', advice.PAUSE), ('Of an address', 'Walks', advice.WALK)):
-        want = {(words, said[int(words.split()[0])].means)
-                for words in (' '.join(row) for row in re.findall(r'^\| (\d+) `([^`]*)` \|', document[heading], re.M))}
-        got = {(unescaped(words), unescaped(means)) for words, means in re.findall(r'^\.TP\n\.B (.*)\n(.*)', subsections[name], re.M)}
-        yield from wanted((name, got ^ want), (name, set()))
-        if not re.match(r'Places?:', subsections[name]):
-            yield '%s: no places' % name
+def places():
+    """Each list of causes in mig_tool(1) has its places in front."""
+    for subsection in section(page('mig_tool'), 'REFUSALS').split('\n.SS ')[1:]:
+        if not re.match(r'.*\nPlaces?:', subsection):
+            yield '%s: no places' % subsection.partition('\n')[0]
 
 
 def without_a_warning():
@@ -251,5 +241,5 @@ def examples():
 
 TESTS = (
     loaded_by_bash, offered_by_bash, written_for_fish, written_for_zsh, read_by_zsh_and_fish,
-    verbs_and_options, commands_and_lines, check_lines, causes, without_a_warning, examples,
+    verbs_and_options, commands_and_lines, check_lines, places, without_a_warning, examples,
 )

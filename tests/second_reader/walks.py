@@ -11,6 +11,7 @@ import reader
 from form import *
 
 WIDEST = 1 << 52                                     # of a host that is looked into
+IN_GUEST = 'walk',                                   # the commands that look into the guest of a stream
 Tables = collections.namedtuple('Tables', 'contexts frames names')
 
 
