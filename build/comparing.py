@@ -4,7 +4,7 @@ import tempfile
 
 from build import linking
 from build.proving import object_of
-from front import resolve
+from front import errors, resolve
 
 SAME, NOT_COMPARED, DIFFERS = range(3)               # the greatest of several says most
 
@@ -14,7 +14,7 @@ def shipped_fault(sources):
     for name in resolve.NAMES:
         try:
             found = resolve.shipped(name)
-        except resolve.Unfit as unfit:
+        except errors.Unfit as unfit:
             return str(unfit)
         if found.told['sources'] != sources:
             return '%s is of other sources than what was proved' % resolve.below_top(found.path)

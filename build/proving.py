@@ -123,7 +123,7 @@ class Crates:
             words += ['--extern', '%s=%s/rlibs/%s.rlib' % (name, folder, name)]
         for name in below:
             words += ['--extern', '%s=%s' % (name, library(name, rooms))]
-        for room in folder + '/rlibs', *rooms:
+        for room in (folder + '/rlibs', *rooms):
             words += ['-L', 'dependency=' + room]
         words += ['--antt-project', folder + '/rattle/logic/antt-project.json', '--logic-built', folder + '/logic_built']
         words += ['--links', crate + '=', '--jobs', str(jobs)]

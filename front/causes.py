@@ -5,6 +5,10 @@ for docs/refusals.md and in half a sentence for an operator.
 docs/mig_tool.1 of this file, and tests/lines.py takes the names and numbers."""
 from collections import namedtuple
 
+TYPE_CHECKING = False                                # a checker of types takes it for true; typing itself is slow to load
+if TYPE_CHECKING:
+    from typing import Dict, Optional
+
 COPY = 'copy the file again and compare its size with the origin'
 DAMAGED = 'copy the file again, else save the guest again'
 PAUSED = 'save the guest again, while it is paused'
@@ -16,7 +20,7 @@ MEND = 'mend the script, or the image, so that the host is sound when it is paus
 Cause = namedtuple('Cause', 'number name arguments where meaning remedy means do')
 
 
-def table(*causes):
+def table(*causes: Cause) -> 'Dict[int, Cause]':
     """Causes by their numbers."""
     return {cause.number: cause for cause in causes}
 
@@ -464,7 +468,7 @@ PLACES = (
 OF_PLACE = {place: causes for causes, places in PLACES for place in places}
 
 
-def of_refusal(place, number):
+def of_refusal(place: str, number: int) -> 'Optional[Cause]':
     """The cause with this number at a place, whose first word tells the kind of input; None where there is none. No script runs on
     a host at the place `Host`, so its image alone can be mended."""
     kind = place.split()[0]

@@ -8,7 +8,7 @@ import re
 from collections import namedtuple
 from xml.parsers import expat
 
-from front import headers
+from front import errors, headers
 
 MOST_BYTES = 1 << 20                                 # of a configuration
 MOST_DIGITS, MOST_DEPTH = 15, 64                     # of a number, and of elements in one another
@@ -19,10 +19,6 @@ RUNNING = 'domstatus/'                               # of an XML text of libvirt
 UNITS = {'bytes': 1, 'b': 1, 'KiB': 1 << 10, 'k': 1 << 10, 'MiB': 1 << 20, 'M': 1 << 20, 'GiB': 1 << 30, 'G': 1 << 30}
 TYPES = {'linux': 'pv', 'xen': 'pv', 'xenpvh': 'pvh', 'generic': 'pv'}  # as libvirt, and xl's older `builder`, name them
 SETTING = re.compile(r'''^[ \t]*([a-z_]+)[ \t]*=[ \t]*(?:"([^"\n]*)"|'([^'\n]*)'|([^\s#;"']+))''', re.MULTILINE)
-
-
-class Unread(Exception):
-    """Why a configuration tells nothing, in one line."""
 
 
 # What is told of a domain, memory in KiB; None where the configuration doesn't say it.
@@ -37,7 +33,7 @@ def of_header(source, header):
         data = behind_length(data)
     data = data.rstrip(b'\0')
     if not data:
-        raise Unread('there is none')
+        raise errors.Unread('there is none')
     if not is_xl:
         return of_xml(data)
     text = data.decode('utf-8', 'surrogateescape')
@@ -47,7 +43,7 @@ def of_header(source, header):
 def configuration(source, header, begins):
     """The bytes between a header's numbers and the stream."""
     if header.length > MOST_BYTES:
-        raise Unread('it has %d bytes, and no more than %d are looked at' % (header.length, MOST_BYTES))
+        raise errors.Unread('it has %d bytes, and no more than %d are looked at' % (header.length, MOST_BYTES))
     return source.at(begins, header.length)
 
 
@@ -68,7 +64,7 @@ def of_json(text):
     try:
         told = json.loads(text, parse_int=number_of)
     except (ValueError, RecursionError):
-        raise Unread("its JSON can't be read") from None
+        raise errors.Unread("its JSON can't be read") from None
     creation, build = object_in(told, 'c_info'), object_in(told, 'b_info')
     name, uuid, kind = (one if isinstance(one, str) else None for one in map(creation.get, ('name', 'uuid', 'type')))
     most_vcpus, memory, most_memory = (
@@ -116,11 +112,11 @@ class Elements:
         self.parser.StartDoctypeDeclHandler = self.parser.EntityDeclHandler = self.declared
 
     def declared(self, *_):
-        raise Unread("its XML has a document type, which libvirt doesn't write")
+        raise errors.Unread("its XML has a document type, which libvirt doesn't write")
 
     def begin(self, name, attributes):
         if len(self.path) == MOST_DEPTH:
-            raise Unread('its XML has more than %d elements in one another' % MOST_DEPTH)
+            raise errors.Unread('its XML has more than %d elements in one another' % MOST_DEPTH)
         self.path.append(name)
         path = self.here()
         if path in WANTED and path not in self.found:
@@ -150,7 +146,7 @@ def of_xml(data):
     try:
         elements.parser.Parse(data, True)
     except expat.ExpatError:
-        raise Unread("its XML can't be read") from None
+        raise errors.Unread("its XML can't be read") from None
     (_, name), (_, uuid), (_, kind), (attributes, vcpus) = map(elements.of, (NAME, UUID, TYPE, VCPUS))
     most = number_of(vcpus)
     current = number_of(attributes.get('current'))

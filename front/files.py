@@ -3,7 +3,7 @@ whose names fit."""
 import fnmatch
 import os
 
-from front import program, sources
+from front import errors, sources
 from front.text import shown
 
 MOST_LIST = 64 << 20                                 # bytes of a list
@@ -61,15 +61,15 @@ def files_of(paths, choice=ALL):
         if path == '-' or not os.path.isdir(path):
             yield path
             continue
-        empty = sources.EmptyFolder(path)            # a folder that isn't mounted isn't well
+        empty, is_empty = sources.EmptyFolder(path), True  # a folder that isn't mounted isn't well
         for found in files_below(path, choice.left_out):
             if found == path or choice.takes(found):
-                empty = None
+                is_empty = False
                 found.top = path
                 yield found
-            elif empty:
+            else:
                 empty.why = NONE_FITS
-        if empty:
+        if is_empty:
             yield empty
 
 
@@ -82,7 +82,7 @@ def text_of(name):
     finally:
         source.close()
     if fault or len(text) > MOST_LIST:
-        raise sources.Unreadable(fault or 'it has more than %d MiB' % (MOST_LIST >> 20))
+        raise errors.Unreadable(fault or 'it has more than %d MiB' % (MOST_LIST >> 20))
     return text
 
 
@@ -90,20 +90,20 @@ def listed(name, ends_with_nul):
     """The paths that a list names, a line each, or each with a NUL behind it. `-` is a file of that name there."""
     try:
         text = text_of(name)
-    except sources.Unreadable as why:
-        raise program.Refused(program.READ_FAULT, '%s: fault: read: %s' % (shown(name), why)) from None
+    except errors.Unreadable as why:
+        raise errors.Refused(errors.READ_FAULT, '%s: fault: read: %s' % (shown(name), why)) from None
     if not ends_with_nul and b'\0' in text:
-        raise program.Refused(program.USAGE, '%s has NUL bytes; -0 takes such a list' % shown(name))
+        raise errors.Refused(errors.USAGE, '%s has NUL bytes; -0 takes such a list' % shown(name))
     paths = [os.fsdecode(path) for path in text.split(b'\0' if ends_with_nul else b'\n') if path]
     if not paths:
-        return [sources.EmptyFolder(name, 'it names no file')]
+        return [sources.EmptyFolder.of(name, 'it names no file')]
     return ['./-' if path == '-' else path for path in paths]
 
 
 def refuse_choice(words, why):
     """Refuses the words that choose files where these do not go with others."""
     if any(getattr(words, name) for name in OF_CHOICE):
-        raise program.Refused(program.USAGE, '--include, --exclude, --files-from and -0 ' + why)
+        raise errors.Refused(errors.USAGE, '--include, --exclude, --files-from and -0 ' + why)
 
 
 def chosen(words, left_out=None):
@@ -112,8 +112,8 @@ def chosen(words, left_out=None):
     if not words.paths and not lists:
         words.usage_fault('the following arguments are required: PATH')
     if words.ends_with_nul and not lists:
-        raise program.Refused(program.USAGE, '-0 goes with --files-from')
+        raise errors.Refused(errors.USAGE, '-0 goes with --files-from')
     if [*words.paths, *lists].count('-') > 1 and '-' in lists:
-        raise program.Refused(program.USAGE, 'a list and another one, or a PATH, are both standard input')
+        raise errors.Refused(errors.USAGE, 'a list and another one, or a PATH, are both standard input')
     paths = [*words.paths, *(path for name in lists for path in listed(name, words.ends_with_nul))]
     return files_of(paths, Choice(words.include, words.exclude, left_out))

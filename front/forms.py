@@ -2,7 +2,7 @@
 import struct
 from collections import namedtuple
 
-from front import headers
+from front import errors, headers
 
 STREAM, LEGACY, IMAGE, BROKEN, NONE = 'stream', 'legacy', 'image', 'broken', 'none'
 LIBXL_MAGIC, LIBXC_MAGIC = b'LibxlFmt', b'\xff' * 8
@@ -29,7 +29,11 @@ OTHERS = (
 # What a file is: its kind, that in words, where the stream in it begins, the header of a toolstack before it, and of a file
 # that no command takes why.
 Form = namedtuple('Form', 'kind words begins header why')
-Form.__new__.__defaults__ = 0, None, ''               # of the last three; python3.6 has no better word for it
+
+
+def found(kind, words, begins=0, header=None, why=''):
+    """The form of a file. (python3.6 knows no defaults of a namedtuple.)"""
+    return Form(kind, words, begins, header, why)
 
 
 def packer_of(front):
@@ -78,9 +82,9 @@ def looks_like(front):
 def bare_form(front, begins, before=''):
     """The form of what begins with these bytes, behind a header or by itself."""
     if starts_like(front, LIBXL_MAGIC):
-        return Form(STREAM, before + 'libxl stream', begins)
+        return found(STREAM, before + 'libxl stream', begins)
     if starts_like(front, LIBXC_MAGIC):
-        return Form(STREAM, before + 'libxc image', begins)
+        return found(STREAM, before + 'libxc image', begins)
     return None
 
 
@@ -91,9 +95,9 @@ def headed_form(name, header, source):
         length = source.length_to(header.stream_begins) - (header.stream_begins - header.length)
         raise headers.configuration_cut(length, header.length)
     if header.is_legacy:
-        return Form(LEGACY, name + ' of Xen 4.5 or older, legacy stream', header.stream_begins, header)
-    found = bare_form(there, header.stream_begins, name + ', ') or Form(STREAM, name + ', unknown stream', header.stream_begins)
-    return found._replace(header=header)
+        return found(LEGACY, name + ' of Xen 4.5 or older, legacy stream', header.stream_begins, header)
+    bare = bare_form(there, header.stream_begins, name + ', ') or found(STREAM, name + ', unknown stream', header.stream_begins)
+    return bare._replace(header=header)
 
 
 HEADERS = ((headers.XL_MAGIC, 'xl save', headers.xl_header), (headers.LIBVIRT_MAGIC, 'libvirt save', headers.libvirt_header))
@@ -106,10 +110,10 @@ def form_of(source):
         if starts_like(front, magic):
             try:
                 return headed_form(words, read(front), source)
-            except headers.BadHeader as bad:
-                return Form(BROKEN, words, why=str(bad))
+            except errors.BadHeader as bad:
+                return found(BROKEN, words, why=str(bad))
     if any(starts_like(front, magic) for magic in IMAGE_MAGICS):
-        return Form(IMAGE, 'guest image')
+        return found(IMAGE, 'guest image')
     if is_like_legacy(front):
-        return Form(LEGACY, 'legacy stream')
-    return bare_form(front, 0) or Form(NONE, 'no save', why=looks_like(front))
+        return found(LEGACY, 'legacy stream')
+    return bare_form(front, 0) or found(NONE, 'no save', why=looks_like(front))

@@ -12,6 +12,8 @@ before a libxl stream.
 import struct
 from collections import namedtuple
 
+from front import errors
+
 XL_MAGIC = b'Xen saved domain, xl format\n \0 \r'
 XL_NUMBERS = struct.Struct('<IIII')
 XL_LENGTH = len(XL_MAGIC) + XL_NUMBERS.size
@@ -21,10 +23,6 @@ JSON, STREAM_V2 = 1 << 0, 1 << 1
 LIBVIRT_MAGIC = b'libvirt-xml\n \0 \r'
 LIBVIRT_NUMBERS = struct.Struct('<II40x')
 LIBVIRT_LENGTH = len(LIBVIRT_MAGIC) + LIBVIRT_NUMBERS.size
-
-
-class BadHeader(Exception):
-    """What is wrong with a header, in one line."""
 
 
 class XlHeader(namedtuple('XlHeader', 'mandatory optional length')):
@@ -41,7 +39,7 @@ class XlHeader(namedtuple('XlHeader', 'mandatory optional length')):
 
 def refuse_if(test, why):
     if test:
-        raise BadHeader(why)
+        raise errors.BadHeader(why)
 
 
 def xl_header(front):
@@ -56,7 +54,7 @@ def xl_header(front):
 
 
 def configuration_cut(there, length):
-    return BadHeader("the domain's configuration is cut short: it has %d of %d bytes" % (there, length))
+    return errors.BadHeader("the domain's configuration is cut short: it has %d of %d bytes" % (there, length))
 
 
 def xl_header_before_v2(header, configuration):

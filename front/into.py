@@ -5,8 +5,7 @@ import os
 import stat
 import sys
 
-from front import check, files, program, sources, verdict, write
-from front.digest import tell_of
+from front import errors, files, many, program, sources, verdict, write
 from front.text import put_lines, shown
 
 PACKED = '.gz', '.zst', '.xz'                        # ends of names
@@ -20,9 +19,9 @@ def status_of_folder(name):
     try:
         found = os.stat(name)
     except OSError as fault:
-        raise program.Refused(program.WRITE_FAULT, '%s: %s' % (shown(name), sources.why(fault))) from None
+        raise errors.Refused(errors.WRITE_FAULT, '%s: %s' % (shown(name), sources.why(fault))) from None
     if not stat.S_ISDIR(found.st_mode):
-        raise program.Refused(program.WRITE_FAULT, '%s: Not a directory' % shown(name))
+        raise errors.Refused(errors.WRITE_FAULT, '%s: Not a directory' % shown(name))
     return found
 
 
@@ -82,13 +81,13 @@ class Into:
     def made(self, name):
         """The verdict of a file of which the result is written."""
         if name == '-':
-            return verdict.Verdict(name, verdict.FAULT, program.USAGE, 'standard input has no name that its result could have')
+            return verdict.Verdict.of(name, verdict.FAULT, errors.USAGE, 'standard input has no name that its result could have')
         if isinstance(name, (sources.Folder, sources.EmptyFolder)):
             return verdict.of_file(name, None)       # which can't be read
         path, other = self.place_of(name)
         place = os.path.join(self.words.directory, path)
         if other is not name:
-            return verdict.Verdict(name, THERE, program.USAGE, '%s is the place of what is made of %s' % (shown(place), shown(other)))
+            return verdict.Verdict.of(name, THERE, errors.USAGE, '%s is the place of what is made of %s' % (shown(place), shown(other)))
         if not self.words.force and os.path.lexists(place):
             return self.there(name, place)
         return verdict.of_file(name, lambda name, source: self.written(name, source, path, place))
@@ -96,9 +95,9 @@ class Into:
     def there(self, name, place):
         """The verdict of a file at whose place something is there."""
         if self.words.skip_existing and is_result(place, name):
-            return verdict.Verdict(name, PASSED_OVER, program.OK, '')
+            return verdict.Verdict.of(name, PASSED_OVER, errors.OK, '')
         line = '%s is there already; --force writes over a file, --skip-existing passes it over' % shown(place)
-        return verdict.Verdict(name, THERE, program.USAGE, line)
+        return verdict.Verdict.of(name, THERE, errors.USAGE, line)
 
     def written(self, name, source, path, place):
         """The verdict of a source of which the result is written at this place. Where it fails no folder that was made for it
@@ -110,31 +109,31 @@ class Into:
             for folder in made:
                 write.settle(os.path.dirname(folder))
         except OSError as fault:
-            return self.fault(name, program.WRITE_FAULT, '%s: %s' % (shown(fault.filename or place), sources.why(fault)))
-        except write.BadWords:
+            return self.fault(name, errors.WRITE_FAULT, '%s: %s' % (shown(fault.filename or place), sources.why(fault)))
+        except errors.BadWords:
             raise
-        except program.Refused as refused:
+        except errors.Refused as refused:
             return self.fault(name, refused.status, str(refused))
         finally:
             if not found or found.status:
                 remove_folders(made)
-        return found._replace(result=WRITTEN) if found.status == program.OK else found
+        return found._replace(result=WRITTEN) if found.status == errors.OK else found
 
     @staticmethod
     def fault(name, status, line):
-        return verdict.Verdict(name, verdict.FAULT, status, line)
+        return verdict.Verdict.of(name, verdict.FAULT, status, line)
 
 
 def into(words):
     """Writes the result of each file that is chosen into DIR; tells what fails, and counts all at the end. The greatest status."""
     if words.force and words.skip_existing:
-        raise program.Refused(program.USAGE, "--force and --skip-existing don't go together")
+        raise errors.Refused(errors.USAGE, "--force and --skip-existing don't go together")
     counts, statuses = dict.fromkeys(COUNTED, 0), set()
     names = list(files.chosen(words, status_of_folder(words.directory)))  # before any result stands among them
-    for found in check.verdicts(names, 1, Into(words).made, 'writing what is made of'):
+    for found in many.verdicts(names, 1, Into(words).made, 'writing what is made of'):
         counts[found.result] += 1
         statuses.add(found.status)
         if found.result != PASSED_OVER:
-            tell_of(found)
-    put_lines([check.count_of(counts)], sys.stdout)
-    return check.status_of(statuses)
+            verdict.tell_of(found)
+    put_lines([many.count_of(counts)], sys.stdout)
+    return many.status_of(statuses)

@@ -1,7 +1,7 @@
 """Where a part of an input lies in its bytes: the heads of records, or of chunks, are walked, and nothing is judged."""
 import struct
 
-from front import forms
+from front import errors, forms
 
 LIBXC_CONTEXT, END = 1, 0
 MOST_PARTS, MOST_FRAMES = 1 << 22, 1 << 24           # no place is told behind so many
@@ -12,14 +12,10 @@ WITH_A_PAGE = 0, 1, 2, 3, 4, 9, 10, 11, 12
 FILE_HEAD, PART_HEAD, PAGE = 32, 16, 4096            # of a guest image: its head, that of a frame or a part, a page
 
 
-class Lost(Exception):
-    """The walk can't go on: the input ends, or has a part that isn't known."""
-
-
 def number_at(cursor, kind):
     data = cursor.read(struct.calcsize(kind))
     if len(data) < struct.calcsize(kind):
-        raise Lost
+        raise errors.Lost
     return struct.unpack(kind, data)[0]
 
 
@@ -62,7 +58,7 @@ def image_begins(source, begins):
     for _, kind in records(cursor):
         if kind == LIBXC_CONTEXT:
             return cursor.place
-    raise Lost
+    raise errors.Lost
 
 
 def libxl_records(cursor):
@@ -108,7 +104,7 @@ def skip_chunk(cursor, kind):
     elif kind == -18:
         cursor.skip(number_at(cursor, '<I'))
     elif kind != -9:
-        raise Lost
+        raise errors.Lost
 
 
 def chunks(cursor):
@@ -132,7 +128,7 @@ def tail_begins(cursor):
     for _, kind in chunks(cursor):
         pass
     if kind != END:
-        raise Lost
+        raise errors.Lost
     return cursor.place
 
 
@@ -203,7 +199,7 @@ def place_of(source, begins, command, place):
         return None
     try:
         return OF_COMMAND.get(command, stream_place)(source, begins, place.split())
-    except Lost:
+    except errors.Lost:
         return None
 
 
@@ -213,7 +209,7 @@ def end_of(source, form):
         return None
     try:
         return legacy_end(source.cursor(form.begins)) if form.kind == forms.LEGACY else stream_end(source, form.begins)
-    except Lost:
+    except errors.Lost:
         return None
 
 

@@ -5,17 +5,15 @@ import subprocess
 import threading
 from collections import namedtuple
 
-from front import resolve
+from front import errors, resolve
 from front.guarding import guard, memory_to_take
-from front.resolve import NoProgram
 from front.text import shown
 
 BUILDER = os.path.join(resolve.TOP, 'bin', 'build-mig_tool')
+PIPE = subprocess.PIPE
 HUGE_PAGES = 'glibc.malloc.hugetlb'                  # of glibc 2.35 and newer; others pass it over
 KEEPS_NO_PAGES = ['relay'], ['show'], [], ['legacy']  # words of mig_tool, and of mig_check all
 SIGNALS = signal.SIGINT, signal.SIGTERM, signal.SIGHUP
-OK, REFUSED, USAGE, READ_FAULT, WRITE_FAULT, NO_MEMORY, NOT_COMPARED, FAULTY, NO_PROGRAM = 0, 1, 2, 3, 4, 5, 6, 7, 125
-BY_OTHERS = 126, 127                                 # of a shell, or where a library of the program isn't found, or has no room
 
 
 def catch_signals(handler):
@@ -25,14 +23,6 @@ def catch_signals(handler):
             signal.signal(number, handler)
 
 
-class Stopped(BaseException):
-    """A signal asks for an end. No program is started any more."""
-
-    def __init__(self, number):
-        super().__init__()
-        self.status = 128 + number
-
-
 def surroundings(words):
     """A program's environment for these words. Its pages come in two thirds of the time where the C library asks for huge ones, which it
     does where GLIBC_TUNABLES says so; what is said there of huge pages already stays."""
@@ -40,14 +30,6 @@ def surroundings(words):
     if words in KEEPS_NO_PAGES or HUGE_PAGES in told:
         return None
     return {**os.environ, 'GLIBC_TUNABLES': ':'.join(filter(None, (told, HUGE_PAGES + '=1')))}
-
-
-class Refused(Exception):
-    """What can't be done, with its status."""
-
-    def __init__(self, status, line):
-        super().__init__(line)
-        self.status = status
 
 
 class Running:
@@ -70,25 +52,31 @@ class Running:
     def stop(self, number, _):
         for other in SIGNALS:                        # what was begun is taken away meanwhile
             signal.signal(other, signal.SIG_IGN)
-        self.end(Stopped(number))
-        raise self.stopped
+        why = errors.Stopped(number)
+        self.end(why)
+        raise why
 
-    def start(self, words, **streams):
-        """Starts a program, whose path is the first word. The program itself gets its name there, as it is shown, since it
-        answers no words behind a path that isn't UTF-8."""
+    def start(self, path, words, most=None, restore_signals=False, **streams):
+        """Starts a program, ours or an unpacker, which may take so much memory, or what this thread's may. It gets its name as it is
+        shown, since it answers no words behind a path that isn't UTF-8. Its standard error is a pipe. An OSError says that it didn't
+        start. Where signals aren't restored a limit of file sizes is a write fault, too."""
         if self.stopped:
             raise self.stopped
-        path, *rest = words
-        try:
-            process = subprocess.Popen([shown(os.path.basename(path)), *rest], executable=path, env=surroundings(rest),
-                                       restore_signals=False, **streams)  # a limit of file sizes is a write fault, too
-        except OSError as fault:
-            raise NoProgram('%s does not start: %s' % (shown(path), fault.strerror)) from None
-        guard(process, self.most())
+        process = subprocess.Popen([shown(os.path.basename(path)), *words], executable=path, stderr=PIPE,
+                                   restore_signals=restore_signals, **streams)
+        guard(process, self.most() if most is None else most)
         self.processes.add(process)
         if self.stopped:                             # meanwhile, in another thread
             process.kill()
         return process
+
+    def said_by(self, process):
+        """What a program that was started wrote on standard error up to its end, and its status."""
+        said = process.stderr.read().decode('utf-8', 'replace')
+        process.stderr.close()
+        status = process.wait()
+        self.processes.discard(process)
+        return status, said
 
 
 RUNNING = Running()
@@ -105,7 +93,7 @@ def find(name=resolve.TOOL):
     if not named:
         return resolved(name).path
     if not os.path.isfile(named) or not os.access(named, os.X_OK):
-        raise NoProgram('%s names %s, which is no program' % (name.upper(), shown(named)))
+        raise errors.NoProgram('%s names %s, which is no program' % (name.upper(), shown(named)))
     return named
 
 
@@ -113,14 +101,14 @@ def resolved(name):
     """The program that fits these sources, which is built first where none does."""
     try:
         return resolve.present(name)
-    except NoProgram as none:
+    except errors.NoProgram as none:
         if not can_build():
-            raise NoProgram('no program runs: %s' % none) from None
+            raise errors.NoProgram('no program runs: %s' % none) from None
     build()
     try:
         return resolve.present(name)
-    except NoProgram as none:
-        raise NoProgram('no program runs: %s; where a source was changed meanwhile, run it again' % none) from None
+    except errors.NoProgram as none:
+        raise errors.NoProgram('no program runs: %s; where a source was changed meanwhile, run it again' % none) from None
 
 
 def can_build():
@@ -133,34 +121,62 @@ def build():
     building = subprocess.Popen([BUILDER], stdin=subprocess.DEVNULL, stdout=subprocess.DEVNULL)
     try:
         built = building.wait()
-    except Stopped:                                  # it puts back what it has begun
+    except errors.Stopped:                                  # it puts back what it has begun
         building.terminate()
         building.wait()
         raise
     if built:
-        raise NoProgram('')
+        raise errors.NoProgram('')
 
 
-def answer_of(process):
-    """What a started program answers in the end. Its standard error is a pipe."""
-    said = process.stderr.read().decode('utf-8', 'replace')
-    process.stderr.close()
-    status = process.wait()
-    RUNNING.processes.discard(process)
+def answer_of(status, said):
+    """What a program of ours answered, with its line."""
     if status < 0:
-        return Answer(NO_MEMORY, 'the program was ended by signal %d; most often no memory was left' % -status)
-    if status in BY_OTHERS or status == REFUSED and not said.startswith('refused: '):
-        return Answer(NO_MEMORY, 'the program could not begin: ' + said.strip())
+        return Answer(errors.NO_MEMORY, 'the program was ended by signal %d; most often no memory was left' % -status)
+    if status in errors.BY_OTHERS or status == errors.REFUSED and not said.startswith('refused: '):
+        return Answer(errors.NO_MEMORY, 'the program could not begin: ' + said.strip())
     return Answer(status, said[:-1] if said.endswith('\n') else said)
 
 
-def start(path, words, source, begins, out):
-    """Starts the program on a source from a place on, with this standard output."""
-    return RUNNING.start([path, *words], stdin=source.input_from(begins), stdout=out, stderr=subprocess.PIPE)
+class Work:
+    """A program of ours at work on a source from a place on, or on nothing. Behind a `with` that lasts while its output is read,
+    `said` is its answer; READ_FAULT where the source itself failed. It is ended where an exception ends that."""
+
+    def __init__(self, path, words, source=None, begins=0, out=subprocess.DEVNULL):
+        self.source, self.said = source, None
+        fed_by = subprocess.DEVNULL if source is None else source.input_from(begins)
+        try:
+            self.process = RUNNING.start(path, words, stdin=fed_by, stdout=out, env=surroundings(words))
+        except OSError as fault:
+            raise errors.NoProgram('%s does not start: %s' % (shown(path), fault.strerror)) from None
+
+    @property
+    def out(self):
+        """Where what it writes is read."""
+        return self.process.stdout.fileno()
+
+    def kill(self):
+        self.process.kill()
+
+    def __enter__(self):
+        return self
+
+    def __exit__(self, kind, *_):
+        if kind:
+            self.kill()
+        self.end()
+
+    def end(self, is_wanted=True):
+        """Waits for its end; what it answered. Where that isn't wanted any more, what follows its input isn't read either."""
+        if self.process.stdout:
+            self.process.stdout.close()
+        self.said = answer_of(*RUNNING.said_by(self.process))
+        fault = self.source and self.source.ended(is_wanted and self.said.status == errors.OK)
+        if fault:
+            self.said = Answer(errors.READ_FAULT, 'fault: read: ' + fault)
+        return self.said
 
 
 def run(path, words, source, begins, out=subprocess.DEVNULL):
-    """What the program answers of a source from a place on; READ_FAULT where the source itself failed."""
-    answer = answer_of(start(path, words, source, begins, out))
-    fault = source.ended(answer.status == OK)
-    return Answer(READ_FAULT, 'fault: read: ' + fault) if fault else answer
+    """What the program answers of a source from a place on."""
+    return Work(path, words, source, begins, out).end()

@@ -8,6 +8,8 @@ import os
 import sys
 from collections import namedtuple
 
+from front import errors
+
 TOP = os.path.dirname(os.path.dirname(os.path.realpath(__file__)))
 IS_REPOSITORY = os.path.isdir(os.path.join(TOP, 'crates'))  # else a release that was unpacked, or PREFIX/lib/mig
 NAMES = TOOL, CHECK = 'mig_tool', 'mig_check'         # the programs, each of the crate of its name
@@ -17,18 +19,6 @@ PARTS = 'src', 'specs', 'proofs'
 NEEDED = ('version', 'machine', *NAMES, 'sources', 'kit', 'origin')
 SETTLED = 2                                          # seconds; a file that was changed later could change again unseen
 SEEN, MOST_SEEN = os.path.join(TOP, 'out', 'seen'), 8
-
-
-class NoProgram(Exception):
-    """No program runs; says why, where that doesn't stand on standard error already."""
-
-
-class Unfit(Exception):
-    """Why the program of a folder isn't run."""
-
-
-class Absent(Unfit):
-    """There is none."""
 
 
 # A program that may be run, and what its manifest tells.
@@ -116,7 +106,7 @@ def kept_sum(paths, make):
     the one that was kept then."""
     if not IS_REPOSITORY:
         return make()
-    marks, newest = hashlib.sha256(), 0
+    marks, newest = hashlib.sha256(), 0.0
     for path in paths:
         found = os.stat(path)
         newest = max(newest, found.st_mtime, found.st_ctime)
@@ -167,14 +157,14 @@ def manifest(folder):
         with open(path, encoding='utf-8') as lines:
             told = dict(line.rstrip('\n').split(': ', 1) for line in lines if line.strip() and not line.startswith('#'))
     except FileNotFoundError:
-        raise Absent('%s is not there' % below_top(path)) from None
+        raise errors.Absent('%s is not there' % below_top(path)) from None
     except OSError as fault:
-        raise Unfit("%s can't be read: %s" % (below_top(path), fault.strerror)) from None
+        raise errors.Unfit("%s can't be read: %s" % (below_top(path), fault.strerror)) from None
     except ValueError:
         told = {}
     missing = [name for name in NEEDED if not told.get(name)]
     if missing:
-        raise Unfit('%s is damaged, or of another release: it has no %s' % (below_top(path), missing[0]))
+        raise errors.Unfit('%s is damaged, or of another release: it has no %s' % (below_top(path), missing[0]))
     return told
 
 
@@ -187,18 +177,18 @@ def program_in(folder, path):
     """The program at a path, where it is as a folder's manifest tells: made from these sources, for this machine, and as it was made."""
     told = manifest(folder)
     if told['machine'] != MACHINE:
-        raise Unfit('%s is for %s, and this machine is %s' % (below_top(path), told['machine'], MACHINE))
+        raise errors.Unfit('%s is for %s, and this machine is %s' % (below_top(path), told['machine'], MACHINE))
     try:
         if kept_sum([path], lambda: sum_of_file(path)) != told[os.path.basename(path)]:
-            raise Unfit('%s is cut or changed: it has not the checksum that its MANIFEST names' % below_top(path))
+            raise errors.Unfit('%s is cut or changed: it has not the checksum that its MANIFEST names' % below_top(path))
     except FileNotFoundError:
-        raise Unfit('%s is not there' % below_top(path)) from None
+        raise errors.Unfit('%s is not there' % below_top(path)) from None
     except OSError as fault:
-        raise Unfit("%s can't be read: %s" % (below_top(path), fault.strerror)) from None
+        raise errors.Unfit("%s can't be read: %s" % (below_top(path), fault.strerror)) from None
     if not os.access(path, os.X_OK):
-        raise Unfit('%s may not be run' % below_top(path))
+        raise errors.Unfit('%s may not be run' % below_top(path))
     if IS_REPOSITORY and told['sources'] != sum_here():
-        raise Unfit('%s is of other sources (%s)' % (below_top(path), told['origin']))
+        raise errors.Unfit('%s is of other sources (%s)' % (below_top(path), told['origin']))
     return Program(path, told)
 
 
@@ -207,7 +197,7 @@ def sum_here():
     try:
         return Sources().checksum()
     except (OSError, KeyError) as fault:
-        raise Unfit("these sources can't be read: %s" % fault) from None
+        raise errors.Unfit("these sources can't be read: %s" % fault) from None
 
 
 def own(name):
@@ -218,9 +208,9 @@ def own(name):
 def shipped(name):
     """The one that is shipped with these sources."""
     if not os.path.isdir(SHIPPED):
-        raise Absent('no program is shipped with these sources')
+        raise errors.Absent('no program is shipped with these sources')
     if not os.path.isdir(os.path.join(SHIPPED, MACHINE)):
-        raise Absent('no program is shipped for this machine, %s: use one with a 64-bit processor of Intel or AMD' % MACHINE)
+        raise errors.Absent('no program is shipped for this machine, %s: use one with a 64-bit processor of Intel or AMD' % MACHINE)
     return program_in(SHIPPED, os.path.join(SHIPPED, MACHINE, name))
 
 
@@ -228,8 +218,8 @@ def installed(name):
     """The one that bin/install put beside bin/mig."""
     try:
         return program_in(TOP, os.path.join(TOP, 'bin', name))
-    except Unfit as unfit:
-        raise Unfit('%s: install it again' % unfit) from None
+    except errors.Unfit as unfit:
+        raise errors.Unfit('%s: install it again' % unfit) from None
 
 
 def present(name):
@@ -239,7 +229,7 @@ def present(name):
     for find in [installed] if is_installed else [own, shipped] if IS_REPOSITORY else [shipped]:
         try:
             return find(name)
-        except Unfit as unfit:
+        except errors.Unfit as unfit:
             whys.append(unfit)
-    there = [why for why in whys if not isinstance(why, Absent)]
-    raise NoProgram(str((there or whys)[-1]))
+    there = [why for why in whys if not isinstance(why, errors.Absent)]
+    raise errors.NoProgram(str((there or whys)[-1]))

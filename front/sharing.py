@@ -3,9 +3,11 @@ import contextlib
 import os
 import threading
 
-from front import forms, program, sources
+from front import errors, forms, program, sources
 
 BESIDE = 64 << 20                                    # what a program takes beside a guest's pages
+# What mig_check may take: 16 bytes for each of 2^24 frames, a 256th of their pages for page tables, and what stands beside.
+MOST_OF_CHECK = (16 << 24) + (1 << 36 >> 8) + BESIDE
 
 
 def need_of(name):
@@ -55,7 +57,7 @@ class Memory:
         most = min(max(need_of(name), self.share), self.all)
         with self.taken(most):
             found = judge()
-        if found.status != program.NO_MEMORY or not can_be_again or most == self.all:
+        if found.status != errors.NO_MEMORY or not can_be_again or most == self.all:
             return found
         with self.changed:
             self.changed.wait_for(lambda: self.running == 0)

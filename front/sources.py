@@ -1,13 +1,12 @@
 """Where the bytes of a save come from: a plain file, a packed one, or a pipe. Each gives its first bytes to be looked at,
 and is then handed to the program as its standard input, from a place on. Of a plain file no byte is copied here."""
+import contextlib
 import os
 import signal
 import stat
-import subprocess
 import threading
 
-from front import forms, program
-from front.guarding import guard
+from front import errors, forms, program
 from front.text import shown
 
 BLOCK = 1 << 20
@@ -27,19 +26,13 @@ class Folder(Found):
 
 class EmptyFolder(str):
     """The name of a folder in which no file is, or of a list that names none."""
+    why = 'no file is in it'
 
-    def __new__(cls, name, why='no file is in it'):
-        made = super().__new__(cls, name)
+    @classmethod
+    def of(cls, name, why):
+        made = cls(name)
         made.why = why
         return made
-
-
-class Special(Exception):
-    """A pipe, a socket or a device that was found in a folder, which is no save."""
-
-
-class Unreadable(Exception):
-    """A file that can't be read, and why, in one line."""
 
 
 def why(fault):
@@ -50,7 +43,7 @@ def read_some(fd, count):
     try:
         return os.read(fd, count)
     except OSError as fault:
-        raise Unreadable(why(fault)) from None
+        raise errors.Unreadable(why(fault)) from None
 
 
 def read_upto(fd, count):
@@ -116,7 +109,7 @@ class Plain:
             try:
                 more = os.pread(self.fd, count - len(data), self.base + offset + len(data))
             except OSError as fault:
-                raise Unreadable(why(fault)) from None
+                raise errors.Unreadable(why(fault)) from None
             if not more:
                 break
             data += more
@@ -156,14 +149,12 @@ class Packed:
         os.lseek(self.fd, self.base, os.SEEK_SET)
         told = {name: value for name, value in os.environ.items() if not name.startswith(TOLD_UNPACKERS)}
         try:
-            unpacker = subprocess.Popen([self.packed, '-dc', *self.MORE.get(self.packed, ())], stdin=self.fd,
-                                        stdout=subprocess.PIPE, stderr=subprocess.PIPE, env={**told, 'LC_ALL': 'C'})
-            guard(unpacker, program.RUNNING.memory)
-            return unpacker
+            return program.RUNNING.start(self.packed, ['-dc', *self.MORE.get(self.packed, ())], program.RUNNING.memory, stdin=self.fd,
+                                         restore_signals=True, stdout=program.PIPE, env={**told, 'LC_ALL': 'C'})
         except FileNotFoundError:
-            raise Unreadable('it is packed, and the program %s is not installed' % self.packed) from None
+            raise errors.Unreadable('it is packed, and the program %s is not installed' % self.packed) from None
         except OSError as fault:
-            raise Unreadable('it is packed, and the program %s does not start: %s' % (self.packed, why(fault))) from None
+            raise errors.Unreadable('it is packed, and the program %s does not start: %s' % (self.packed, why(fault))) from None
 
     def look(self, offset, count):
         """Some bytes of what is packed; fewer where it ends before."""
@@ -172,7 +163,7 @@ class Packed:
         data = read_upto(out, count) if pass_over(out, offset) == offset else b''
         said = self.stop() if len(data) < count else self.kill()
         if said:
-            raise Unreadable(said)
+            raise errors.Unreadable(said)
         return data
 
     def at(self, offset, count):
@@ -209,13 +200,11 @@ class Packed:
         """Ends the unpacker, and answers why it failed, where it did so by itself or was ended by others."""
         unpacker, self.running = self.running, None
         unpacker.stdout.close()
-        said = unpacker.stderr.read().decode(errors='replace').strip().splitlines()
-        unpacker.stderr.close()
-        status = unpacker.wait()
+        status, said = program.RUNNING.said_by(unpacker)
         if status in (0, -signal.SIGPIPE) or status == self.WARNING.get(self.packed):  # the program had all that it wanted
             return None
         if status > 0:
-            return 'it could not be unpacked: ' + shown((said or ['%s failed' % self.packed])[-1])
+            return 'it could not be unpacked: ' + shown((said.strip().splitlines() or ['%s failed' % self.packed])[-1])
         return '%s was ended by signal %d; most often no memory was left' % (self.packed, -status)
 
     def kill(self):
@@ -237,7 +226,7 @@ class Piped:
 
     def at(self, offset, count):
         if offset + count > MOST_KEPT:
-            raise Unreadable('what stands before the stream is more than is taken from a pipe: give the file by its name')
+            raise errors.Unreadable('what stands before the stream is more than is taken from a pipe: give the file by its name')
         self.kept += read_upto(self.fd, max(offset + count - len(self.kept), 0))
         return self.kept[offset:offset + count]
 
@@ -290,7 +279,7 @@ def source_of_open(fd, name):
     if stat.S_ISREG(status.st_mode):
         return unpacked(fd, status.st_size)
     if stat.S_ISDIR(status.st_mode):
-        raise Unreadable("Is a link to a folder, and isn't followed; name the folder" if os.path.islink(name) else 'Is a directory')
+        raise errors.Unreadable("Is a link to a folder, and isn't followed; name the folder" if os.path.islink(name) else 'Is a directory')
     return Piped(fd)
 
 
@@ -300,11 +289,11 @@ def opened(name):
     if not isinstance(name, Found):
         return os.open(name, os.O_RDONLY | os.O_CLOEXEC)
     if is_special(os.stat(name)):
-        raise Special
+        raise errors.Special
     fd = os.open(name, os.O_RDONLY | os.O_CLOEXEC | os.O_NONBLOCK | os.O_NOCTTY)
     if is_special(os.fstat(fd)):
         os.close(fd)
-        raise Special
+        raise errors.Special
     return fd
 
 
@@ -315,14 +304,33 @@ def is_special(status):
 def source_of(name):
     """The source of a file with this name; `-` is standard input. A file that gives none is closed again."""
     if isinstance(name, EmptyFolder):
-        raise Unreadable(name.why)
+        raise errors.Unreadable(name.why)
     fd = source = None
     try:
         fd = 0 if name == '-' else opened(name)
         source = source_of_open(fd, name)
         return source
     except OSError as fault:
-        raise Unreadable(why(fault)) from None
+        raise errors.Unreadable(why(fault)) from None
     finally:
         if fd and not source:
             os.close(fd)
+
+
+def unread(name, why):
+    """What ends a verb that has one file, where that can't be read."""
+    return errors.Refused(errors.READ_FAULT, '%s: fault: read: %s' % (shown(name), why))
+
+
+@contextlib.contextmanager
+def source_for(name):
+    """The source of the one file of a verb, which ends where that can't be read."""
+    source = None
+    try:
+        source = source_of(name)
+        yield source
+    except errors.Unreadable as why:
+        raise unread(name, why) from None
+    finally:
+        if source:
+            source.close()

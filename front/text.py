@@ -2,10 +2,12 @@
 import io
 import sys
 
+from front import errors
+
 
 def escape_output():
     """Standard output escapes what it can't encode."""
-    sys.stdout = io.TextIOWrapper(sys.stdout.detach(), sys.stdout.encoding, 'backslashreplace')
+    sys.stdout = io.TextIOWrapper(sys.stdout.detach(), sys.stdout.encoding, 'backslashreplace')  # type: ignore[attr-defined]
 
 
 def shown(name):
@@ -23,10 +25,6 @@ def shown(name):
     return ''.join(letters)
 
 
-class Untold(Exception):
-    """Lines couldn't be written; where, and why."""
-
-
 def put_lines(lines, to):
     """Writes lines at once, so that those of several processes don't mix in a pipe that they share."""
     text = ''.join(line + '\n' for line in lines)
@@ -38,7 +36,7 @@ def put_lines(lines, to):
     except BrokenPipeError:
         raise
     except OSError as fault:
-        raise Untold('%s: %s' % ('standard output' if to is sys.stdout else 'standard error', fault.strerror)) from None
+        raise errors.Untold('%s: %s' % ('standard output' if to is sys.stdout else 'standard error', fault.strerror)) from None
 
 
 def tell(line):

@@ -2,10 +2,11 @@
 import base64
 import os
 import re
+import sys
 from collections import namedtuple
 
-from front import causes, forms, guarding, places, program, sources
-from front.text import shown
+from front import causes, errors, forms, guarding, places, program, sources
+from front.text import put_lines, shown
 
 OK, REFUSED, NO_SAVE, NOT_JUDGED, FAULT = 'ok', 'refused', 'no save', 'not judged', 'fault'
 SCHEMA = 1                                           # of what --json prints: docs/verdict.schema.json
@@ -18,12 +19,16 @@ RELAYED = re.compile(r'ok records (\d+) bytes (\d+)')
 
 
 Fields = namedtuple('Fields', 'name result status line form begins offset packed means do follows text size digest')
-Fields.__new__.__defaults__ = (None,) * 10           # of the last ten; python3.6 has no better word for it
 
 
 class Verdict(Fields):
     """Of one file: a result, the status that goes with it, the program's line, the form that was found, and what explains
     it, with the text of a script's bad line and the size of a stream that was saved; None where that says nothing of it."""
+
+    @classmethod
+    def of(cls, name, result, status, line, form=None, **more):
+        """One that says no more than this. (python3.6 knows no defaults of a namedtuple.)"""
+        return cls(name, result, status, line, form, *map(more.get, cls._fields[5:]))
 
     def lines(self):
         """What is printed of it."""
@@ -105,35 +110,41 @@ def of_name(name):
     return {'file': name}
 
 
+def tell_of(found):
+    """Tells of what has no result, or more behind it."""
+    lines = list(found.lines())
+    put_lines(lines if found.status else ['%s: %s' % (shown(found.name), line.strip()) for line in lines[1:]], sys.stderr)
+
+
 SPECIAL = 'not judged: a pipe, a socket or a device is read only where it is given by its name'
 
 
 def fault(name, why):
-    return Verdict(name, FAULT, program.READ_FAULT, 'fault: read: ' + why)
+    return Verdict.of(name, FAULT, errors.READ_FAULT, 'fault: read: ' + why)
 
 
 def without_program(name, form):
     """The verdict of a file that no command takes; None where one does."""
     if form.kind == forms.NONE:
-        return Verdict(name, NO_SAVE, program.REFUSED, 'no save: ' + form.why)
+        return Verdict.of(name, NO_SAVE, errors.REFUSED, 'no save: ' + form.why)
     if form.kind == forms.BROKEN:
-        return Verdict(name, REFUSED, program.REFUSED, 'refused: ' + form.why, form.words, means='no stream was reached',
+        return Verdict.of(name, REFUSED, errors.REFUSED, 'refused: ' + form.why, form.words, means='no stream was reached',
                        do=causes.COPY)
     if form.kind == forms.IMAGE:
-        return Verdict(name, NOT_JUDGED, program.REFUSED, 'not judged: `mig save` and `mig walk` alone read guest images', form.words)
+        return Verdict.of(name, NOT_JUDGED, errors.REFUSED, 'not judged: `mig save` and `mig walk` alone read guest images', form.words)
     return None
 
 
 def of_answer(name, source, form, command, answer):
     """The verdict of a file of which the program answered this to a command."""
     words = ', '.join(filter(None, (source.packed, form.words))) or None
-    found = Verdict(name, FAULT, answer.status, answer.line, words, form.begins, packed=source.packed)
-    if answer.status == program.OK:
+    found = Verdict.of(name, FAULT, answer.status, answer.line, words, begins=form.begins, packed=source.packed)
+    if answer.status == errors.OK:
         end = places.end_of(source, form) if command not in ('save', 'walkimage') else None
         follows = max(source.size - end, 0) if end is not None else 0  # a file that grows meanwhile is longer than it was
         return found._replace(result=OK, line=answer.line or 'ok', follows=follows or None)
     refusal = REFUSAL.match(answer.line)
-    if answer.status != program.REFUSED or not refusal:
+    if answer.status != errors.REFUSED or not refusal:
         return found
     said = causes.of_refusal(refusal[1], int(refusal[2]))
     return found._replace(result=REFUSED, offset=places.place_of(source, form.begins, command, refusal[1]),
@@ -163,14 +174,14 @@ def of_file(name, judge):
     try:
         source = sources.source_of(name)
         return judge(name, source)
-    except sources.Special:
-        return Verdict(name, NOT_JUDGED, program.REFUSED, SPECIAL)
-    except sources.Unreadable as unreadable:
+    except errors.Special:
+        return Verdict.of(name, NOT_JUDGED, errors.REFUSED, SPECIAL)
+    except errors.Unreadable as unreadable:
         return fault(name, str(unreadable))
-    except (program.NoProgram, program.Refused, MemoryError):
+    except (errors.NoProgram, errors.Refused, MemoryError):
         raise
     except Exception as unforeseen:                  # the other files are checked all the same
-        return Verdict(name, FAULT, program.FAULTY, guarding.told_of(unforeseen))
+        return Verdict.of(name, FAULT, errors.FAULTY, guarding.told_of(unforeseen))
     finally:
         if source:
             source.close()

@@ -2,7 +2,7 @@
 import os
 import subprocess
 
-from front import resolve
+from front import errors, resolve
 
 
 def lines():
@@ -21,7 +21,7 @@ def program(name):
         return {}, 'the one that %s names' % name.upper()
     try:
         told = resolve.present(name).told
-    except resolve.NoProgram as none:
+    except errors.NoProgram as none:
         return {}, 'none yet: %s' % none
     return told, 'sha256 %s, %s' % (told[name], told['origin'])
 

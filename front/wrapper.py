@@ -4,7 +4,7 @@ import os
 import signal
 import sys
 
-from front import program, resolve
+from front import errors, program, resolve
 
 FAILED = 125
 
@@ -25,7 +25,7 @@ class Wrapper:
         if names_a_command(self.name, words):
             return None
         print(USAGES[self.name], file=sys.stderr)
-        return program.USAGE
+        return errors.USAGE
 
     def unproved(self, words):
         from build import unproved as sources
@@ -53,10 +53,10 @@ class Wrapper:
             for number in signal.SIGPIPE, signal.SIGXFSZ:
                 signal.signal(number, signal.SIG_DFL)    # python3 ignores these
             os.execve(path, [self.name] + words, program.surroundings(words) or os.environ)
-        except resolve.NoProgram as none:
+        except errors.NoProgram as none:
             if str(none):
                 self.tell(str(none))
-        except program.Stopped as stopped:
+        except errors.Stopped as stopped:
             return stopped.status
         except OSError as fault:
             self.tell('%s does not start: %s' % (path, fault.strerror))
@@ -65,7 +65,7 @@ class Wrapper:
     def is_there(self):
         try:
             resolve.present(self.name)
-        except resolve.NoProgram:
+        except errors.NoProgram:
             return False
         return True
 

@@ -4,18 +4,14 @@ import errno
 import os
 import sys
 
-from front import files, forms, headers, program, sources, verdict
-from front.program import Refused
+from front import errors, files, forms, headers, program, sources, verdict
 from front.text import put_lines, shown, tell
+from front.words import CHOICE, INPUT, INTO, OUT, takes_files, takes_header, verb, writes_over
 
 LIBXL_FRONT = bytes.fromhex('4c6962786c466d74 00000002 00000000 01000000 00000000')
 LIBXL_END = bytes(8)
 MODE = 0o600                                         # a guest's memory is its owner's alone, whoever may read the save
 UNSYNCED = errno.EINVAL, errno.ENOTSUP, errno.EACCES  # of a folder whose file system has no such call, or which can't be read
-
-
-class BadWords(Refused):
-    """Words that no file makes good."""
 
 
 def settle(name):
@@ -40,9 +36,9 @@ class Output:
             self.fd = self.standard()
             return
         if os.path.lexists(name) and not (force and os.path.isfile(name)):
-            raise Refused(program.USAGE, '%s is there already; --force writes over a file' % shown(name))
+            raise errors.Refused(errors.USAGE, '%s is there already; --force writes over a file' % shown(name))
         if not os.path.basename(name):
-            raise Refused(program.USAGE, "OUT, '%s', names no file" % shown(name))
+            raise errors.Refused(errors.USAGE, "OUT, '%s', names no file" % shown(name))
         self.target = os.path.realpath(name) if force else os.path.abspath(name)  # a link stays, and its file is written over
         self.folder, base = os.path.split(self.target)
         self.part = os.path.join(self.folder, '.%s.%d.part' % (os.fsdecode(os.fsencode(base)[:200]), os.getpid()))
@@ -50,12 +46,12 @@ class Output:
             self.fd = os.open(self.part, os.O_RDWR | os.O_CREAT | os.O_EXCL | os.O_CLOEXEC, MODE)
         except OSError as fault:
             self.part = None
-            raise Refused(program.WRITE_FAULT, '%s: %s' % (shown(name), sources.why(fault))) from None
+            raise errors.Refused(errors.WRITE_FAULT, '%s: %s' % (shown(name), sources.why(fault))) from None
 
     @staticmethod
     def standard():
         if sys.stdout.isatty():
-            raise Refused(program.USAGE, 'a stream is no text: give it another place than a terminal')
+            raise errors.Refused(errors.USAGE, 'a stream is no text: give it another place than a terminal')
         return 1
 
     def place(self):
@@ -71,9 +67,9 @@ class Output:
             self.part = None
             settle(self.folder)
         except FileExistsError:
-            raise Refused(program.USAGE, '%s is there meanwhile; --force writes over it' % shown(self.name)) from None
+            raise errors.Refused(errors.USAGE, '%s is there meanwhile; --force writes over it' % shown(self.name)) from None
         except OSError as fault:
-            raise Refused(program.WRITE_FAULT, '%s: %s' % (shown(self.name), sources.why(fault))) from None
+            raise errors.Refused(errors.WRITE_FAULT, '%s: %s' % (shown(self.name), sources.why(fault))) from None
 
     def move(self):
         """Gives the file a name that nobody has. Where there are no hard links an empty file holds it meanwhile."""
@@ -108,16 +104,16 @@ def put(fd, data):
     try:
         sources.write_all(fd, data)
     except OSError as fault:
-        raise Refused(program.WRITE_FAULT, 'fault: write: ' + sources.why(fault)) from None
+        raise errors.Refused(errors.WRITE_FAULT, 'fault: write: ' + sources.why(fault)) from None
 
 
 def configuration(source, form):
     """The configuration that stands in xl's header."""
     header = form.header
     if not isinstance(header, headers.XlHeader):
-        raise Refused(program.USAGE, "--xl: there is no xl header to put back; IN is a %s" % form.words)
+        raise errors.Refused(errors.USAGE, "--xl: there is no xl header to put back; IN is a %s" % form.words)
     if header.length > sources.MOST_KEPT:
-        raise Refused(program.USAGE, "--xl: the configuration in xl's header has more than 64 MiB")
+        raise errors.Refused(errors.USAGE, "--xl: the configuration in xl's header has more than 64 MiB")
     return source.at(headers.XL_LENGTH, header.length)
 
 
@@ -127,9 +123,8 @@ def copy(pipe, out):
         put(out, block)
 
 
-def for_xl(process, out, front):
+def for_xl(pipe, out, front):
     """Passes on what the program writes, with xl's header in front, and with a libxl stream around a bare image."""
-    pipe = process.stdout.fileno()
     first = sources.read_upto(pipe, len(forms.LIBXL_MAGIC))
     if not first:
         return
@@ -144,17 +139,9 @@ def answer(words, path, command, source, form, out):
     if not words.xl:
         return program.run(path, command, source, form.begins, out)
     front = headers.xl_header_before_v2(form.header, configuration(source, form))
-    process = program.start(path, command, source, form.begins, program.subprocess.PIPE)
-    try:
-        for_xl(process, out, front)
-    except Refused:
-        process.kill()
-        raise
-    finally:
-        process.stdout.close()
-        said = program.answer_of(process)
-        fault = source.ended(said.status == program.OK)
-    return program.Answer(program.READ_FAULT, 'fault: read: ' + fault) if fault else said
+    with program.Work(path, command, source, form.begins, program.PIPE) as work:
+        for_xl(work.out, out, front)
+    return work.said
 
 
 def command_of(words):
@@ -171,8 +158,8 @@ def written(words, path, name, source, output):
     if words.xl:
         configuration(source, form)
     said = answer(words, path, command_of(words), source, form, output.fd)
-    if said.status == program.USAGE:
-        raise BadWords(program.USAGE, '--base has to be from 1 to 1099494850560')
+    if said.status == errors.USAGE:
+        raise errors.BadWords(errors.USAGE, '--base has to be from 1 to 1099494850560')
     return verdict.of_answer(name, source, form, words.verb, said)
 
 
@@ -181,7 +168,7 @@ def result_of(words, path, name, source, place):
     output = Output(place, words.force)
     try:
         found = written(words, path or program.find(), name, source, output)
-        if found.status == program.OK:
+        if found.status == errors.OK:
             output.place()
         return found
     finally:
@@ -195,23 +182,26 @@ def write(words):
         return into(words)
     files.refuse_choice(words, 'go with -t')
     if words.skip_existing:
-        raise Refused(program.USAGE, '--skip-existing goes with -t')
+        raise errors.Refused(errors.USAGE, '--skip-existing goes with -t')
     if len(words.paths) != 2:
         words.usage_fault('IN and OUT are wanted, or -t DIR and PATHs')
-    words.input, words.output = words.paths
-    try:
-        source = sources.source_of(words.input)
-    except sources.Unreadable as unreadable:
-        tell('%s: fault: read: %s' % (shown(words.input), unreadable))
-        return program.READ_FAULT
-    try:
-        found = result_of(words, None, words.input, source, words.output)
-    except sources.Unreadable as unreadable:
-        tell('%s: fault: read: %s' % (shown(words.input), unreadable))
-        return program.READ_FAULT
-    finally:
-        source.close()
+    name, output = words.paths
+    with sources.source_for(name) as source:
+        found = result_of(words, None, name, source, output)
     if found.status or found.follows:
         lines = list(found.lines())
-        put_lines(lines[bool(found.status == program.OK):], sys.stderr)
+        put_lines(lines[bool(found.status == errors.OK):], sys.stderr)
     return found.status
+
+
+def offer(verbs, name, says, with_xl=True):
+    """Offers one of the three verbs."""
+    words = verb(verbs, name, says, write, '\n\n'.join((INPUT, OUT, INTO, CHOICE)))
+    words.usage = 'mig %s [OPTION...] IN OUT\n       mig %s [OPTION...] -t DIR PATH...' % (name, name)
+    takes_files(words, 'IN and OUT; with -t files and folders')
+    words.add_argument('-t', '--target-directory', dest='directory', metavar='DIR', help='write one result for each PATH in DIR')
+    words.add_argument('--skip-existing', action='store_true', help='with -t: pass over what has its result in DIR')
+    writes_over(words)
+    if with_xl:
+        takes_header(words, "put xl's header back in front, so that `xl restore` takes OUT")
+    return words

@@ -18,10 +18,10 @@ def heed_signals():
 
 def fitting():
     """The path of the mig_tool that fits these sources, or None, and why there is none."""
-    from front import resolve
+    from front import errors, resolve
     try:
         return resolve.present(resolve.TOOL).path, ''
-    except resolve.NoProgram as none:
+    except errors.NoProgram as none:
         return None, str(none)
 
 

@@ -151,12 +151,12 @@ def newer():
     """What an earlier version had is replaced, and what the newer one hasn't is taken away."""
     with copy_and_prefix() as (copy, prefix):
         copy.install('--prefix', prefix)
-        os.rename(os.path.join(copy.top, 'front', 'walk.py'), os.path.join(copy.top, 'front', 'way.py'))
-        write('# changed\n', copy.top, 'front', 'show.py')
+        os.rename(os.path.join(copy.top, 'front', 'parts.py'), os.path.join(copy.top, 'front', 'pieces.py'))
+        write('# changed\n', copy.top, 'front', 'many.py')
         yield from installed(copy.install('--prefix', prefix), prefix)
         there = os.listdir(os.path.join(prefix, 'lib', 'mig', 'front'))
-        yield from wanted(('walk.py' in there, 'way.py' in there), (False, True))
-        yield from wanted(read(prefix, 'lib', 'mig', 'front', 'show.py'), '# changed\n')
+        yield from wanted(('parts.py' in there, 'pieces.py' in there), (False, True))
+        yield from wanted(read(prefix, 'lib', 'mig', 'front', 'many.py'), '# changed\n')
         yield from wanted(copy.remove('--prefix', prefix)[0], 0)
         yield from wanted(os.path.exists(prefix), False)
 

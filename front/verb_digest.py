@@ -5,11 +5,19 @@ import os
 import re
 import sys
 
-from front import check, files, forms, program, sources, verdict
+from front import errors, files, forms, many, program, sources, verdict
 from front.sharing import Memory
 from front.text import put_lines, shown, tell
-from front.write import Refused, put
+from front.write import put
+from front.words import CHOICE, at_once, takes_files, verb
 
+DIGEST = """\
+A line has the SHA-256 of the canonical stream of a file's guest, and the file's name, as sha256sum writes them. It is the
+digest of what `mig normalise`, or of an old save `mig convert`, writes: so two saves of the same guest state have the same,
+whether they are packed or not. What has no digest is told on standard error.
+
+With --check each PATH is a list of such lines, or `-`: for each line the digest is made again, and OK or FAILED is printed. A line
+that is none, and an empty list, are told and make the status 1."""
 LINE = re.compile(rb'(\\?)([0-9a-f]{64}) [ *](.+)', re.S)
 ESCAPED = {b'\\': b'\\\\', b'\n': b'\\n', b'\r': b'\\r'}  # as sha256sum does, with a backslash in front of the line
 UNESCAPED = {escaped: letter for letter, escaped in ESCAPED.items()}
@@ -28,17 +36,12 @@ def judged(name, path, source):
     if early:
         return early
     command = 'convert' if form.kind == forms.LEGACY else 'normalise'
-    process = program.start(path, [command], source, form.begins, program.subprocess.PIPE)
     made = hashlib.sha256()
-    with process.stdout as pipe:
-        for block in iter(lambda: os.read(pipe.fileno(), sources.BLOCK), b''):
+    with program.Work(path, [command], source, form.begins, program.PIPE) as work:
+        for block in iter(lambda: os.read(work.out, sources.BLOCK), b''):
             made.update(block)
-    said = program.answer_of(process)
-    fault = source.ended(said.status == program.OK)
-    if fault:
-        said = program.Answer(program.READ_FAULT, 'fault: read: ' + fault)
-    found = verdict.of_answer(name, source, form, command, said)
-    return found._replace(digest=made.hexdigest()) if found.status == program.OK else found
+    found = verdict.of_answer(name, source, form, command, work.said)
+    return found._replace(digest=made.hexdigest()) if found.status == errors.OK else found
 
 
 def line_of(found):
@@ -57,54 +60,56 @@ def listed(line):
     return os.fsdecode(name), said[2].decode()
 
 
-def tell_of(found):
-    """Tells of what has no digest, or more behind it."""
-    lines = list(found.lines())
-    put_lines(lines if found.status else ['%s: %s' % (shown(found.name), line.strip()) for line in lines[1:]], sys.stderr)
-
-
 def written(words):
     """Writes the digest of each file; the status."""
     names, statuses = files.chosen(words), set()
-    for found in check.verdicts(names, words.jobs, judge_of(program.find(), words.jobs), 'reading'):
+    for found in many.verdicts(names, words.jobs, judge_of(program.find(), words.jobs), 'reading'):
         if found.digest:
             put(1, line_of(found))
-        tell_of(found)
+        verdict.tell_of(found)
         statuses.add(found.status)
-    return check.status_of(statuses)
+    return many.status_of(statuses)
 
 
 def compared(words, name, path):
     """Says of each file of a list whether it has the digest that stands there; the status."""
     try:
         lines = [listed(line) for line in files.text_of(name).splitlines()]
-    except sources.Unreadable as why:
+    except errors.Unreadable as why:
         tell('%s: fault: read: %s' % (shown(name), why))
-        return program.READ_FAULT
+        return errors.READ_FAULT
     wanted = [line for line in lines if line]
-    statuses = {program.REFUSED} if len(wanted) < len(lines) or not lines else set()
+    statuses = {errors.REFUSED} if len(wanted) < len(lines) or not lines else set()
     for number, line in enumerate(lines, 1):
         if not line:
             tell('%s: line %d is no digest and name' % (shown(name), number))
     if not lines:
         tell('%s: it has no line' % shown(name))
     names = (sources.Found(file) for file, _ in wanted)
-    for found, (_, digest) in zip(check.verdicts(names, words.jobs, judge_of(path, words.jobs)), wanted):
+    for found, (_, digest) in zip(many.verdicts(names, words.jobs, judge_of(path, words.jobs)), wanted):
         good = found.digest == digest
         if not good or not words.quiet:
             put_lines(['%s: %s' % (shown(found.name), 'OK' if good else 'FAILED')], sys.stdout)
-        tell_of(found)
-        statuses.add(found.status or program.REFUSED * (not good))
-    return check.status_of(statuses)
+        verdict.tell_of(found)
+        statuses.add(found.status or errors.REFUSED * (not good))
+    return many.status_of(statuses)
 
 
 def digest(words):
     if words.quiet and not words.check:
-        raise Refused(program.USAGE, '-q goes with --check')
+        raise errors.Refused(errors.USAGE, '-q goes with --check')
     if not words.check:
         return written(words)
     files.refuse_choice(words, "don't go with --check")
     if not words.paths:
         words.usage_fault('the following arguments are required: PATH')
     path = program.find()
-    return check.status_of({compared(words, name, path) for name in words.paths})
+    return many.status_of({compared(words, name, path) for name in words.paths})
+
+
+def offer(verbs):
+    words = verb(verbs, 'digest', "print the digest of each guest's canonical stream, or check a list of them", digest, DIGEST + '\n\n' + CHOICE)
+    takes_files(words)
+    at_once(words)
+    words.add_argument('--check', action='store_true', help='each PATH is a list of digests: say of each digest whether it is that of its file')
+    words.add_argument('-q', dest='quiet', action='store_true', help='with --check: print nothing of what is well')

@@ -1,11 +1,15 @@
 """`mig exercise`: the program saves a guest of its own live, in memory, reads it back and restores it, and says what it came to."""
 import re
-import subprocess
 import sys
 
 from front import program
 from front.text import put_lines
+from front.words import number, verb
 
+EXERCISE = """\
+A PV guest with so many frames is made in memory, what it holds and what it writes follow from the seed. It is saved live,
+the stream is read again, and its guest is restored. No file is read or written; it takes more than six times the guest's
+memory."""
 NUMBERS = re.compile(r'ok frames (\d+) rounds (\d+) entries (\d+) canon (\d+)')
 
 
@@ -22,8 +26,12 @@ def told(answer):
 
 def exercise(words):
     path = program.find()
-    process = program.RUNNING.start([path, 'exercise', str(words.seed), str(words.frames)], stdin=subprocess.DEVNULL,
-                                    stdout=subprocess.DEVNULL, stderr=subprocess.PIPE)
-    answer = program.answer_of(process)
+    answer = program.Work(path, ['exercise', str(words.seed), str(words.frames)]).end()
     put_lines(told(answer), sys.stdout)
     return answer.status
+
+
+def offer(verbs):
+    words = verb(verbs, 'exercise', 'try the program on a guest of its own, without any file', exercise, EXERCISE)
+    words.add_argument('seed', metavar='SEED', nargs='?', type=number(0, (1 << 64) - 1), default=1, help='a number of 64 bits (1)')
+    words.add_argument('frames', metavar='FRAMES', nargs='?', type=number(8, 65536), default=600, help='from 8 to 65536 (600)')

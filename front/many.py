@@ -1,16 +1,10 @@
-"""`mig check`: files, folders and standard input, one line each, and a count at the end."""
+"""Many files, one after another or several at once: what is said of each in the order of their names, and the count at the end."""
 import collections
 import os
 import sys
 
-from front import forms, program, resolve, verdict
-from front.files import chosen, files_of  # noqa: F401  (the second is for others)
-from front.sharing import Memory
-from front.text import put_lines, shown
-
-# What mig_check may take: 16 bytes for each of 2^24 frames, a 256th of their pages for page tables, and 64 MiB beside.
-MOST_TAKEN = (16 << 24) + (1 << 36 >> 8) + (64 << 20)
-COUNTED = verdict.OK, verdict.REFUSED, verdict.NO_SAVE, verdict.NOT_JUDGED, verdict.FAULT
+from front import errors, program
+from front.text import shown
 
 
 class Progress:
@@ -80,43 +74,4 @@ def count_of(counts):
 
 def status_of(statuses):
     """Of all files' statuses that which says most of this machine; else whether one was refused."""
-    return max(statuses, default=program.OK)
-
-
-class Checks:
-    """What is said of each file. mig_check judges it, which keeps no pages. With --compare mig_tool reads it once more where it has
-    frames that were sent again to be compared, and at once where it can't be read twice."""
-
-    def __init__(self, words):
-        self.path, self.memory = program.find(resolve.CHECK), Memory(words.jobs)
-        self.tool = program.find(resolve.TOOL) if words.compare else None
-
-    def judged(self, name):
-        return verdict.of_file(name, self.said)
-
-    def said(self, name, source):
-        if self.tool and not source.is_walkable and forms.form_of(source).kind == forms.STREAM:
-            return self.compared(name, source)
-        with self.memory.taken(MOST_TAKEN):
-            found = verdict.judged(name, self.path, source)
-        return self.compared(name, source) if self.tool and found.is_uncompared() else found
-
-    def compared(self, name, source):
-        return self.memory.given(name, lambda: verdict.compared(name, self.tool, source), source.is_walkable)
-
-
-def check(words):
-    counts, statuses = dict.fromkeys(COUNTED, 0), set()
-    for found in verdicts(chosen(words), words.jobs, Checks(words).judged):
-        counts[found.result] += 1
-        statuses.add(found.status)
-        if words.quiet and found.status == program.OK:
-            continue
-        if words.json:
-            import json
-            put_lines([json.dumps(found.facts())], sys.stdout)
-        else:
-            put_lines(found.lines(), sys.stdout)
-    if not words.json:
-        put_lines([count_of(counts)], sys.stdout)
-    return status_of(statuses)
+    return max(statuses, default=errors.OK)

@@ -2,11 +2,11 @@
 written to a disk."""
 import os.path
 import struct
-import subprocess
 import sys
 
-from front import forms, places, program, sources, verdict
+from front import errors, forms, places, program, sources, verdict
 from front.text import put_lines, shown, tell
+from front.words import INPUT, verb
 
 PAGE_DATA = 1
 RECORDS = {0: 'END', PAGE_DATA: 'PAGE_DATA', 2: 'X86_PV_INFO', 3: 'X86_PV_P2M_FRAMES', 4: 'X86_PV_VCPU_BASIC',
@@ -16,51 +16,40 @@ RECORDS = {0: 'END', PAGE_DATA: 'PAGE_DATA', 2: 'X86_PV_INFO', 3: 'X86_PV_P2M_FR
 LIBXL_RECORDS = {0: 'END', places.LIBXC_CONTEXT: 'LIBXC_CONTEXT', 2: 'EMULATOR_XENSTORE_DATA', 3: 'EMULATOR_CONTEXT'}
 
 
-class Ended(Exception):
-    """The program ended before it wrote a whole canonical stream of this save."""
-
-
 class Side:
     """One of the two saves: the program at work on it, and what it has written so far."""
 
     def __init__(self, name, path):
-        self.name, self.place, self.process = name, 0, None
+        self.name, self.place, self.work = name, 0, None
         self.source = sources.source_of(name)
         self.form = forms.form_of(self.source)
         self.found = verdict.without_program(name, self.form)
         if not self.found:
             self.command = 'convert' if self.form.kind == forms.LEGACY else 'normalise'
-            self.process = program.start(path, [self.command], self.source, self.form.begins, subprocess.PIPE)
+            self.work = program.Work(path, [self.command], self.source, self.form.begins, program.PIPE)
 
     def read(self, count):
-        data = sources.read_upto(self.process.stdout.fileno(), count)
+        data = sources.read_upto(self.work.out, count)
         if len(data) < count:
-            raise Ended(self)
+            raise errors.Ended(self)
         self.place += count
         return data
 
     def end(self, by_itself):
         """Its verdict where the program ends by itself; where it is stopped, None."""
-        if not self.process:
+        if not self.work:
             self.source.close()
             return self.found
         if not by_itself:
-            self.process.kill()
-        self.process.stdout.close()
-        said = program.answer_of(self.process)
-        fault = self.source.ended(by_itself and said.status == program.OK)
+            self.work.kill()
+        said = self.work.end(by_itself)
         if by_itself:
-            said = program.Answer(program.READ_FAULT, 'fault: read: ' + fault) if fault else said
             try:
                 self.found = verdict.of_answer(self.name, self.source, self.form, self.command, said)
-            except sources.Unreadable as unreadable:
+            except errors.Unreadable as unreadable:
                 self.found = verdict.fault(self.name, str(unreadable))
         self.source.close()
         return self.found
-
-
-class Difference(Exception):
-    """How two canonical streams differ, in words."""
 
 
 def both(one, two, count, what):
@@ -68,7 +57,7 @@ def both(one, two, count, what):
     begins = one.place
     a, b = one.read(count), two.read(count)
     if a != b:
-        raise Difference('they differ first at byte %d of the canonical streams, in %s'
+        raise errors.Difference('they differ first at byte %d of the canonical streams, in %s'
                          % (begins + len(os.path.commonprefix([a, b])), what))
     return a
 
@@ -77,11 +66,11 @@ def next_record(one, two, names, what):
     """The type and the length of the next record of both, which have to be the same."""
     (a, length), (b, other) = (struct.unpack('<II', side.read(places.HEAD)) for side in (one, two))
     if a != b:
-        raise Difference('they differ first in %s, which is %s in one and %s in the other'
+        raise errors.Difference('they differ first in %s, which is %s in one and %s in the other'
                          % (what, *(names.get(kind, 'type %d' % kind) for kind in (a, b))))
     what += ', ' + names.get(a, 'type %d' % a)
     if length != other:
-        raise Difference('they differ first in %s, which has %d bytes in one and %d in the other' % (what, length, other))
+        raise errors.Difference('they differ first in %s, which has %d bytes in one and %d in the other' % (what, length, other))
     return a, length, what
 
 
@@ -121,7 +110,7 @@ def walk(one, two):
     """Compares two canonical streams."""
     a, b = one.read(places.HEAD), two.read(places.HEAD)
     if a != b:
-        raise Difference('one has a device model, the other none')
+        raise errors.Difference('one has a device model, the other none')
     if a == forms.LIBXL_MAGIC:
         both(one, two, places.LIBXL_HEADER - places.HEAD, 'the headers')
         records(one, two, LIBXL_RECORDS, 'libxl stream')
@@ -133,42 +122,50 @@ def walk(one, two):
 def tell_ends(sides, by_themselves=()):
     """Ends all sides, and says what the program said of one that wasn't accepted. Answers the greatest status."""
     found = [side.end(side in by_themselves) for side in sides]
-    refused = [one for one in found if one and one.status != program.OK]
+    refused = [one for one in found if one and one.status != errors.OK]
     for one in refused:
         put_lines(one.lines(), sys.stderr)
-    return max((one.status for one in refused), default=program.OK)
+    return max((one.status for one in refused), default=errors.OK)
 
 
 def not_compared(status):
     """What is answered where one of the saves has no canonical stream."""
-    return program.NOT_COMPARED if status in (program.OK, program.REFUSED) else status
+    return errors.NOT_COMPARED if status in (errors.OK, errors.REFUSED) else status
 
 
 def compare(words):
     if words.one == words.two == '-':
         tell('A and B are both standard input')
-        return program.USAGE
+        return errors.USAGE
     path = program.find()
     program.RUNNING.of_thread.most = program.RUNNING.memory // 2  # both guests are in memory at once
     sides = []
     try:
         for name in words.one, words.two:
             sides.append(Side(name, path))
-    except sources.Unreadable as unreadable:
+    except errors.Unreadable as unreadable:
         tell_ends(sides)
         put_lines(['%s: fault: read: %s' % (shown(name), unreadable)], sys.stderr)
-        return program.READ_FAULT
-    if any(side.process is None for side in sides):
+        return errors.READ_FAULT
+    if any(side.work is None for side in sides):
         return not_compared(tell_ends(sides))
     try:
         walk(*sides)
-    except Difference as difference:
+    except errors.Difference as difference:
         tell_ends(sides)
         put_lines(['another guest state: %s' % difference], sys.stdout)
-        return program.REFUSED
-    except Ended as ended:
+        return errors.REFUSED
+    except errors.Ended as ended:
         return not_compared(tell_ends(sides, ended.args))
     status = tell_ends(sides, sides)
-    if status == program.OK:
+    if status == errors.OK:
         put_lines(['the same guest state'], sys.stdout)
     return status
+
+
+def offer(verbs):
+    words = verb(verbs, 'compare', 'say whether two saves are of the same guest state', compare, INPUT,
+                 {errors.OK: 'the same guest state', errors.REFUSED: 'another guest state',
+                  errors.NOT_COMPARED: 'a file was refused, so nothing was compared'})
+    words.add_argument('one', metavar='A')
+    words.add_argument('two', metavar='B')

@@ -5,11 +5,25 @@ import os
 import sys
 from collections import namedtuple
 
-from front import check, domain, forms, parts, program, resolve, sources, verdict
+from front import domain, errors, forms, many, parts, program, resolve, sources, verdict
 from front.files import chosen
-from front.sharing import Memory
+from front.sharing import MOST_OF_CHECK, Memory
 from front.text import put_lines, shown
+from front.words import CHOICE, in_json, takes_files, verb
 
+INFO = """\
+Files and folders, with all files below, and `-` for standard input; each is what `mig check` takes.
+
+It judges no file: `mig check` does that, and what is told here may be damaged. Told are the file's form; of the configuration in xl's
+or libvirt's header the domain's name, uuid and type, its vCPUs and its memory; and of the stream its version and kind, which Xen wrote
+it, how many records it has, how many frame numbers were sent and how many pages with them, and which parts it has. That of the stream
+comes from the program's `show`, so of a stream that is refused what stands in front of the refused part is told; of an old save its
+frames alone. A name is told as it stands in the file: nobody vouches for it.
+
+The status is 0 where all of each file could be told, 1 where one is no save or is refused in a part, and 3 where one couldn't be read.
+
+With --json there is an object in a line for each file, with --table a line. No page is kept in memory, but a list of the records is,
+up to some 2^20 of them; of a stream with more than that nothing is told but its form and its domain, with status 5."""
 TOLD, NOT_TOLD = 'told', 'not told'                  # the results of a file of which all is told, and of one that isn't looked at
 COUNTED = TOLD, verdict.REFUSED, verdict.NO_SAVE, NOT_TOLD, verdict.FAULT
 AHEAD = 4096                                         # so much of a stream's front is kept, for what no record tells
@@ -25,7 +39,6 @@ HEADINGS = 'RESULT', 'KIND', 'VCPUS', 'MEMORY', 'XEN', 'RECORDS', 'PAGES', 'NAME
 # Of one file: a verdict, the bytes that it has, its domain, why that isn't told, and what its stream holds; None where nothing is
 # said of it.
 Fields = namedtuple('Fields', 'found size domain unread stream')
-Fields.__new__.__defaults__ = (None,) * 4            # of the last four; python3.6 has no better word for it
 
 
 def cut(text, most=MOST_SHOWN):
@@ -44,7 +57,8 @@ def memory(now, most):
     """Amounts of KiB, in MiB where they are whole."""
     if any(one is not None and one % 1024 for one in (now, most)):
         return with_most(now, most, ' KiB')
-    return with_most(*(one if one is None else one >> 10 for one in (now, most)), ' MiB')
+    now, most = (one if one is None else one >> 10 for one in (now, most))
+    return with_most(now, most, ' MiB')
 
 
 def word_of(text):
@@ -60,10 +74,14 @@ def amount(now, most, show):
 class Info(Fields):
     """What is told of one file."""
 
+    @classmethod
+    def of(cls, found, size=None, domain=None, unread=None, stream=None):
+        return cls(found, size, domain, unread, stream)
+
     @property
     def result(self):
         """What is counted: a stream that the program lists whole is told, and nobody judged it."""
-        return TOLD if self.found.status == program.OK else self.found.result
+        return TOLD if self.found.status == errors.OK else self.found.result
 
     def lines(self):
         """What is printed of it."""
@@ -102,7 +120,7 @@ class Info(Fields):
     def facts(self):
         """It as one object, for JSON: what isn't there is left out."""
         facts = {**self.found.facts(), 'result': self.result}
-        if self.found.status == program.OK:
+        if self.found.status == errors.OK:
             del facts['line']
         facts.pop('size', None)
         if self.size is not None:
@@ -180,43 +198,38 @@ def size_of(source):
     return source.size
 
 
-def text_of(process):
+def text_of(out):
     """What a program writes, or a little more of it than is kept."""
     text = bytearray()
-    with process.stdout as pipe:
-        while len(text) <= MOST_TEXT:
-            block = sources.read_some(pipe.fileno(), sources.BLOCK)
-            if not block:
-                break
-            text += block
+    while len(text) <= MOST_TEXT:
+        block = sources.read_some(out, sources.BLOCK)
+        if not block:
+            break
+        text += block
     return text
 
 
 def listed(path, source, begins):
     """The program's answer to `show`, and the text that it wrote."""
-    process = program.start(path, ['show'], source, begins, program.subprocess.PIPE)
-    try:
-        text = text_of(process)
+    with program.Work(path, ['show'], source, begins, program.PIPE) as work:
+        text = text_of(work.out)
         if len(text) > MOST_TEXT:
-            process.kill()
-    finally:
-        said = program.answer_of(process)
-        fault = source.ended(said.status == program.OK)
+            work.kill()
     if len(text) > MOST_TEXT:
-        return program.Answer(program.NO_MEMORY, TOO_MANY), b''
-    if said.line == 'fault: memory':
-        said = said._replace(line=TOO_MANY)
-    return program.Answer(program.READ_FAULT, 'fault: read: ' + fault) if fault else said, text
+        return program.Answer(errors.NO_MEMORY, TOO_MANY), b''
+    if work.said.line == 'fault: memory':
+        return work.said._replace(line=TOO_MANY), text
+    return work.said, text
 
 
 def domain_of(source, form):
-    """The domain of a form's header, and why it isn't told."""
+    """The domain of a form's header, or why it isn't told; nothing where there is no header."""
     if not form.header:
-        return None, None
+        return {}
     try:
-        return domain.of_header(source, form.header), None
-    except domain.Unread as unread:
-        return None, str(unread)
+        return {'domain': domain.of_header(source, form.header)}
+    except errors.Unread as unread:
+        return {'unread': str(unread)}
 
 
 def without_judging(told):
@@ -234,23 +247,23 @@ class Files:
 
     def told(self, name):
         told = verdict.of_file(name, self.of_source)
-        return without_judging(told if isinstance(told, Info) else Info(told))
+        return without_judging(told if isinstance(told, Info) else Info.of(told))
 
     def of_source(self, name, source):
         form = forms.form_of(source)
         early = verdict.without_program(name, form)
         if early:
             words = early.form and ', '.join(filter(None, (source.packed, early.form)))
-            return Info(early._replace(form=words, packed=source.packed), size_of(source))
+            return Info.of(early._replace(form=words, packed=source.packed), size_of(source))
         told = domain_of(source, form)
         if form.kind == forms.LEGACY:
-            with self.memory.taken(check.MOST_TAKEN):
-                return Info(verdict.judged(name, self.check, source), size_of(source), *told)
+            with self.memory.taken(MOST_OF_CHECK):
+                return Info.of(verdict.judged(name, self.check, source), size_of(source), **told)
         ahead = source.at(form.begins, AHEAD)
         with self.memory.taken(MOST_TAKEN):
             said, text = listed(self.tool, source, form.begins)
         found = verdict.of_answer(name, source, form, 'show', said)
-        return Info(found, size_of(source), *told, parts.stream_of(text, source, form.begins, ahead))
+        return Info.of(found, size_of(source), stream=parts.stream_of(text, source, form.begins, ahead), **told)
 
 
 def info(words):
@@ -268,5 +281,14 @@ def info(words):
         statuses.add(told.found.status)
         counts[told.result] += 1
     if not words.json and sum(counts.values()) > 1:
-        put_lines([check.count_of(counts)], sys.stderr)
-    return check.status_of(statuses)
+        put_lines([many.count_of(counts)], sys.stderr)
+    return many.status_of(statuses)
+
+
+def offer(verbs):
+    words = verb(verbs, 'info', 'tell what is in each file: its form, its domain and its parts; it judges nothing', info,
+                 INFO + '\n\n' + CHOICE, {errors.REFUSED: 'what stands in front of the refused part is told'})
+    takes_files(words)
+    ways = words.add_mutually_exclusive_group()
+    in_json(ways, 'print one JSON object for each file')
+    ways.add_argument('--table', action='store_true', help='print a line for each file, in columns')

@@ -2,9 +2,14 @@
 import re
 import sys
 
-from front import forms, program, sources, verdict
-from front.text import put_lines, shown, tell
+from front import errors, forms, program, sources, verdict
+from front.text import put_lines
+from front.words import address, number, verb
 
+WALK = """\
+IN is a save, as `mig check` takes it, or a guest image, as `mig restore` writes it. Of a save the frame is named by its number
+(PFN), of an image by its machine frame. VCPU is a number from 0 to 4095, ADDRESS one to base 16, with or without 0x. HVM guests
+have no vCPU whose page tables a save tells."""
 FOUND = re.compile(r'ok frame (\d+) type (\d+)')
 TYPES = {0: 'NOTAB', 13: 'BROKEN', 14: 'XALLOC', **{level: 'L%dTAB' % level for level in (1, 2, 3, 4)},
          **{8 + level: 'L%dTAB, pinned' % level for level in (1, 2, 3, 4)}}
@@ -23,7 +28,7 @@ def told(found, form, address):
 def walked(words, path, source, form):
     """The verdict of a file in which an address is looked up."""
     if form.kind == forms.LEGACY:
-        return verdict.Verdict(words.input, verdict.NOT_JUDGED, program.REFUSED, OLD, form.words)
+        return verdict.Verdict.of(words.input, verdict.NOT_JUDGED, errors.REFUSED, OLD, form.words)
     early = None if form.kind == forms.IMAGE else verdict.without_program(words.input, form)
     command = 'walkimage' if form.kind == forms.IMAGE else 'walk'
     return early or verdict.of_answer(words.input, source, form, command,
@@ -31,18 +36,15 @@ def walked(words, path, source, form):
 
 
 def walk(words):
-    try:
-        source = sources.source_of(words.input)
-    except sources.Unreadable as unreadable:
-        tell('%s: fault: read: %s' % (shown(words.input), unreadable))
-        return program.READ_FAULT
-    try:
+    with sources.source_for(words.input) as source:
         form = forms.form_of(source)
         found = walked(words, program.find(), source, form)
-    except sources.Unreadable as unreadable:
-        tell('%s: fault: read: %s' % (shown(words.input), unreadable))
-        return program.READ_FAULT
-    finally:
-        source.close()
     put_lines(told(found, form, words.address), sys.stdout)
     return found.status
+
+
+def offer(verbs):
+    words = verb(verbs, 'walk', 'say which frame an address means to a vCPU', walk, WALK, {errors.REFUSED: 'the address means no frame'})
+    words.add_argument('input', metavar='IN')
+    words.add_argument('vcpu', metavar='VCPU', type=number(0, 4095))
+    words.add_argument('address', metavar='ADDRESS', type=address)

@@ -1,0 +1,7 @@
+"""`mig restore`, which front/write.py does."""
+from front import write
+
+
+def offer(verbs):
+    words = write.offer(verbs, 'restore', 'write the image of a guest as it stands in a machine', with_xl=False)
+    words.add_argument('--base', metavar='N', help='the first machine frame, from 1 to 1099494850560 (1048576)')

@@ -1,0 +1,88 @@
+"""`mig show`: the program's JSON text of each file's records, a line each, on standard output. What is told of a file stands on
+standard error."""
+import json
+import sys
+
+from front import errors, forms, program, sources, verdict, write
+from front.files import chosen
+from front.many import Progress, status_of
+from front.text import put_lines, shown
+from front.words import CHOICE, takes_files, verb
+
+SHOW = """\
+Files and folders, with all files below, and `-` for standard input; each is what `mig check` takes, but no old save.
+
+For each file one line stands on standard output, a JSON object without spaces:
+  kind         "pv" or "hvm"; null where the stream is refused before its domain header was judged
+  version      the version of the image; null where the stream is refused before the image's header was judged
+  wrapper      whether it is a libxl stream
+  records      an object for each record that stands whole, with its padding, in front of the part that is refused; those of
+               an image in a libxl stream stand behind its LIBXC_CONTEXT
+  refused      null, or place and cause, as they stand behind `refused: ` in the line of a refusal
+The object of a record has layer ("libxc" or "libxl"), length (the bytes of its body), name (as Xen's documents have it, or
+"optional"), type (its number), and of a PAGE_DATA pages and words: how many of its frame numbers have a page, and how many
+there are. With --names the line is {"file": NAME, "shown": OBJECT}. What is told of a file stands on standard error.
+
+The stream is judged as `mig relay` does it, so what needs the whole guest isn't looked at; `mig check` tells that. No page is
+kept in memory, but what is shown of each record is, until the line is written."""
+OLD = 'not judged: an old save has no such records; what `mig convert` makes of it has'
+
+
+def behind_name(pipe, name):
+    """Writes what the program writes, where it writes a whole line, in an object with the file's name."""
+    text = pipe.read()
+    if text.endswith(b'\n'):
+        write.put(1, b'{"file": %s, "shown": %s}\n' % (json.dumps(name).encode(), text.rstrip(b'\n')))
+
+
+def answer(words, path, name, source, begins):
+    """What the program answers, while its text goes to standard output."""
+    if not words.names:
+        return program.run(path, ['show'], source, begins, 1)
+    with program.Work(path, ['show'], source, begins, program.PIPE) as work:
+        behind_name(work.process.stdout, name)
+    return work.said
+
+
+def listed(words, path, name, source):
+    """The verdict of a source whose records are written."""
+    form = forms.form_of(source)
+    if form.kind == forms.LEGACY:
+        return verdict.Verdict.of(name, verdict.NOT_JUDGED, errors.REFUSED, OLD, form.words)
+    early = verdict.without_program(name, form)
+    return early or verdict.of_answer(name, source, form, 'show', answer(words, path, name, source, form.begins))
+
+
+def listed_file(words, path, name):
+    """The status of a file whose records are written, and the lines that tell all that isn't its text."""
+    source = None
+    try:
+        source = sources.source_of(name)
+        found = listed(words, path, name, source)
+    except errors.Special:
+        return errors.REFUSED, ['mig: %s: %s' % (shown(name), verdict.SPECIAL)]
+    except errors.Unreadable as unreadable:
+        return errors.READ_FAULT, ['mig: %s: fault: read: %s' % (shown(name), unreadable)]
+    finally:
+        if source:
+            source.close()
+    return found.status, list(found.lines())[found.status == errors.OK:]
+
+
+def show(words):
+    names, path, progress, statuses = chosen(words), program.find(), Progress('listing'), set()
+    progress.shown = progress.shown and not sys.stdout.isatty()  # where the program's own text would stand behind it
+    for done, name in enumerate(progress.counted(names)):
+        progress.tell(done, name)
+        status, lines = listed_file(words, path, name)
+        progress.clear()
+        put_lines(lines, sys.stderr)
+        statuses.add(status)
+    return status_of(statuses)
+
+
+def offer(verbs):
+    words = verb(verbs, 'show', 'write the records of each file as JSON, up to the part that is refused', show, SHOW + '\n\n' + CHOICE,
+                 {errors.REFUSED: 'what stands in front of the refused part is told'})
+    takes_files(words)
+    words.add_argument('--names', action='store_true', help='put each text in an object with the name of its file')
