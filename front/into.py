@@ -130,7 +130,7 @@ def into(words):
         raise errors.Refused(errors.USAGE, "--force and --skip-existing don't go together")
     counts, statuses = dict.fromkeys(COUNTED, 0), set()
     names = list(files.chosen(words, status_of_folder(words.directory)))  # before any result stands among them
-    for found in many.verdicts(names, 1, Into(words).made, 'writing what is made of'):
+    for found in many.verdicts(names, 1, Into(words).made, words.verb):
         counts[found.result] += 1
         statuses.add(found.status)
         if found.result != PASSED_OVER:

@@ -5,6 +5,7 @@ import os
 import sys
 
 from front import errors, guarding, program
+from front.progress import LINE
 from front.text import escape_output, put_lines, tell
 from front.words import Words, statuses_of
 
@@ -98,7 +99,10 @@ def main(arguments):
     open_closed()
     escape_output()
     try:
-        return ended(arguments)
+        try:
+            return ended(arguments)
+        finally:
+            LINE.end()
     except errors.Untold as fault:
         return untold(str(fault))
     except BrokenPipeError:                          # who reads the lines is gone

@@ -1,44 +1,15 @@
 """Many files, one after another or several at once: what is said of each in the order of their names, and the count at the end."""
 import collections
-import os
-import sys
 
 from front import errors, program
-from front.text import shown
-
-
-class Progress:
-    """A line on the terminal that says what is being done, and of how many files; nowhere else."""
-
-    def __init__(self, doing='checking'):
-        self.shown, self.doing, self.count = sys.stderr.isatty(), doing, None
-
-    def counted(self, names):
-        """The names; where they are shown they are counted first."""
-        if not self.shown:
-            return names
-        names = list(names)
-        self.count = len(names)
-        return names
-
-    def tell(self, done, name):
-        if self.shown:
-            line = 'file %d of %d, %s %s' % (done + 1, self.count, self.doing, shown(name))
-            print('\r\x1b[K' + line[:os.get_terminal_size(2).columns - 1], end='', file=sys.stderr, flush=True)
-
-    def clear(self):
-        if self.shown:
-            print('\r\x1b[K', end='', file=sys.stderr, flush=True)
+from front.progress import LINE
 
 
 def verdicts(names, at_once, judge, doing='checking'):
     """The verdict of each file, as a function of its name answers it, in the order of the names."""
-    progress = Progress(doing)
-    for done, (name, check) in enumerate(checks(progress.counted(names), at_once, judge)):
-        progress.tell(done, name)
-        found = check()
-        progress.clear()
-        yield found
+    for done, (name, check) in enumerate(checks(LINE.begin(doing, names), at_once, judge)):
+        LINE.at(done, name)
+        yield check()
 
 
 def checks(names, at_once, judge):

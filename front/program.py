@@ -7,6 +7,7 @@ from collections import namedtuple
 
 from front import errors, resolve
 from front.guarding import guard, memory_to_take
+from front.progress import LINE
 from front.text import shown
 
 BUILDER = os.path.join(resolve.TOP, 'bin', 'build-mig_tool')
@@ -144,6 +145,8 @@ class Work:
 
     def __init__(self, path, words, source=None, begins=0, out=subprocess.DEVNULL):
         self.source, self.said = source, None
+        if source:
+            LINE.sources.add(source)
         fed_by = subprocess.DEVNULL if source is None else source.input_from(begins)
         try:
             self.process = RUNNING.start(path, words, stdin=fed_by, stdout=out, env=surroundings(words))
@@ -171,6 +174,7 @@ class Work:
         if self.process.stdout:
             self.process.stdout.close()
         self.said = answer_of(*RUNNING.said_by(self.process))
+        LINE.sources.discard(self.source)
         fault = self.source and self.source.ended(is_wanted and self.said.status == errors.OK)
         if fault:
             self.said = Answer(errors.READ_FAULT, 'fault: read: ' + fault)

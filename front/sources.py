@@ -7,6 +7,7 @@ import stat
 import threading
 
 from front import errors, forms, program
+from front.progress import LINE
 from front.text import shown
 
 BLOCK = 1 << 20
@@ -121,6 +122,10 @@ class Plain:
     def cursor(self, offset):
         return Cursor(self.at, lambda count: None, offset)
 
+    def read_so_far(self):
+        """How much of the file was read; the program reads on with the same place."""
+        return max(os.lseek(self.fd, 0, os.SEEK_CUR) - self.base, 0)
+
     def input_from(self, offset):
         """The file descriptor that the program gets as its standard input."""
         os.lseek(self.fd, self.base + offset, os.SEEK_SET)
@@ -184,6 +189,10 @@ class Packed:
         pass_over(fd, offset)
         return Cursor(lambda _, count: read_upto(fd, count), lambda count: pass_over(fd, count), offset)
 
+    def read_so_far(self):
+        """How much of the packed file was read."""
+        return max(os.lseek(self.fd, 0, os.SEEK_CUR) - self.base, 0)
+
     def input_from(self, offset):
         self.running = self.unpack()
         pass_over(self.running.stdout.fileno(), offset)
@@ -222,7 +231,7 @@ class Piped:
     packed, size, is_walkable = None, None, False
 
     def __init__(self, fd):
-        self.fd, self.kept, self.feeder, self.fault = fd, b'', None, None
+        self.fd, self.kept, self.feeder, self.fault, self.fed = fd, b'', None, None, 0
 
     def at(self, offset, count):
         if offset + count > MOST_KEPT:
@@ -232,6 +241,9 @@ class Piped:
 
     def length_to(self, offset):
         return min(len(self.kept), offset)
+
+    def read_so_far(self):
+        return self.fed
 
     def input_from(self, offset):
         out, into = os.pipe()
@@ -244,8 +256,10 @@ class Piped:
         """Writes all to the program; that it ended before is no fault."""
         try:
             write_all(into, front)
+            self.fed = len(front)
             for block in iter(lambda: os.read(self.fd, BLOCK), b''):
                 write_all(into, block)
+                self.fed += len(block)
         except BrokenPipeError:
             pass
         except OSError as fault:
@@ -328,6 +342,7 @@ def source_for(name):
     source = None
     try:
         source = source_of(name)
+        LINE.begin('reading', [name])
         yield source
     except errors.Unreadable as why:
         raise unread(name, why) from None

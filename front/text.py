@@ -1,8 +1,11 @@
 """How names and lines are printed, and where."""
 import io
 import sys
+import threading
 
 from front import errors
+
+LOCK, BEFORE_LINES = threading.RLock(), []           # what is called before lines are printed, one thread at a time
 
 
 def escape_output():
@@ -31,8 +34,11 @@ def put_lines(lines, to):
     if not text:
         return
     try:
-        to.write(text)
-        to.flush()
+        with LOCK:
+            for call in BEFORE_LINES:
+                call()
+            to.write(text)
+            to.flush()
     except BrokenPipeError:
         raise
     except OSError as fault:

@@ -5,6 +5,7 @@ import struct
 import sys
 
 from front import errors, forms, places, program, sources, verdict
+from front.progress import LINE
 from front.text import put_lines, shown, tell
 from front.words import INPUT, verb
 
@@ -140,6 +141,8 @@ def compare(words):
     path = program.find()
     program.RUNNING.of_thread.most = program.RUNNING.memory // 2  # both guests are in memory at once
     sides = []
+    LINE.begin('comparing', [words.one, words.two])
+    LINE.files = 1                                   # both are read at once
     try:
         for name in words.one, words.two:
             sides.append(Side(name, path))

@@ -3,6 +3,7 @@ import re
 import sys
 
 from front import program
+from front.progress import LINE
 from front.text import put_lines
 from front.words import number, verb
 
@@ -26,6 +27,7 @@ def told(answer):
 
 def exercise(words):
     path = program.find()
+    LINE.begin('saving a guest of its own', [])
     answer = program.Work(path, ['exercise', str(words.seed), str(words.frames)]).end()
     put_lines(told(answer), sys.stdout)
     return answer.status

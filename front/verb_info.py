@@ -7,6 +7,7 @@ from collections import namedtuple
 
 from front import domain, errors, forms, many, parts, program, resolve, sources, verdict
 from front.files import chosen
+from front.progress import LINE
 from front.sharing import MOST_OF_CHECK, Memory
 from front.text import put_lines, shown
 from front.words import CHOICE, in_json, takes_files, verb
@@ -270,7 +271,8 @@ def info(words):
     files, statuses, counts = Files(), set(), dict.fromkeys(COUNTED, 0)
     if words.table:
         put_lines([ROW % HEADINGS], sys.stdout)
-    for name in chosen(words):
+    for done, name in enumerate(LINE.begin('looking at', chosen(words))):
+        LINE.at(done, name)
         told, before = files.told(name), any(counts.values())
         if words.json:
             put_lines([json.dumps(told.facts())], sys.stdout)

@@ -3,6 +3,7 @@ comes; OUT is written beside its place and renamed when all is well."""
 import sys
 
 from front import errors, forms, program, sources, verdict
+from front.progress import LINE
 from front.text import put_lines
 from front.write import Output, configuration, put
 from front.words import in_json, takes_header, verb, writes_over
@@ -52,6 +53,7 @@ def show(words, found):
 def relayed(words):
     """The verdict of the input, of which OUT has got its name where all is well."""
     source = sources.source_of(words.input)
+    LINE.begin('passing on', [words.input])
     try:
         output = Output(words.output, words.force)
         try:

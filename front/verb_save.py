@@ -8,6 +8,7 @@ import sys
 import threading
 
 from front import errors, forms, places, program, sources, verdict
+from front.progress import LINE
 from front.text import put_lines
 from front.write import Output
 from front.words import in_json, verb, writes_over
@@ -41,6 +42,9 @@ class Fed:
     def __init__(self, image, script):
         self.image, self.script = image, script
         self.follows, self.fault, self.feeder = 0, None, None
+
+    def read_so_far(self):
+        return self.image.read_so_far()
 
     def input_from(self, begins):
         taken, into = os.pipe()
@@ -195,6 +199,7 @@ def save(words):
     if words.image == words.script == '-':
         raise errors.Refused(errors.USAGE, 'IMAGE and SCRIPT are both standard input')
     opened = []
+    LINE.begin('saving', [words.image])
     try:
         found = of_files(words, opened)
     except errors.Unreadable as why:

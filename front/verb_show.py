@@ -5,7 +5,8 @@ import sys
 
 from front import errors, forms, program, sources, verdict, write
 from front.files import chosen
-from front.many import Progress, status_of
+from front.many import status_of
+from front.progress import LINE
 from front.text import put_lines, shown
 from front.words import CHOICE, takes_files, verb
 
@@ -70,12 +71,11 @@ def listed_file(words, path, name):
 
 
 def show(words):
-    names, path, progress, statuses = chosen(words), program.find(), Progress('listing'), set()
-    progress.shown = progress.shown and not sys.stdout.isatty()  # where the program's own text would stand behind it
-    for done, name in enumerate(progress.counted(names)):
-        progress.tell(done, name)
+    names, path, statuses = chosen(words), program.find(), set()
+    LINE.is_terminal = LINE.is_terminal and not sys.stdout.isatty()  # where the program's own text would stand behind it
+    for done, name in enumerate(LINE.begin('listing', names)):
+        LINE.at(done, name)
         status, lines = listed_file(words, path, name)
-        progress.clear()
         put_lines(lines, sys.stderr)
         statuses.add(status)
     return status_of(statuses)

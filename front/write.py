@@ -4,7 +4,7 @@ import errno
 import os
 import sys
 
-from front import errors, files, forms, headers, program, sources, verdict
+from front import errors, files, forms, headers, program, sources, text, verdict
 from front.text import put_lines, shown, tell
 from front.words import CHOICE, INPUT, INTO, OUT, takes_files, takes_header, verb, writes_over
 
@@ -102,7 +102,10 @@ class Output:
 
 def put(fd, data):
     try:
-        sources.write_all(fd, data)
+        with text.LOCK:
+            for call in text.BEFORE_LINES if fd == 1 else ():
+                call()
+            sources.write_all(fd, data)
     except OSError as fault:
         raise errors.Refused(errors.WRITE_FAULT, 'fault: write: ' + sources.why(fault)) from None
 
