@@ -1,4 +1,5 @@
 """`mig check`: files, folders and standard input, one line each, and a count at the end."""
+import os
 import sys
 
 from front import errors, forms, many, program, resolve, verdict
@@ -33,16 +34,54 @@ class Checks:
         return self.memory.given(name, lambda: verdict.compared(name, self.tool, source), source.is_walkable)
 
 
+def stamped(judged):
+    """A function that judges a file, and notes by what it is known again: as it was before."""
+    from front.seen import stamp_of
+
+    def judge(name):
+        stamp = stamp_of(name)
+        return judged(name)._replace(stamp=stamp)
+    return judge
+
+
+def put_object(words, found):
+    """Prints a verdict as an object."""
+    import json                                      # it takes a while to load
+    host = {'host': os.uname().nodename} if words.host else {}
+    put_lines([json.dumps({**found.facts(), **host})], sys.stdout)
+
+
+def refuse_words(words):
+    """Some words go with others alone."""
+    if (words.host or words.skip_seen) and not words.json:
+        raise errors.Refused(errors.USAGE, '--host and --skip-seen go with --json')
+    if words.skip_seen and words.quiet:
+        raise errors.Refused(errors.USAGE, "--skip-seen and -q don't go together: what isn't told is not seen")
+
+
+def unseen(words, statuses):
+    """The chosen files, without those that were seen; of these the status counts, too."""
+    names = chosen(words)
+    if not words.skip_seen:
+        return names
+    from front import seen
+    before = seen.Seen(words.skip_seen, os.uname().nodename if words.host else '')
+    if seen.is_standard_output(words.skip_seen) and not seen.ends_in_a_line(words.skip_seen):
+        put_lines([''], sys.stdout)                  # behind a line that was cut
+    return before.left(names, statuses)
+
+
 def check(words):
-    counts, statuses = dict.fromkeys(COUNTED, 0), set()
-    for found in many.verdicts(chosen(words), words.jobs, Checks(words).judged):
+    refuse_words(words)
+    counts, statuses, checks = dict.fromkeys(COUNTED, 0), set(), Checks(words)
+    judge = stamped(checks.judged) if words.skip_seen else checks.judged
+    for found in many.verdicts(unseen(words, statuses), words.jobs, judge):
         counts[found.result] += 1
         statuses.add(found.status)
         if words.quiet and found.status == errors.OK:
             continue
         if words.json:
-            import json
-            put_lines([json.dumps(found.facts())], sys.stdout)
+            put_object(words, found)
         else:
             put_lines(found.lines(), sys.stdout)
     if not words.json:
@@ -58,3 +97,6 @@ def offer(verbs):
     words.add_argument('-q', dest='quiet', action='store_true', help='print nothing of what was accepted but the count')
     words.add_argument('--compare', action='store_true',
                        help='compare the frames that were sent again to be compared (VERIFY); that takes memory for the pages')
+    words.add_argument('--host', action='store_true', help='with --json: put the name of this host in each object')
+    words.add_argument('--skip-seen', metavar='FILE',
+                       help='with --json: pass over what FILE, of earlier such lines, tells of and is unchanged; FILE need not be there')

@@ -18,12 +18,13 @@ SAVED = re.compile(r'ok rounds (\d+) entries (\d+)')
 RELAYED = re.compile(r'ok records (\d+) bytes (\d+)')
 
 
-Fields = namedtuple('Fields', 'name result status line form begins offset packed means do follows text size digest')
+Fields = namedtuple('Fields', 'name result status line form begins offset packed means do follows text size digest stamp')
 
 
 class Verdict(Fields):
     """Of one file: a result, the status that goes with it, the program's line, the form that was found, and what explains
-    it, with the text of a script's bad line and the size of a stream that was saved; None where that says nothing of it."""
+    it, with the text of a script's bad line, the size of a stream that was saved, and by what the file is known again; None where that
+    says nothing of it."""
 
     @classmethod
     def of(cls, name, result, status, line, form=None, **more):
@@ -81,6 +82,7 @@ class Verdict(Fields):
         found = {'schema': SCHEMA, **of_name(self.name), 'result': self.result, 'status': self.status}
         names = 'form', 'begins', 'line', 'offset', 'packed', 'means', 'do', 'follows', 'text', 'size'
         found.update((name, getattr(self, name)) for name in names if getattr(self, name) is not None)
+        found.update(self.stamp or {})
         refusal = REFUSAL.match(self.line)
         if refusal:
             found.update(place=refusal[1], cause=int(refusal[2]), cause_name=refusal[3])

@@ -76,7 +76,7 @@ def written_for_zsh():
     yield from wanted(set(re.findall(r"\(- \*\)(--\w+)\[", text)), without)
     found = {}
     for names, rest in re.findall(r'^ +([\w |]+)\) _arguments (.*);;$', text, re.M):
-        options = set(re.findall(r"['\"](--?[\w-]+)\[", rest))
+        options = set(re.findall(r"['\"]\*?(--?[\w-]+)\[", rest))
         options.update('--' + name for name in ('force', 'help', 'memory') if '$' + name in rest)
         options.update(option for name in ('choice', 'into') if '$' + name in rest for option in in_zsh_list(text, name))
         found.update((verb, options) for verb in names.split(' | '))
