@@ -1,7 +1,9 @@
 pub mod Common
 pub mod Packing
 pub mod Mapping
+pub mod Marks
 pub mod FrameCells
+pub mod Counts
 pub mod Places
 pub mod Led
 pub mod FilledPages

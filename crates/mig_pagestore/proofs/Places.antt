@@ -1,7 +1,8 @@
 -- Numbers that lead to places, each to its own; and what stands at a place.
 use Rattle.mig_pagestore.proofs.Common.{◌≡◌, ◌≢◌, ℕ, zero, suc, ◌+◌, ◌-◌, ◌<◌, ◌≤◌, ◌==◌, Bool, true, false, cond, is_some, replicate, List, [], ◌∷◌, ◌++◌, length, set, slice_get, slice_index, Option, Some, None, Bor, get_or, refl, sym, ap, ◌∙◌, inl, inr, arith, length-append, length-set, get_or-set_same, get_or-set_other, option_copied, cases_eq, eq-eqb, eqb-true, PageType, type_has_data, IsCell, Leads, whole_page, is_place, get_or-append_seam, length-replicate, get_or_append_left, get_or_from_slice_get}
 use Rattle.std.proofs.lemmas.Grind.{get_or-set_at}
-use Rattle.mig_pagestore.specs.FrameView.{cell_type, cell_place, page_at_place}
+use Rattle.mig_pagestore.specs.FrameView.{cell_type, cell_mark, page_at_place, page_of_mark}
+use Rattle.mig_pagestore.proofs.Marks.{small_not_zeros, page_else, mark_is_some, mark_is_whole}
 
 index_left : (xs ys : List ℕ) (i : ℕ) → i < length xs → slice_index (xs ++ ys) i ≡ slice_index xs i
 index_left xs ys i lt = get_or_append_left xs ys 0 i lt
@@ -169,7 +170,17 @@ module _ (pages : List (List ℕ)) where
   page_is_whole zero w e = cc
   page_is_whole (suc i) w e = let is : whole_page (get_or pages i []) ≡ w = cc in ap length (sym is) ∙ length_whole (get_or pages i [])
 
+  -- no page at the mark 0
+  pub no_mark : (m : ℕ) → m ≡ 0 → None ≡ page_of_mark pages m
+  no_mark m e = no_page m e ∙ sym (page_else pages m (small_not_zeros m (omega (arith, e))))
+
+  pub marked_is_some : (m : ℕ) → is_some (page_of_mark pages m) ≡ is_place m
+  marked_is_some m = mark_is_some pages m (page_is_some m)
+
+  pub marked_is_whole : (m : ℕ) (w : List ℕ) → page_of_mark pages m ≡ Some w → length w ≡ 4096
+  marked_is_whole m w e = mark_is_whole pages m w (page_is_whole m w) e
+
   -- a frame has a page where its type has data
-  pub frame_paged : (r : Option (Bor (List ℕ))) (c : ℕ) (t : PageType) (p : ℕ) → IsCell c → t ≡ cell_type c → p ≡ cell_place c → option_copied r ≡ page_at_place pages p → is_some r ≡ type_has_data t
+  pub frame_paged : (r : Option (Bor (List ℕ))) (c : ℕ) (t : PageType) (p : ℕ) → IsCell c → t ≡ cell_type c → p ≡ cell_mark c → option_copied r ≡ page_of_mark pages p → is_some r ≡ type_has_data t
   frame_paged r c t p is type at found =
-      sym (some_copied r) ∙ ap is_some found ∙ page_is_some p ∙ ap is_place at ∙ is.in_step ∙ ap type_has_data (sym type)
+      sym (some_copied r) ∙ ap is_some found ∙ marked_is_some p ∙ ap is_place at ∙ is.in_step ∙ ap type_has_data (sym type)

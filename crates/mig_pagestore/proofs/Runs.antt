@@ -1,7 +1,7 @@
 -- Pages that lie one behind another are those of frames one behind another.
-use Rattle.mig_pagestore.proofs.Common.{◌≡◌, ℕ, zero, suc, ◌+◌, ◌-◌, ◌<◌, ◌≤◌, List, [], ◌∷◌, length, take, drop, get_or, Some, refl, sym, ap, ◌∙◌, subst, arith, ValueMap, place_of_page, frame_page, frames_seen, drop-cons, length-drop, length-take, slice_get-get_or, IsRun, LieInRun, page_at_place}
+use Rattle.mig_pagestore.proofs.Common.{◌≡◌, ℕ, zero, suc, ◌+◌, ◌-◌, ◌<◌, ◌≤◌, List, [], ◌∷◌, length, take, drop, get_or, Some, refl, sym, ap, ◌∙◌, subst, arith, ValueMap, place_of_page, frame_page, frames_seen, drop-cons, length-drop, length-take, slice_get-get_or, IsRun, LieInRun}
 use Rattle.mig_pagestore.proofs.Places.{page_found}
-use Rattle.mig_pagestore.proofs.Seen.{page_seen}
+use Rattle.mig_pagestore.proofs.Seen.{page_at}
 
 pub run_length : (pages : List (List ℕ)) (n k : ℕ) → k + n ≤ length pages → length (take n (drop k pages)) ≡ n
 run_length pages n k le = omega (arith, le, length-take n (drop k pages), length-drop k pages)
@@ -18,7 +18,7 @@ module _ (pages : List (List ℕ)) (cells : ValueMap) where
   lies_first n pfn place some le lie =
       let at = lie 0 (omega arith) in
       let number : pfn + 0 ≡ pfn = omega arith in let here : place + 0 ≡ place = omega arith in
-      page_seen pages cells pfn ∙ ap (page_at_place pages) (ap (place_of_page cells) (sym number) ∙ at.0 ∙ here)
+      sym (page_at pages cells pfn place (sym (ap (place_of_page cells) (sym number) ∙ at.0 ∙ here)) some)
       ∙ sym (page_found pages place (get_or pages (place - 1) []) (get_or pages (place - 1) []) some (slice_get-get_or pages (place - 1) [] (omega (arith, some, le))) refl (ap (λ k. length (get_or pages (k - 1) [])) (sym here) ∙ at.1))
 
   pub run_seen : (n pfn place : ℕ) → 0 < place → place + n ≤ length pages + 1 → LieInRun cells pages pfn place n → IsRun (frames_seen pages cells) pfn (take n (drop (place - 1) pages))

@@ -2,7 +2,7 @@ ghost use Rattle.std.specs.Prelude.{◌≡◌, ◌≢◌, ℕ, ◌+◌, ◌-◌,
 ghost use Rattle.mig_pagestore.specs.Common.{option_copied, option_copied_mut, option_map, sem, type_has_data, pfn_limit, Xtab};
 ghost use Rattle.std.specs.FinMap as maps;
 ghost use Rattle.mig_pagestore.specs.Frames.{FrameOf, frame_page, IsRun, IsSized, framed};
-ghost use Rattle.mig_pagestore.specs.FrameView.{cell_type, cell_place, IsCell, AreCells, page_at_place, frame_at, place_of_page, IsLed, LieInRun, SameBut, Moved};
+ghost use Rattle.mig_pagestore.specs.FrameView.{zero_bytes, is_zeros, zeros_in, cell_type, cell_mark, cell_place, IsCell, AreCells, place_of_mark, page_of_mark, frame_at, frames_seen, mark_of_page, place_of_page, IsLed, LieInRun, SameBut, Moved, CountsZeros};
 ghost use Rattle.mig_pagestore.specs.FrameLending.{LendsFramePage};
 ghost use Rattle.mig_pagestore.specs.Filling.{PushesFilled, PlacesLast, PutsFilled};
 ghost use Rattle.mig_bytes.specs.declared.stop.Stop.TheVariants as stops;
@@ -19,24 +19,32 @@ use std::marker::Model;
 /// Places are counted in 32 bits.
 const MOST_PAGES: usize = 1 << 31;
 
+/// The mark of a frame whose page is zeros, which takes no place.
+const ZEROS: u64 = 1 << 51;
+
+static ZERO_PAGE: [u8; 4096] = [0; 4096];
+
 /// Frames by number (PFN): the type of each, a page where its type has data, and room for spare ones.
 ///
 /// The pages lie in slabs, in the order in which they came; the index leads from a PFN to the type of its frame and
-/// the place of its page.
+/// the place of its page. A page of zeros has no place, but room is kept for it, so that it can be lent.
 #[derive(Drop)]
 pub struct FrameStore {
     alloc: Global,
-    /// The type of each PFN's frame and the place of its page, counted from 1; 0 where it has none.
+    /// The type of each PFN's frame and its mark: the place of its page, counted from 1; 0 where it has none, and
+    /// `ZEROS` where it is zeros.
     index: Index,
     /// The PFN of the page at each place.
     pfns: Vec<u64>,
     arena: Arena,
     spare: usize,
+    /// How many frames have a page of zeros.
+    zeros: usize,
 }
 
 impl Model for FrameStore {
     ghost use Rattle.mig_pagestore.specs.Frames.{Framed, framed_code};
-    ghost use Rattle.mig_pagestore.specs.FrameView.{frames_seen, IsLed, HasFrameRoom};
+    ghost use Rattle.mig_pagestore.specs.FrameView.{frames_seen, IsLed, HasFrameRoom, CountsZeros};
     ghost use Rattle.std.specs.Prelude.{length, vec_capacity};
 
     ghost Value = { Framed };
@@ -45,16 +53,18 @@ impl Model for FrameStore {
 
     ghost view = { λ s. record { frames = frames_seen s.arena.pages s.index.values; spare = s.spare } };
 
-    ghost invariant = { λ s. IsLed s.index.values s.pfns.items s.arena.pages × HasFrameRoom s.index.spare (length s.pfns.items) (vec_capacity s.pfns) s.arena.room s.spare };
+    ghost invariant = { λ s. IsLed s.index.values s.pfns.items s.arena.pages × HasFrameRoom s.index.spare (length s.pfns.items) (vec_capacity s.pfns) s.arena.room s.spare s.zeros × CountsZeros s.index.values s.zeros };
 }
 
-/// Puts a number behind the others, in room that is there.
-fn push_spare(list: &mut Vec<u64>, number: u64)
+/// Puts a number behind the others, in room that is there; the answer is its place, counted from 1.
+fn push_spare(list: &mut Vec<u64>, number: u64) -> u64
     requires { length list.old.items < vec_capacity list.old }
     ensures items { list.new.items ≡ list.old.items ++ number ∷ [] }
+    ensures place { result ≡ length list.new.items }
     ensures capacity { vec_capacity list.old ≤ vec_capacity list.new }
 {
     list.push(number).unwrap();
+    list.len() as u64
 }
 
 /// Takes the last number out.
@@ -93,30 +103,44 @@ pub(crate) fn whole(page: &[u8; 4096]) -> &[u8; 4096]
     page
 }
 
-/// What a cell of the index says: a frame's type, and for its PFN the place of the frame's page.
-#[tactic(auto, unfolding(crate::specs::FrameView::cell_type, crate::specs::FrameView::cell_place))]
+/// The page of zeros.
+fn zero_page() -> &'static [u8; 4096]
+    ensures { result.now ≡ zero_bytes }
+{
+    &ZERO_PAGE
+}
+
+/// Whether a page is zeros.
+fn is_zero(page: &[u8; 4096]) -> bool
+    ensures { result ≡ true → page.now ≡ zero_bytes }
+{
+    *page == ZERO_PAGE
+}
+
+/// What a cell of the index says: a frame's type, and for its PFN its mark.
+#[tactic(auto, unfolding(crate::specs::FrameView::cell_type, crate::specs::FrameView::cell_mark))]
 fn read_cell(cell: u64) -> FrameWord
     requires { cell_type cell ≢ Xtab }
     ensures kind { result.kind ≡ cell_type cell }
-    ensures place { result.pfn ≡ cell_place cell }
+    ensures mark { result.pfn ≡ cell_mark cell }
 {
     decode_word(cell).unwrap()
 }
 
-/// The cell of a frame of this type with its page at this place.
-#[tactic(auto, using(crate::proofs::FrameCells::type_of_cell, crate::proofs::FrameCells::place_of_cell))]
-fn write_cell(kind: PageType, place: u64) -> u64
-    requires { place < 2 ^ 52 }
+/// The cell of a frame of this type with this mark.
+#[tactic(auto, using(crate::proofs::FrameCells::type_of_cell, crate::proofs::FrameCells::mark_of_cell))]
+fn write_cell(kind: PageType, mark: u64) -> u64
+    requires { mark < 2 ^ 52 }
     ensures kind { cell_type result ≡ kind }
-    ensures place { cell_place result ≡ place }
+    ensures mark { cell_mark result ≡ mark }
 {
-    encode_word(FrameWord { pfn: place, kind })
+    encode_word(FrameWord { pfn: mark, kind })
 }
 
-/// The place of a frame's page, counted from 1; 0 where it has none.
-fn place_of(index: &Index, pfn: u64) -> u64
+/// The mark of a frame; 0 where there is none.
+fn mark_of(index: &Index, pfn: u64) -> u64
     requires { AreCells index.now.values }
-    ensures { result ≡ place_of_page index.now.values pfn }
+    ensures { result ≡ mark_of_page index.now.values pfn }
 {
     match index.get(pfn) {
         Some(cell) => read_cell(cell).pfn,
@@ -124,16 +148,44 @@ fn place_of(index: &Index, pfn: u64) -> u64
     }
 }
 
-/// The page at a place that is counted from 1; none at 0.
-#[tactic(auto, using(crate::proofs::Places::no_page, crate::proofs::Places::page_found))]
-fn page_of(arena: &Arena, place: u64) -> Option<&[u8; 4096]>
-    requires { place ≤ length arena.now.pages }
-    ensures { option_copied result ≡ page_at_place arena.now.pages place }
+/// The place that a mark tells, counted from 1; 0 where it tells none.
+#[tactic(auto, unfolding(crate::specs::FrameView::is_zeros))]
+fn place_of(mark: u64) -> u64
+    ensures { result ≡ place_of_mark mark }
 {
-    if place == 0 {
+    if mark == ZEROS { 0 } else { mark }
+}
+
+/// The place of a frame's page, counted from 1; 0 where it has none.
+#[tactic(auto, using(crate::proofs::Marks::mark_place))]
+fn place_in(index: &Index, pfn: u64) -> u64
+    requires { AreCells index.now.values }
+    ensures { result ≡ place_of_page index.now.values pfn }
+{
+    place_of(mark_of(index, pfn))
+}
+
+/// How many pages of zeros a mark tells of: 1 or 0.
+#[tactic(auto, unfolding(crate::specs::FrameView::is_zeros))]
+fn zeros_of(mark: u64) -> usize
+    ensures { result ≡ zeros_in mark }
+{
+    usize::from(mark == ZEROS)
+}
+
+/// The page that a mark tells of; none at 0.
+#[tactic(auto, unfolding(crate::specs::FrameView::is_zeros), using(crate::proofs::Places::no_page, crate::proofs::Places::page_found))]
+fn page_of(arena: &Arena, mark: u64) -> Option<&[u8; 4096]>
+    requires { place_of_mark mark ≤ length arena.now.pages }
+    ensures { option_copied result ≡ page_of_mark arena.now.pages mark }
+{
+    if mark == ZEROS {
+        return Some(zero_page());
+    }
+    if mark == 0 {
         return None;
     }
-    Some(whole(arena.get(place as usize - 1)))
+    Some(whole(arena.get(mark as usize - 1)))
 }
 
 /// Whether the page of this PFN is at this place.
@@ -143,7 +195,7 @@ fn is_at(index: &Index, arena: &Arena, pfn: u64, place: u64) -> bool
     requires some { 0 < place }
     ensures { IsTrue result → (place_of_page index.now.values pfn ≡ place) × (length (slice_index_or arena.now.pages (place - 1) []) ≡ 4096) }
 {
-    if place_of(index, pfn) != place {
+    if place_in(index, pfn) != place {
         return false;
     }
     // To the proof a page that is read tells its size.
@@ -190,8 +242,8 @@ fn frame_of(arena: &Arena, cell: u64) -> (PageType, Option<&[u8; 4096]>)
 
 /// Has the cell of a frame lead to another place.
 fn move_page(index: &mut Index, pfn: u64, place: u64)
-    requires small { (0 < place) × (place < 2 ^ 52) }
-    requires there { 0 < place_of_page index.old.values pfn }
+    requires small { (0 < place) × (place < 2 ^ 51) }
+    requires there { 0 < mark_of_page index.old.values pfn }
     requires typed { AreCells index.old.values }
     ensures moved { Moved index.old.values index.new.values pfn place }
     ensures spare { index.new.spare ≡ index.old.spare }
@@ -209,6 +261,7 @@ fn take_page(index: &mut Index, pfns: &mut Vec<u64>, arena: &mut Arena, pfn: u64
     ensures led { IsLed (maps.remove index.new.values pfn) pfns.new.items arena.new.pages }
     ensures others { SameBut pfn arena.old.pages index.old.values arena.new.pages index.new.values }
     ensures cell { maps.get index.new.values pfn ≡ maps.get index.old.values pfn }
+    ensures zeros { (n : ℕ) → CountsZeros index.old.values n → CountsZeros index.new.values n }
     ensures numbers { index.new.spare ≡ index.old.spare }
     ensures pages { arena.old.room ≤ arena.new.room }
     ensures places { length pfns.new.items ≤ length pfns.old.items }
@@ -226,9 +279,9 @@ fn take_page(index: &mut Index, pfns: &mut Vec<u64>, arena: &mut Arena, pfn: u64
     }
 }
 
-/// Sets the page of a frame that has its page at this place, or takes it out; the answer is its place from now on. The
-/// frame's cell stays as it is.
-#[tactic(auto, using(crate::proofs::Places::no_page, crate::proofs::Led::same_over, crate::proofs::Led::here_over))]
+/// Sets the page of a frame that has its page at this place, or takes it out; the answer is its mark from now on. The
+/// frame's cell stays as it is. Zeros are written over a page that has a place, and else take none.
+#[tactic(auto, using(crate::proofs::Places::no_mark, crate::proofs::Led::same_over, crate::proofs::Led::here_over))]
 fn set_page(
     index: &mut Index,
     pfns: &mut Vec<u64>,
@@ -241,14 +294,15 @@ fn set_page(
     requires place { place ≡ place_of_page index.old.values pfn }
     requires few { length pfns.old.items < 2 ^ 31 }
     requires room { place ≡ 0 → (1 ≤ arena.old.room) × (length pfns.old.items < vec_capacity pfns.old) }
-    ensures led { (c : ℕ) → IsCell c → cell_place c ≡ result → IsLed (maps.insert index.new.values pfn c) pfns.new.items arena.new.pages }
-    ensures here { page_at_place arena.new.pages result ≡ option_copied page.entry }
+    ensures led { (c : ℕ) → IsCell c → cell_mark c ≡ result → IsLed (maps.insert index.new.values pfn c) pfns.new.items arena.new.pages }
+    ensures here { page_of_mark arena.new.pages result ≡ option_copied page.entry }
     ensures others { SameBut pfn arena.old.pages index.old.values arena.new.pages index.new.values }
     ensures cell { maps.get index.new.values pfn ≡ maps.get index.old.values pfn }
+    ensures zeros { (n : ℕ) → CountsZeros index.old.values n → CountsZeros index.new.values n }
     ensures small { result < 2 ^ 52 }
     ensures numbers { index.new.spare ≡ index.old.spare }
-    ensures pages { arena.old.room ≤ arena.new.room + (1 - place) }
-    ensures places { length pfns.new.items ≤ length pfns.old.items + (1 - place) }
+    ensures pages { arena.old.room + zeros_in result ≤ arena.new.room + (1 - place) }
+    ensures places { length pfns.new.items + zeros_in result ≤ length pfns.old.items + (1 - place) }
     ensures capacity { vec_capacity pfns.old ≤ vec_capacity pfns.new }
 {
     let Some(page) = page else {
@@ -259,9 +313,11 @@ fn set_page(
         *arena.lend(place as usize - 1) = *whole(page);
         return place;
     }
+    if is_zero(page) {
+        return ZEROS;
+    }
     arena.push(whole(page));
-    push_spare(pfns, pfn);
-    pfns.len() as u64
+    push_spare(pfns, pfn)
 }
 
 /// Fills a page behind the others; where that fails, they stay.
@@ -288,29 +344,70 @@ fn push_filled<S, F: Fill<S>>(
     }
 }
 
-/// Makes the last page, which no frame has, that of a frame with its page at this place; the answer is its place from now
-/// on. The frame's cell stays as it is.
+/// Makes the last page, which no frame has, that of a frame with its page at this place; the answer is its mark from now
+/// on. The frame's cell stays as it is. Zeros go over a page that has a place, and else give back the place they were
+/// filled in.
 fn place_last(pfns: &mut Vec<u64>, arena: &mut Arena, pfn: u64, place: u64) -> u64
     requires place { place < length arena.old.pages }
+    requires few { (place < 2 ^ 51) × (length pfns.old.items < 2 ^ 31) }
     requires room { place ≡ 0 → length pfns.old.items < vec_capacity pfns.old }
     ensures placed { (pages : List (List ℕ)) (page : List ℕ) → arena.old.pages ≡ pages ++ page ∷ [] → PlacesLast place pfn page pfns.old.items pages pfns.new.items arena.new.pages result }
-    ensures pages { arena.old.room + 1 ≤ arena.new.room + (1 - place) }
+    ensures small { result < 2 ^ 52 }
+    ensures pages { arena.old.room + 1 + zeros_in result ≤ arena.new.room + (1 - place) }
     ensures capacity { vec_capacity pfns.old ≤ vec_capacity pfns.new }
 {
-    if place == 0 {
-        push_spare(pfns, pfn);
-        return pfns.len() as u64;
+    if place > 0 {
+        let filled = arena.pop();
+        *arena.lend(place as usize - 1) = filled;
+        return place;
     }
-    let page = arena.pop();
-    *arena.lend(place as usize - 1) = page;
+    if is_zero(arena.get(arena.len() - 1)) {
+        let _page = arena.pop();
+        return ZEROS;
+    }
+    push_spare(pfns, pfn)
+}
+
+/// Gives a frame's page a place, where it is zeros and has none. The answer is the place, counted from 1; 0 where the
+/// frame has no page.
+fn open_page(
+    index: &mut Index,
+    pfns: &mut Vec<u64>,
+    arena: &mut Arena,
+    zeros: &mut usize,
+    pfn: u64,
+) -> u64
+    requires led { IsLed index.old.values pfns.old.items arena.old.pages }
+    requires count { CountsZeros index.old.values zeros.old }
+    requires room { zeros.old ≤ arena.old.room }
+    requires places { length pfns.old.items + zeros.old ≤ vec_capacity pfns.old }
+    requires few { length pfns.old.items + zeros.old < 2 ^ 31 }
+    ensures led { IsLed index.new.values pfns.new.items arena.new.pages }
+    ensures count { CountsZeros index.new.values zeros.new }
+    ensures frames { frames_seen arena.new.pages index.new.values ≡ frames_seen arena.old.pages index.old.values }
+    ensures mark { result ≡ mark_of_page index.new.values pfn }
+    ensures place { result ≡ place_of_page index.new.values pfn }
+    ensures numbers { index.new.spare ≡ index.old.spare }
+    ensures pages { arena.new.room + zeros.old ≡ arena.old.room + zeros.new }
+    ensures pfns { length pfns.new.items + zeros.new ≡ length pfns.old.items + zeros.old }
+    ensures capacity { vec_capacity pfns.old ≤ vec_capacity pfns.new }
+{
+    let mark = mark_of(index, pfn);
+    if mark != ZEROS {
+        return mark;
+    }
+    *zeros -= 1;
+    arena.push(whole(zero_page()));
+    let place = push_spare(pfns, pfn);
+    move_page(index, pfn, place);
     place
 }
 
-/// How many spare pages a frame takes whose page is at this place, when it is set.
-fn pages_taken(place: u64) -> usize
-    ensures { result ≡ 1 - place }
+/// How many spare pages a frame with this mark takes, when its page is set.
+fn pages_taken(mark: u64) -> usize
+    ensures { result ≡ 1 - mark }
 {
-    usize::from(place == 0)
+    usize::from(mark == 0)
 }
 
 impl FrameStore {
@@ -326,6 +423,7 @@ impl FrameStore {
             pfns: Vec::new(alloc),
             arena: Arena::new(alloc),
             spare: 0,
+            zeros: 0,
         }
     }
 
@@ -356,7 +454,7 @@ impl FrameStore {
         ensures run { (pages : List (List ℕ)) × (length pages ≡ result.0) × (result.1.now ≡ flat_map (λ page. page) pages) × IsRun self.now.frames pfn pages }
         ensures most { result.0 ≤ most }
     {
-        let place = place_of(&self.index, pfn);
+        let place = place_in(&self.index, pfn);
         if place == 0 {
             return (0, &[]);
         }
@@ -375,7 +473,13 @@ impl FrameStore {
         ensures* writes_back { sem 𝓛 (LendsFramePage self.entry pfn result) }
         ensures value { option_copied_mut result ≡ frame_page self.old.frames pfn }
     {
-        let place = place_of(&self.index, pfn);
+        let place = open_page(
+            &mut self.index,
+            &mut self.pfns,
+            &mut self.arena,
+            &mut self.zeros,
+            pfn,
+        );
         if place == 0 {
             return None;
         }
@@ -408,13 +512,14 @@ impl FrameStore {
         if more <= self.spare {
             return Ok(());
         }
-        if more >= MOST_PAGES - self.pfns.len() {
+        if more >= MOST_PAGES - self.pfns.len() - self.zeros {
             return Err(Memory);
         }
         let Ok(()) = self.index.reserve(more) else {
             return Err(Memory);
         };
-        match make_room(self.alloc, &mut self.arena, &mut self.pfns, more) {
+        let room = more + self.zeros;
+        match make_room(self.alloc, &mut self.arena, &mut self.pfns, room) {
             Ok(()) => {
                 self.spare = more;
                 Ok(())
@@ -434,17 +539,19 @@ impl FrameStore {
         ensures taken { self.old.spare ≤ self.new.spare + 1 }
         ensures in_place { IsSome (frame_page self.old.frames pfn) → self.new.spare ≡ self.old.spare }
     {
-        let old = place_of(&self.index, pfn);
+        let old = mark_of(&self.index, pfn);
         self.spare -= pages_taken(old);
-        let place = set_page(
+        self.zeros -= zeros_of(old);
+        let mark = set_page(
             &mut self.index,
             &mut self.pfns,
             &mut self.arena,
             pfn,
-            old,
+            place_of(old),
             page,
         );
-        self.index.put_spare(pfn, write_cell(kind, place));
+        self.zeros += zeros_of(mark);
+        self.index.put_spare(pfn, write_cell(kind, mark));
     }
 
     /// Sets the type of a frame with data, and has its page filled in its place; takes no memory. Behind an error the
@@ -463,10 +570,13 @@ impl FrameStore {
         ensures taken { self.old.spare ≤ self.new.spare + 1 }
     {
         push_filled(&mut self.arena, src, fill)?;
-        let before = place_of(&self.index, pfn);
+        let before = mark_of(&self.index, pfn);
         self.spare -= pages_taken(before);
-        let place = place_last(&mut self.pfns, &mut self.arena, pfn, before);
-        let cell = write_cell(kind, place);
+        self.zeros -= zeros_of(before);
+        let place = place_of(before);
+        let after = place_last(&mut self.pfns, &mut self.arena, pfn, place);
+        self.zeros += zeros_of(after);
+        let cell = write_cell(kind, after);
         self.index.put_spare(pfn, cell);
         Ok(())
     }
@@ -499,7 +609,9 @@ impl FrameStore {
         ensures frames { self.new.frames ≡ maps.remove self.old.frames pfn }
         ensures spare { self.old.spare ≤ self.new.spare }
     {
-        let place = place_of(&self.index, pfn);
+        let mark = mark_of(&self.index, pfn);
+        self.zeros -= zeros_of(mark);
+        let place = place_of(mark);
         take_page(&mut self.index, &mut self.pfns, &mut self.arena, pfn, place);
         self.index.remove(pfn);
     }

@@ -11,7 +11,7 @@ returns-then-count-eq0-clause-run c = ([], refl, refl, tt)
 
 pub returns-clause-run : goal.returns-clause-run
 returns-clause-run c =
-    let pages = c.self.inside.arena.pages in let cells = c.self.inside.index.values in let place = c.place_of-place.result in let n = c.run_len-count.result in
+    let pages = c.self.inside.arena.pages in let cells = c.self.inside.index.values in let place = c.place_in-place.result in let n = c.run_len-count.result in
     let some : 0 < place = omega (arith, c.if-place-eq0.false) in let any : 0 < n = omega (arith, c.if-count-eq0.false) in
     let fits = run_fits pages cells n c.args.pfn place any (place_in_range cells _ pages c.self.invariant.0) c.run_len-count.ensures.lie in (
       take n (drop (place - 1) pages),
