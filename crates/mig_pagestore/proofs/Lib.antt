@@ -1,4 +1,5 @@
 pub mod Common
+pub mod Sizes
 pub mod Packing
 pub mod Mapping
 pub mod Marks

@@ -1,7 +1,9 @@
 -- What edits in one slab do to all pages.
-use Rattle.mig_pagestore.proofs.Common.{◌≡◌, ℕ, zero, suc, ◌+◌, ◌-◌, ◌*◌, ◌/◌, ◌%◌, ◌<◌, ◌≤◌, List, [], ◌∷◌, ◌++◌, length, take, drop, get_or, set, slice_get, refl, sym, ap, ◌∙◌, subst, arith, length-append, length-set, append-nil, append_assoc, IsArena, set_front, set_back}
+use Rattle.mig_pagestore.proofs.Common.{◌≡◌, ℕ, zero, suc, ◌+◌, ◌-◌, ◌<◌, ◌≤◌, List, [], ◌∷◌, ◌++◌, length, take, drop, get_or, set, slice_get, refl, sym, ap, ◌∙◌, subst, arith, length-append, length-set, append-nil, append_assoc, IsArena, set_front, set_back}
 use Rattle.mig_pagestore.specs.Slab.{Pages}
-use Rattle.mig_pagestore.specs.Packed.{IsPacked, all_pages}
+use Rattle.mig_pagestore.specs.Packed.{IsPacked, IsFound, AreLaid, all_pages, first_of, places_after, sizes}
+use Rattle.std.specs.Prelude.{min}
+use Rattle.mig_pagestore.proofs.Sizes.{IsAt, at_found}
 
 module _ {X : Type 0} where
   get_left : (xs ys : List X) (i : ℕ) → i < length xs → slice_get (xs ++ ys) i ≡ slice_get xs i
@@ -27,227 +29,267 @@ module _ {X : Type 0} where
   part_right (x ∷ xs) ys zero k c e = absurd (omega arith)
   part_right (x ∷ xs) ys (suc i) k c e = part_right xs ys i k c (omega arith)
 
-zeroth : (r : ℕ) → 0 * 64 + r ≡ r
-zeroth r = omega arith
+first_none : 0 ≡ first_of 0
+unfolding first_of
+first_none = refl
 
-abbrev pub with_pages : List (List ℕ) → Pages
-with_pages l = record { pages = l }
+-- whatever is put for one that isn't there, what is read is what is read with itself in that stead
+get_or_own : {X : Type 0} (xs : List X) (i : ℕ) (d : X) → get_or xs i d ≡ get_or xs i (get_or xs i d)
+get_or_own [] i d = refl
+get_or_own (x ∷ xs) zero d = refl
+get_or_own (x ∷ xs) (suc i) d = get_or_own xs i d
+
+abbrev pub with_pages : Pages → List (List ℕ) → Pages
+with_pages s l = record s { pages = l }
 
 nothing : (xs ys : List (List ℕ)) → length xs ≡ 0 → ys ≡ [] → xs ++ ys ≡ []
 nothing [] ys e f = f
 nothing (x ∷ xs) ys e f = absurd (omega (arith, e))
 
-empty_rest : (ss : List Pages) → IsPacked ss 0 → all_pages ss ≡ []
+empty_rest : (ss : List Pages) (n : ℕ) → n ≡ 0 → IsPacked ss n → all_pages ss ≡ []
 unfolding IsPacked all_pages
-empty_rest [] p = refl
-empty_rest (s ∷ ss) p = nothing s.pages (all_pages ss) (p.2 (omega arith)) (empty_rest ss p.3)
+empty_rest [] n e p = refl
+empty_rest (s ∷ ss) n e p = nothing s.pages (all_pages ss) (p.2 (omega (arith, e)) ∙ e) (empty_rest ss (n - s.places) (omega (arith, e)) p.3)
 
-pub count_of : (ss : List Pages) (n : ℕ) → IsPacked ss n → (length (all_pages ss) ≡ n) × (n ≤ length ss * 64)
+pub count_of : (ss : List Pages) (n : ℕ) → IsPacked ss n → length (all_pages ss) ≡ n
 unfolding IsPacked all_pages
-count_of [] n p = (omega (arith, p), omega (arith, p))
-count_of (s ∷ ss) n p = let on = count_of ss (n - 64) p.3 in let long = length-append s.pages (all_pages ss) in
-    (grind (arith, long, on.0, p.1, p.2), omega (arith, on.1))
+count_of [] n p = omega (arith, p)
+count_of (s ∷ ss) n p = let on = count_of ss (n - s.places) p.3 in let long = length-append s.pages (all_pages ss) in
+    grind (arith, long, on, p.1, p.2)
 
-pub at_place : (ss : List Pages) (n j r : ℕ) (s : Pages) → IsPacked ss n → r < 64 → j * 64 + r < n → s ≡ get_or ss j s
-    → (j < length ss) × (r < length s.pages) × (slice_get (all_pages ss) (j * 64 + r) ≡ slice_get s.pages r)
-unfolding IsPacked all_pages
-at_place [] n j r s p small lt e = absurd (omega (arith, p, lt))
-at_place (t ∷ ss) n zero r s p small lt e =
-    let within : r < length t.pages = grind (arith, p.1, p.2, lt, small) in
-    (omega arith, subst (λ (u : Pages). r < length u.pages) (sym e) within, ap (slice_get (t.pages ++ all_pages ss)) (zeroth r) ∙ get_left t.pages (all_pages ss) r within ∙ ap (λ (u : Pages). slice_get u.pages r) (sym e))
-at_place (t ∷ ss) n (suc j) r s p small lt e =
-    let on = at_place ss (n - 64) j r s p.3 small (omega (arith, lt)) e in
-    let full : length t.pages ≡ 64 = p.1 (omega (arith, lt)) in
-    (omega (arith, on.0), on.1, get_right t.pages (all_pages ss) (suc j * 64 + r) (j * 64 + r) (omega (arith, full)) ∙ on.2)
+pub within : (ss : List Pages) (n from to : ℕ) → IsPacked ss n → AreLaid (sizes ss) from to → from + n ≤ to
+unfolding IsPacked AreLaid
+within [] n from to p laid = omega (arith, p, laid)
+within (s ∷ ss) n from to p laid = let on = within ss (n - s.places) (from + s.places) to p.3 laid.1 in omega (arith, on)
+
+pub at_place : (ss : List Pages) (n j r p : ℕ) (s : Pages) → IsPacked ss n → IsAt (sizes ss) j r p → p < n → s ≡ get_or ss j s
+    → (j < length ss) × (r < length s.pages) × (slice_get (all_pages ss) p ≡ slice_get s.pages r)
+unfolding IsPacked all_pages IsAt
+at_place [] n j r p s packed is lt e = absurd (omega (arith, is))
+at_place (t ∷ ss) n zero r p s packed is lt e =
+    let within : r < length t.pages = grind (arith, packed.1, packed.2, lt, is.0, is.1) in
+    (omega arith, subst (λ (u : Pages). r < length u.pages) (sym e) within, ap (slice_get (t.pages ++ all_pages ss)) (sym is.0) ∙ get_left t.pages (all_pages ss) r within ∙ ap (λ (u : Pages). slice_get u.pages r) (sym e))
+at_place (t ∷ ss) n (suc j) r p s packed is lt e =
+    let on = at_place ss (n - t.places) j r (p - t.places) s packed.3 is.1 (omega (arith, lt, is.0)) e in
+    let full : length t.pages ≡ t.places = packed.1 (omega (arith, lt, is.0)) in
+    (omega (arith, on.0), on.1, get_right t.pages (all_pages ss) p (p - t.places) (omega (arith, full, is.0)) ∙ on.2)
 
 -- pages one behind another in one slab
-run_place : (ss : List Pages) (n j r c : ℕ) (s : Pages) → IsPacked ss n → r + c ≤ 64 → 0 < c → j * 64 + r + c ≤ n → s ≡ get_or ss j s
-    → (r + c ≤ length s.pages) × (take c (drop (j * 64 + r) (all_pages ss)) ≡ take c (drop r s.pages))
-unfolding IsPacked all_pages
-run_place [] n j r c s p small some le e = absurd (omega (arith, p, le, some))
-run_place (t ∷ ss) n zero r c s p small some le e =
-    let within : r + c ≤ length t.pages = grind (arith, p.1, p.2, le, small) in
-    (subst (λ (u : Pages). r + c ≤ length u.pages) (sym e) within, ap (λ k. take c (drop k (t.pages ++ all_pages ss))) (zeroth r) ∙ part_left t.pages (all_pages ss) r c within ∙ ap (λ (u : Pages). take c (drop r u.pages)) (sym e))
-run_place (t ∷ ss) n (suc j) r c s p small some le e =
-    let on = run_place ss (n - 64) j r c s p.3 small some (omega (arith, le)) e in
-    let full : length t.pages ≡ 64 = p.1 (omega (arith, le)) in
-    (on.0, part_right t.pages (all_pages ss) (suc j * 64 + r) (j * 64 + r) c (omega (arith, full)) ∙ on.1)
+run_place : (ss : List Pages) (n j r c p : ℕ) (s : Pages) → IsPacked ss n → IsAt (sizes ss) j r p → p < n → s ≡ get_or ss j s → r + c ≤ length s.pages
+    → take c (drop p (all_pages ss)) ≡ take c (drop r s.pages)
+unfolding IsPacked all_pages IsAt
+run_place [] n j r c p s packed is lt e fits = absurd (omega (arith, is))
+run_place (t ∷ ss) n zero r c p s packed is lt e fits =
+    ap (λ k. take c (drop k (t.pages ++ all_pages ss))) (sym is.0) ∙ part_left t.pages (all_pages ss) r c (subst (λ (u : Pages). r + c ≤ length u.pages) e fits) ∙ ap (λ (u : Pages). take c (drop r u.pages)) (sym e)
+run_place (t ∷ ss) n (suc j) r c p s packed is lt e fits =
+    let full : length t.pages ≡ t.places = packed.1 (omega (arith, lt, is.0)) in
+    part_right t.pages (all_pages ss) p (p - t.places) c (omega (arith, full, is.0)) ∙ run_place ss (n - t.places) j r c (p - t.places) s packed.3 is.1 (omega (arith, lt, is.0)) e fits
 
-pub set_place : (ss : List Pages) (n j r : ℕ) (s : Pages) (w : List ℕ) → IsPacked ss n → r < 64 → j * 64 + r < n → s ≡ get_or ss j s
-    → IsPacked (set ss j (with_pages (set s.pages r w))) n × (all_pages (set ss j (with_pages (set s.pages r w))) ≡ set (all_pages ss) (j * 64 + r) w)
-unfolding IsPacked all_pages
-set_place [] n j r s w p small lt e = absurd (omega (arith, p, lt))
-set_place (t ∷ ss) n zero r s w p small lt e =
-    let within : r < length t.pages = grind (arith, p.1, p.2, lt, small) in
+pub set_place : (ss : List Pages) (n j r p : ℕ) (s : Pages) (w : List ℕ) → IsPacked ss n → IsAt (sizes ss) j r p → p < n → s ≡ get_or ss j s
+    → IsPacked (set ss j (with_pages s (set s.pages r w))) n × (all_pages (set ss j (with_pages s (set s.pages r w))) ≡ set (all_pages ss) p w)
+unfolding IsPacked all_pages IsAt
+set_place [] n j r p s w packed is lt e = absurd (omega (arith, is))
+set_place (t ∷ ss) n zero r p s w packed is lt e =
+    let within : r < length t.pages = grind (arith, packed.1, packed.2, lt, is.0, is.1) in
     let long = length-set t.pages r w in
-    subst (λ (u : Pages). IsPacked (with_pages (set u.pages r w) ∷ ss) n × (set u.pages r w ++ all_pages ss ≡ set (t.pages ++ all_pages ss) (0 * 64 + r) w)) (sym e)
-    ((omega (arith, long, p.0), λ le. long ∙ p.1 le, λ le. long ∙ p.2 le, p.3), sym (set_front t.pages (all_pages ss) r w within) ∙ ap (λ k. set (t.pages ++ all_pages ss) k w) (sym (zeroth r)))
-set_place (t ∷ ss) n (suc j) r s w p small lt e =
-    let on = set_place ss (n - 64) j r s w p.3 small (omega (arith, lt)) e in
-    let full : length t.pages ≡ 64 = p.1 (omega (arith, lt)) in
-    ((p.0, p.1, p.2, on.0), ap (λ l. t.pages ++ l) on.1 ∙ sym (set_back t.pages (all_pages ss) (suc j * 64 + r) (j * 64 + r) w (omega (arith, full))))
+    subst (λ (u : Pages). IsPacked (with_pages u (set u.pages r w) ∷ ss) n × (set u.pages r w ++ all_pages ss ≡ set (t.pages ++ all_pages ss) p w)) (sym e)
+    ((omega (arith, long, packed.0), λ le. long ∙ packed.1 le, λ le. long ∙ packed.2 le, packed.3), sym (set_front t.pages (all_pages ss) r w within) ∙ ap (λ k. set (t.pages ++ all_pages ss) k w) is.0)
+set_place (t ∷ ss) n (suc j) r p s w packed is lt e =
+    let on = set_place ss (n - t.places) j r (p - t.places) s w packed.3 is.1 (omega (arith, lt, is.0)) e in
+    let full : length t.pages ≡ t.places = packed.1 (omega (arith, lt, is.0)) in
+    ((packed.0, packed.1, packed.2, on.0), ap (λ l. t.pages ++ l) on.1 ∙ sym (set_back t.pages (all_pages ss) p (p - t.places) w (omega (arith, full, is.0))))
 
-pub push_place : (ss : List Pages) (n j r : ℕ) (s : Pages) (w : List ℕ) → IsPacked ss n → r < 64 → j * 64 + r ≡ n → n < length ss * 64 → s ≡ get_or ss j s
-    → (length s.pages ≡ r) × IsPacked (set ss j (with_pages (s.pages ++ w ∷ []))) (n + 1) × (all_pages (set ss j (with_pages (s.pages ++ w ∷ []))) ≡ all_pages ss ++ w ∷ [])
-unfolding IsPacked all_pages
-push_place [] n j r s w p small is lt e = absurd (omega (arith, lt))
-push_place (t ∷ ss) n zero r s w p small is lt e =
-    let has : length t.pages ≡ r = omega (arith, p.2 (omega (arith, small, is)), is) in
+pub push_place : (ss : List Pages) (n j r : ℕ) (s : Pages) (w : List ℕ) → IsPacked ss n → IsAt (sizes ss) j r n → s ≡ get_or ss j s
+    → (j < length ss) × (length s.pages < s.places) × IsPacked (set ss j (with_pages s (s.pages ++ w ∷ []))) (n + 1) × (all_pages (set ss j (with_pages s (s.pages ++ w ∷ []))) ≡ all_pages ss ++ w ∷ [])
+unfolding IsPacked all_pages IsAt
+push_place [] n j r s w packed is e = absurd (omega (arith, is))
+push_place (t ∷ ss) n zero r s w packed is e =
+    let has : length t.pages ≡ n = packed.2 (omega (arith, is.0, is.1)) in
     let long = length-append t.pages (w ∷ []) in
-    let later : n - 64 ≡ 0 = omega (arith, small, is) in let after : n + 1 - 64 ≡ n - 64 = omega (arith, small, is) in
-    let none : all_pages ss ≡ [] = empty_rest ss (subst (IsPacked ss) later p.3) in
-    subst (λ (u : Pages). (length u.pages ≡ r) × IsPacked (with_pages (u.pages ++ w ∷ []) ∷ ss) (n + 1) × ((u.pages ++ w ∷ []) ++ all_pages ss ≡ (t.pages ++ all_pages ss) ++ w ∷ [])) (sym e) (
-      has,
-      (omega (arith, long, has, small), λ le. omega (arith, long, has, is, le), λ le. omega (arith, long, has, is), subst (IsPacked ss) (sym after) p.3),
+    let later : n - t.places ≡ 0 = omega (arith, is.0, is.1) in let after : n + 1 - t.places ≡ n - t.places = omega (arith, is.0, is.1) in
+    let none : all_pages ss ≡ [] = empty_rest ss (n - t.places) later packed.3 in
+    subst (λ (u : Pages). (0 < suc (length ss)) × (length u.pages < u.places) × IsPacked (with_pages u (u.pages ++ w ∷ []) ∷ ss) (n + 1) × ((u.pages ++ w ∷ []) ++ all_pages ss ≡ (t.pages ++ all_pages ss) ++ w ∷ [])) (sym e) (
+      omega arith,
+      omega (arith, has, is.0, is.1),
+      (omega (arith, long, has, is.0, is.1), λ le. omega (arith, long, has, is.0, is.1, le), λ le. omega (arith, long, has), subst (IsPacked ss) (sym after) packed.3),
       append_assoc t.pages (w ∷ []) (all_pages ss) ∙ ap (λ l. t.pages ++ (w ∷ l)) none ∙ ap (λ l. l ++ w ∷ []) (sym (append-nil t.pages) ∙ ap (λ l. t.pages ++ l) (sym none)),
     )
-push_place (t ∷ ss) n (suc j) r s w p small is lt e =
-    let on = push_place ss (n - 64) j r s w p.3 small (omega (arith, is)) (omega (arith, is, lt)) e in
-    let step : n + 1 - 64 ≡ n - 64 + 1 = omega (arith, is) in (
-      on.0,
-      (p.0, λ le. p.1 (omega (arith, is)), λ le. absurd (omega (arith, is, le)), subst (IsPacked (set ss j (with_pages (s.pages ++ w ∷ [])))) (sym step) on.1),
-      ap (λ l. t.pages ++ l) on.2 ∙ sym (append_assoc t.pages (all_pages ss) (w ∷ [])),
+push_place (t ∷ ss) n (suc j) r s w packed is e =
+    let on = push_place ss (n - t.places) j r s w packed.3 is.1 e in
+    let step : n + 1 - t.places ≡ n - t.places + 1 = omega (arith, is.0) in (
+      omega (arith, on.0),
+      on.1,
+      (packed.0, λ le. packed.1 is.0, λ le. absurd (omega (arith, is.0, le)), subst (IsPacked (set ss j (with_pages s (s.pages ++ w ∷ [])))) (sym step) on.2),
+      ap (λ l. t.pages ++ l) on.3 ∙ sym (append_assoc t.pages (all_pages ss) (w ∷ [])),
     )
 
 pub one_more : (ss : List Pages) (n : ℕ) (s : Pages) → IsPacked ss n → s.pages ≡ [] → IsPacked (ss ++ s ∷ []) n × (all_pages (ss ++ s ∷ []) ≡ all_pages ss)
 unfolding IsPacked all_pages
 one_more [] n s p e = let none = ap length e in
-    ((omega (arith, none), λ le. absurd (omega (arith, p, le)), λ le. none ∙ sym p, omega (arith, p)), append-nil s.pages ∙ e)
-one_more (t ∷ ss) n s p e = let on = one_more ss (n - 64) s p.3 e in ((p.0, p.1, p.2, on.0), ap (λ l. t.pages ++ l) on.1)
+    ((omega (arith, none), λ le. omega (arith, p, le, none), λ le. none ∙ sym p, omega (arith, p)), append-nil s.pages ∙ e)
+one_more (t ∷ ss) n s p e = let on = one_more ss (n - t.places) s p.3 e in ((p.0, p.1, p.2, on.0), ap (λ l. t.pages ++ l) on.1)
 
-pub whole : (place : ℕ) → place / 64 * 64 + place % 64 ≡ place
-whole place = omega arith
-
-pub small_rest : (place : ℕ) → place % 64 < 64
-small_rest place = omega arith
-
-pub pop_place : (ss : List Pages) (n j r : ℕ) (s : Pages) → IsPacked ss n → r < 64 → j * 64 + r + 1 ≡ n → s ≡ get_or ss j s
-    → (0 < length s.pages) × ((us : List (List ℕ)) (w : List ℕ) → s.pages ≡ us ++ w ∷ [] → IsPacked (set ss j (with_pages us)) (n - 1) × (all_pages ss ≡ all_pages (set ss j (with_pages us)) ++ w ∷ []))
-unfolding IsPacked all_pages
-pop_place [] n j r s p small is e = absurd (omega (arith, p, is))
-pop_place (t ∷ ss) n zero r s p small is e =
-    let has : length t.pages ≡ n = p.2 (omega (arith, small, is)) in
-    let later : n - 64 ≡ 0 = omega (arith, small, is) in let after : n - 1 - 64 ≡ n - 64 = omega (arith, small, is) in
-    let none : all_pages ss ≡ [] = empty_rest ss (subst (IsPacked ss) later p.3) in (
+pub pop_place : (ss : List Pages) (n j r p : ℕ) (s : Pages) → IsPacked ss n → IsAt (sizes ss) j r p → p + 1 ≡ n → s ≡ get_or ss j s
+    → (j < length ss) × (0 < length s.pages) × ((us : List (List ℕ)) (w : List ℕ) → s.pages ≡ us ++ w ∷ [] → IsPacked (set ss j (with_pages s us)) p × (all_pages ss ≡ all_pages (set ss j (with_pages s us)) ++ w ∷ []))
+unfolding IsPacked all_pages IsAt
+pop_place [] n j r p s packed at is e = absurd (omega (arith, at))
+pop_place (t ∷ ss) n zero r p s packed at is e =
+    let has : length t.pages ≡ n = packed.2 (omega (arith, at.0, at.1, is)) in
+    let later : n - t.places ≡ 0 = omega (arith, at.0, at.1, is) in let after : p - t.places ≡ n - t.places = omega (arith, at.0, at.1, is) in
+    let none : all_pages ss ≡ [] = empty_rest ss (n - t.places) later packed.3 in (
+      omega arith,
       subst (λ (u : Pages). 0 < length u.pages) (sym e) (omega (arith, has, is)),
       λ us w split.
           let cut : t.pages ≡ us ++ w ∷ [] = ap (λ (u : Pages). u.pages) (sym e) ∙ split in
-          let long : length us + 1 ≡ n = omega (arith, ap length cut, length-append us (w ∷ []), has) in (
-            (omega (arith, long, p.0, has), λ le. absurd (omega (arith, le, is, small)), λ le. omega (arith, long), subst (IsPacked ss) (sym after) p.3),
+          let long : length us + 1 ≡ n = omega (arith, ap length cut, length-append us (w ∷ []), has) in
+          let size : s.places ≡ t.places = ap (λ (u : Pages). u.places) e in (
+            (omega (arith, long, is, at.0, at.1, size), λ le. absurd (omega (arith, le, is, at.0, at.1, size)), λ le. omega (arith, long, is), subst (IsPacked ss) (sym (ap (λ k. p - k) size ∙ after)) packed.3),
             (λ i. cut i ++ none i) ∙ append-nil (us ++ w ∷ []) ∙ ap (λ l. l ++ w ∷ []) (sym (append-nil us) ∙ ap (λ l. us ++ l) (sym none)),
           ),
     )
-pop_place (t ∷ ss) n (suc j) r s p small is e =
-    let on = pop_place ss (n - 64) j r s p.3 small (omega (arith, is)) e in
-    let step : n - 1 - 64 ≡ n - 64 - 1 = omega (arith, is) in (
-      on.0,
-      λ us w split. let did = on.1 us w split in (
-        (p.0, λ le. p.1 (omega (arith, is)), λ le. p.1 (omega (arith, is)) ∙ omega (arith, le, is), subst (IsPacked (set ss j (with_pages us))) (sym step) did.0),
-        ap (λ l. t.pages ++ l) did.1 ∙ sym (append_assoc t.pages (all_pages (set ss j (with_pages us))) (w ∷ [])),
+pop_place (t ∷ ss) n (suc j) r p s packed at is e =
+    let on = pop_place ss (n - t.places) j r (p - t.places) s packed.3 at.1 (omega (arith, at.0, is)) e in (
+      omega (arith, on.0),
+      on.1,
+      λ us w split. let did = on.2 us w split in (
+        (packed.0, λ le. packed.1 (omega (arith, le, is)), λ le. packed.1 (omega (arith, at.0, is)) ∙ omega (arith, le, at.0), did.0),
+        ap (λ l. t.pages ++ l) did.1 ∙ sym (append_assoc t.pages (all_pages (set ss j (with_pages s us))) (w ∷ [])),
       ),
     )
 
+sizes_set : (ss : List Pages) (j : ℕ) (s t : Pages) → s ≡ get_or ss j s → t.places ≡ s.places → sizes (set ss j t) ≡ sizes ss
+sizes_set [] j s t e same = refl
+sizes_set (x ∷ ss) zero s t e same = ap (λ k. k ∷ sizes ss) (same ∙ ap (λ (u : Pages). u.places) e)
+sizes_set (x ∷ ss) (suc j) s t e same = ap (λ l. x.places ∷ l) (sizes_set ss j s t e same)
+
+laid_more : (ss : List Pages) (s : Pages) (from to : ℕ) → AreLaid (sizes ss) from to → s.places ≡ places_after to → AreLaid (sizes (ss ++ s ∷ [])) from (to + s.places)
+unfolding AreLaid
+laid_more [] s from to laid is = (is ∙ ap places_after (sym laid), ap (λ k. k + s.places) laid)
+laid_more (t ∷ ss) s from to laid is = (laid.0, laid_more ss s (from + t.places) to laid.1 is)
+
 -- ---- the same of an arena, by place
 
-module _ (ss : List Pages) (n : ℕ) (arena : IsArena ss n) where
+module _ (ss : List Pages) (n m : ℕ) (arena : IsArena ss n m) where
   pub arena_len : length (all_pages ss) ≡ n
-  arena_len = (count_of ss n arena.packed).0
+  arena_len = count_of ss n arena.packed
 
-  pub arena_room : n ≤ length ss * 64
-  arena_room = (count_of ss n arena.packed).1
+  pub arena_room : n ≤ m
+  arena_room = omega (arith, within ss n 0 m arena.packed arena.laid)
 
-  module _ (place : ℕ) (lt : place < length (all_pages ss)) where
+  is_at : (place slab at : ℕ) → place < m → IsFound place slab at → IsAt (sizes ss) slab at place
+  is_at place slab at lt found = at_found (sizes ss) 0 m 0 slab slab at place place arena.laid (first_none) (omega arith) (omega arith) lt found
+
+  module _ (j : ℕ) (s t : Pages) (e : s ≡ get_or ss j s) (same : t.places ≡ s.places) where
+    laid_set : AreLaid (sizes (set ss j t)) 0 m
+    laid_set = subst (λ l. AreLaid l 0 m) (sym (sizes_set ss j s t e same)) arena.laid
+
+  module _ (place slab at : ℕ) (found : IsFound place slab at) (lt : place < length (all_pages ss)) where
     below : place < n
     below = omega (arith, lt, arena_len)
 
-    pub slab_there : place / 64 < length ss
-    slab_there = omega (arith, arena_room, below)
+    there : IsAt (sizes ss) slab at place
+    there = is_at place slab at (omega (arith, below, arena_room)) found
 
-    module _ (s : Pages) (e : s ≡ get_or ss (place / 64) s) where
-      at : (place / 64 < length ss) × (place % 64 < length s.pages) × (slice_get (all_pages ss) (place / 64 * 64 + place % 64) ≡ slice_get s.pages (place % 64))
-      at = at_place ss n (place / 64) (place % 64) s arena.packed (small_rest place) (omega (arith, whole place, below)) e
+    pub slab_there : slab < length ss
+    slab_there = (at_place ss n slab at place (get_or ss slab (record { pages = []; places = 0 })) arena.packed there below (get_or_own ss slab _)).0
 
-      pub page_within : place % 64 < length s.pages
-      page_within = at.1
+    module _ (s : Pages) (e : s ≡ get_or ss slab s) where
+      lies : (slab < length ss) × (at < length s.pages) × (slice_get (all_pages ss) place ≡ slice_get s.pages at)
+      lies = at_place ss n slab at place s arena.packed there below e
 
-      pub page_in_slab : slice_get (all_pages ss) place ≡ slice_get s.pages (place % 64)
-      page_in_slab = ap (slice_get (all_pages ss)) (sym (whole place)) ∙ at.2
+      pub page_within : at < length s.pages
+      page_within = lies.1
 
-      module _ (c : ℕ) (some : 0 < c) (fits : place + c ≤ length (all_pages ss)) (one : place % 64 + c ≤ 64) where
-        ran : (place % 64 + c ≤ length s.pages) × (take c (drop (place / 64 * 64 + place % 64) (all_pages ss)) ≡ take c (drop (place % 64) s.pages))
-        ran = run_place ss n (place / 64) (place % 64) c s arena.packed one some (omega (arith, whole place, fits, arena_len)) e
+      pub page_in_slab : slice_get (all_pages ss) place ≡ slice_get s.pages at
+      page_in_slab = lies.2
 
-        pub run_within : place % 64 + c ≤ length s.pages
-        run_within = ran.0
+      module _ (c : ℕ) (some : 0 < c) (fits : place + c ≤ length (all_pages ss)) (one : at + c ≤ places_after (first_of slab)) where
+        last : IsFound (place + c - 1) slab (at + c - 1)
+        last = record { is = omega (arith, found.is, some); small = omega (arith, some, one) }
 
-        pub run_in_slab : take c (drop place (all_pages ss)) ≡ take c (drop (place % 64) s.pages)
-        run_in_slab = ap (λ k. take c (drop k (all_pages ss))) (sym (whole place)) ∙ ran.1
+        last_there : IsAt (sizes ss) slab (at + c - 1) (place + c - 1)
+        last_there = is_at (place + c - 1) slab (at + c - 1) (omega (arith, fits, some, arena_len, arena_room)) last
+
+        pub run_within : at + c ≤ length s.pages
+        run_within = let lies = at_place ss n slab (at + c - 1) (place + c - 1) s arena.packed last_there (omega (arith, fits, some, arena_len)) e in omega (arith, lies.1, some)
+
+        pub run_in_slab : take c (drop place (all_pages ss)) ≡ take c (drop at s.pages)
+        run_in_slab = run_place ss n slab at c place s arena.packed there below e run_within
 
       module _ (w : List ℕ) where
-        did : IsPacked (set ss (place / 64) (with_pages (set s.pages (place % 64) w))) n × (all_pages (set ss (place / 64) (with_pages (set s.pages (place % 64) w))) ≡ set (all_pages ss) (place / 64 * 64 + place % 64) w)
-        did = set_place ss n (place / 64) (place % 64) s w arena.packed (small_rest place) (omega (arith, whole place, below)) e
+        did : IsPacked (set ss slab (with_pages s (set s.pages at w))) n × (all_pages (set ss slab (with_pages s (set s.pages at w))) ≡ set (all_pages ss) place w)
+        did = set_place ss n slab at place s w arena.packed there below e
 
-        pub arena_set : IsArena (set ss (place / 64) (with_pages (set s.pages (place % 64) w))) n
-        arena_set = record { packed = did.0; few = omega (arith, arena.few, length-set ss (place / 64) (with_pages (set s.pages (place % 64) w))) }
+        pub arena_set : IsArena (set ss slab (with_pages s (set s.pages at w))) n m
+        arena_set = record { packed = did.0; laid = laid_set slab s (with_pages s (set s.pages at w)) e refl; few = arena.few }
 
-        pub pages_set : all_pages (set ss (place / 64) (with_pages (set s.pages (place % 64) w))) ≡ set (all_pages ss) place w
-        pages_set = did.1 ∙ ap (λ k. set (all_pages ss) k w) (whole place)
+        pub pages_set : all_pages (set ss slab (with_pages s (set s.pages at w))) ≡ set (all_pages ss) place w
+        pages_set = did.1
 
-  module _ (room : 1 ≤ length ss * 64 - n) where
-    pub slab_spare : n / 64 < length ss
-    slab_spare = omega (arith, room)
+  module _ (slab at : ℕ) (found : IsFound n slab at) (room : 1 ≤ m - n) where
+    spare_at : IsAt (sizes ss) slab at n
+    spare_at = is_at n slab at (omega (arith, room)) found
 
-    module _ (s : Pages) (e : s ≡ get_or ss (n / 64) s) where
-      pushed : (w : List ℕ) → (length s.pages ≡ n % 64) × IsPacked (set ss (n / 64) (with_pages (s.pages ++ w ∷ []))) (n + 1) × (all_pages (set ss (n / 64) (with_pages (s.pages ++ w ∷ []))) ≡ all_pages ss ++ w ∷ [])
-      pushed w = push_place ss n (n / 64) (n % 64) s w arena.packed (small_rest n) (whole n) (omega (arith, room)) e
+    pub slab_spare : slab < length ss
+    slab_spare = (push_place ss n slab at (get_or ss slab (record { pages = []; places = 0 })) [] arena.packed spare_at (get_or_own ss slab _)).0
 
-      pub spare_within : length s.pages < 64
-      spare_within = omega (arith, (pushed []).0, small_rest n)
+    module _ (s : Pages) (e : s ≡ get_or ss slab s) where
+      pushed : (w : List ℕ) → (slab < length ss) × (length s.pages < s.places) × IsPacked (set ss slab (with_pages s (s.pages ++ w ∷ []))) (n + 1) × (all_pages (set ss slab (with_pages s (s.pages ++ w ∷ []))) ≡ all_pages ss ++ w ∷ [])
+      pushed w = push_place ss n slab at s w arena.packed spare_at e
 
-      module _ (w : List ℕ) (t : Pages) (more : t.pages ≡ s.pages ++ w ∷ []) where
-        pub arena_pushed : IsArena (set ss (n / 64) t) (n + 1)
-        arena_pushed = record { packed = subst (λ (l : List (List ℕ)). IsPacked (set ss (n / 64) (with_pages l)) (n + 1)) (sym more) (pushed w).1; few = omega (arith, arena.few, length-set ss (n / 64) t) }
+      pub spare_within : length s.pages < s.places
+      spare_within = (pushed []).1
 
-        pub pages_pushed : all_pages (set ss (n / 64) t) ≡ all_pages ss ++ w ∷ []
-        pages_pushed = ap (λ (l : List (List ℕ)). all_pages (set ss (n / 64) (with_pages l))) more ∙ (pushed w).2
+      module _ (w : List ℕ) (t : Pages) (more : t.pages ≡ s.pages ++ w ∷ []) (same : t.places ≡ s.places) where
+        is_t : with_pages s (s.pages ++ w ∷ []) ≡ t
+        is_t = λ i. record { pages = sym more i; places = sym same i }
 
-  module _ (some : 0 < length (all_pages ss)) where
-    one : 0 < n
+        pub arena_pushed : IsArena (set ss slab t) (n + 1) m
+        arena_pushed = record { packed = subst (λ (u : Pages). IsPacked (set ss slab u) (n + 1)) is_t (pushed w).2; laid = laid_set slab s t e same; few = arena.few }
+
+        pub pages_pushed : all_pages (set ss slab t) ≡ all_pages ss ++ w ∷ []
+        pages_pushed = ap (λ (u : Pages). all_pages (set ss slab u)) (sym is_t) ∙ (pushed w).3
+
+  module _ (slab at : ℕ) (found : IsFound (n - 1) slab at) (some : 0 < length (all_pages ss)) where
+    one : n - 1 + 1 ≡ n
     one = omega (arith, some, arena_len)
 
-    pub slab_last : (n - 1) / 64 < length ss
-    slab_last = omega (arith, one, arena_room)
+    last_at : IsAt (sizes ss) slab at (n - 1)
+    last_at = is_at (n - 1) slab at (omega (arith, one, arena_room)) found
 
-    module _ (s : Pages) (e : s ≡ get_or ss ((n - 1) / 64) s) where
-      popped : (0 < length s.pages) × ((us : List (List ℕ)) (w : List ℕ) → s.pages ≡ us ++ w ∷ [] → IsPacked (set ss ((n - 1) / 64) (with_pages us)) (n - 1) × (all_pages ss ≡ all_pages (set ss ((n - 1) / 64) (with_pages us)) ++ w ∷ []))
-      popped = pop_place ss n ((n - 1) / 64) ((n - 1) % 64) s arena.packed (small_rest (n - 1)) (omega (arith, whole (n - 1), one)) e
+    pub slab_last : slab < length ss
+    slab_last = (pop_place ss n slab at (n - 1) (get_or ss slab (record { pages = []; places = 0 })) arena.packed last_at one (get_or_own ss slab _)).0
+
+    module _ (s : Pages) (e : s ≡ get_or ss slab s) where
+      popped : (slab < length ss) × (0 < length s.pages) × ((us : List (List ℕ)) (w : List ℕ) → s.pages ≡ us ++ w ∷ [] → IsPacked (set ss slab (with_pages s us)) (n - 1) × (all_pages ss ≡ all_pages (set ss slab (with_pages s us)) ++ w ∷ []))
+      popped = pop_place ss n slab at (n - 1) s arena.packed last_at one e
 
       pub last_within : 0 < length s.pages
-      last_within = popped.0
+      last_within = popped.1
 
-      module _ (w : List ℕ) (t : Pages) (split : s.pages ≡ t.pages ++ w ∷ []) where
-        pub arena_popped : IsArena (set ss ((n - 1) / 64) t) (n - 1)
-        arena_popped = record { packed = (popped.1 t.pages w split).0; few = omega (arith, arena.few, length-set ss ((n - 1) / 64) t) }
+      module _ (w : List ℕ) (t : Pages) (split : s.pages ≡ t.pages ++ w ∷ []) (same : t.places ≡ s.places) where
+        is_u : with_pages s t.pages ≡ t
+        is_u = λ i. record { pages = t.pages; places = sym same i }
 
-        pub room_popped : length (set ss ((n - 1) / 64) t) * 64 - (n - 1) ≡ length ss * 64 - n + 1
-        room_popped = omega (arith, one, arena_room, length-set ss ((n - 1) / 64) t)
+        pub arena_popped : IsArena (set ss slab t) (n - 1) m
+        arena_popped = record { packed = subst (λ (u : Pages). IsPacked (set ss slab u) (n - 1)) is_u (popped.2 t.pages w split).0; laid = laid_set slab s t e same; few = arena.few }
 
-        pub pages_popped : all_pages ss ≡ all_pages (set ss ((n - 1) / 64) t) ++ w ∷ []
-        pages_popped = (popped.1 t.pages w split).1
+        pub pages_popped : all_pages ss ≡ all_pages (set ss slab t) ++ w ∷ []
+        pages_popped = (popped.2 t.pages w split).1 ∙ ap (λ (u : Pages). all_pages (set ss slab u) ++ w ∷ []) is_u
+
+    pub room_popped : m - (n - 1) ≡ m - n + 1
+    room_popped = omega (arith, one, arena_room)
 
   module _ (l : List Pages) (s : Pages) (items : l ≡ ss ++ s ∷ []) (none : s.pages ≡ []) where
-    pub arena_more : length ss < 16777216 → IsArena l n
-    arena_more few = subst (λ (l : List Pages). IsArena l n) (sym items) (record { packed = (one_more ss n s arena.packed none).0; few = omega (arith, few, length-append ss (s ∷ [])) })
+    pub arena_more : m < 1073741824 → s.places ≡ min (m + 64) 16384 → IsArena l n (m + s.places)
+    arena_more few size = subst (λ (l : List Pages). IsArena l n (m + s.places)) (sym items) (record { packed = (one_more ss n s arena.packed none).0; laid = laid_more ss s 0 m arena.laid size; few = omega (arith, few, size) })
 
     pub pages_more : all_pages l ≡ all_pages ss
     pages_more = ap all_pages items ∙ (one_more ss n s arena.packed none).1
 
-    pub room_more : length l * 64 - n ≡ length ss * 64 - n + 64
-    room_more = omega (arith, arena_room, ap length items, length-append ss (s ∷ []))
-
-pub arena_none : (l : List Pages) → l ≡ [] → IsArena l 0
-unfolding IsPacked
-arena_none l e = subst (λ (l : List Pages). IsArena l 0) (sym e) (record { packed = refl; few = omega arith })
+pub arena_none : (l : List Pages) → l ≡ [] → IsArena l 0 0
+unfolding IsPacked AreLaid
+arena_none l e = subst (λ (l : List Pages). IsArena l 0 0) (sym e) (record { packed = refl; laid = refl; few = omega arith })
 
 pub pages_none : (l : List Pages) → l ≡ [] → all_pages l ≡ []
 unfolding all_pages

@@ -16,15 +16,15 @@ Page = Array u8 4096
 abbrev pub block : ℕ → Ty
 block n = ty_array (lone Page.mir) n
 
--- the pages one behind another, and behind them room for the others
-abbrev pub cells_own : Ptr → List (List ℕ) → Fml
-cells_own (block_ptr b o) ps = fsep (row Page full_share ps b o) (froom (block (64 - length ps)) b (length ps * 4096 + o))
-cells_own null_ptr ps = ffalse
+-- the pages one behind another, and behind them room for the others, n in all
+abbrev pub cells_own : ℕ → Ptr → List (List ℕ) → Fml
+cells_own n (block_ptr b o) ps = fsep (row Page full_share ps b o) (froom (block (n - length ps)) b (length ps * 4096 + o))
+cells_own n null_ptr ps = ffalse
 
 abbrev pub cells_lent : Ptr → List (List ℕ) → Lft → Fml
 cells_lent (block_ptr b o) ps = each_shared ps (shared_of Page) (mem Page).size b o
 cells_lent null_ptr ps = said ffalse
 
--- the allocator's token for the block
-abbrev pub deed_owns : (Ty → Ptr → Fml) → Ptr → Fml
-deed_owns token p = token (block 64) p
+-- the allocator's token for the block of n pages
+abbrev pub deed_owns : (Ty → Ptr → Fml) → Ptr → ℕ → Fml
+deed_owns token p n = token (block n) p

@@ -3,12 +3,9 @@ ghost use Rattle.std.specs.Prelude.{◌≡◌, ℕ, ◌+◌, ◌<◌, ◌≤◌,
 ghost use Rattle.mig_pagestore.specs.Common.{sem, Ptr};
 ghost use Rattle.mig_pagestore.specs.Ownership.{cells_own, cells_lent, deed_owns};
 
-use crate::slab::PLACES;
 use std::alloc::{AllocError, Allocator};
 use std::marker::{Model, PhantomData};
 use std::slice;
-
-const BYTES: usize = PLACES * 4096;
 
 /// Where the block begins. It owns nothing.
 #[derive(Clone, Copy)]
@@ -20,31 +17,37 @@ pub struct Base {
 pub struct Cells {
     mark: PhantomData<*const u8>,
     ghost at: { Ptr },
+    ghost places: { ℕ },
     ghost pages: { List (List ℕ) },
 }
 
 impl Model for Cells {
-    ghost also_owns = { λ c. cells_own c.at c.pages };
+    ghost also_owns = { λ c. cells_own c.places c.at c.pages };
 
     ghost also_shares = { λ c _ κ. cells_lent c.at c.pages κ };
 }
 
-/// The right to give the block at `at` back to `alloc`. It takes no space.
+/// The right to give the block of `places` pages at `at` back to `alloc`. It takes no space.
 pub struct Deed<A: Allocator> {
     mark: PhantomData<A>,
     ghost at: { Ptr },
+    ghost places: { ℕ },
     ghost alloc: { A },
 }
 
 impl<A: Allocator> Model for Deed<A> {
-    ghost also_owns = { λ d. deed_owns (A.dealloc_token d.alloc) d.at };
+    ghost also_owns = { λ d. deed_owns (A.dealloc_token d.alloc) d.at d.places };
 }
 
 /// Raw memory for a slab, of which no page is written yet.
-pub(crate) fn allocate<A: Allocator>(alloc: &A) -> Result<(Base, Cells, Deed<A>), AllocError>
-    ensures { IfOk result (λ r. (r.1.at ≡ r.0.ptr) × (r.1.pages ≡ []) × (r.2.at ≡ r.0.ptr) × (r.2.alloc ≡ alloc.now)) }
+pub(crate) fn allocate<A: Allocator>(
+    alloc: &A,
+    places: usize,
+) -> Result<(Base, Cells, Deed<A>), AllocError>
+    requires { places ≤ 16384 }
+    ensures { IfOk result (λ r. (r.1.at ≡ r.0.ptr) × (r.1.places ≡ places) × (r.1.pages ≡ []) × (r.2.at ≡ r.0.ptr) × (r.2.places ≡ places) × (r.2.alloc ≡ alloc.now)) }
 {
-    match alloc.allocate(BYTES, 1) {
+    match alloc.allocate(places * 4096, 1) {
         Ok(block) => {
             let ptr = block as *mut [u8; 4096];
             Ok((
@@ -58,13 +61,19 @@ pub(crate) fn allocate<A: Allocator>(alloc: &A) -> Result<(Base, Cells, Deed<A>)
 }
 
 /// Gives back the memory of a slab.
-pub(crate) fn deallocate<A: Allocator>(alloc: &A, base: Base, cells: Cells, deed: Deed<A>)
-    requires { (cells.at ≡ base.ptr) × (length cells.pages ≤ 64) × (deed.at ≡ base.ptr) × (deed.alloc ≡ alloc.now) }
+pub(crate) fn deallocate<A: Allocator>(
+    alloc: &A,
+    base: Base,
+    places: usize,
+    cells: Cells,
+    deed: Deed<A>,
+)
+    requires { (cells.at ≡ base.ptr) × (cells.places ≡ places) × (length cells.pages ≤ places) × (places ≤ 16384) × (deed.at ≡ base.ptr) × (deed.places ≡ places) × (deed.alloc ≡ alloc.now) }
 {
     let Cells { mark: _ } = cells;
     let Deed { mark: _ } = deed;
     unsafe {
-        alloc.deallocate(base.ptr as *mut u8, BYTES, 1);
+        alloc.deallocate(base.ptr as *mut u8, places * 4096, 1);
     }
 }
 
@@ -73,23 +82,23 @@ impl Cells {
 
     /// Writes a page behind the `len` that are there.
     pub(crate) fn push(&mut self, base: Base, len: usize, page: [u8; 4096])
-        requires { (base.ptr ≡ self.old.at) × (len ≡ length self.old.pages) × (len < 64) }
-        ensures { (self.new.at ≡ self.old.at) × (self.new.pages ≡ self.old.pages ++ page ∷ []) }
+        requires { (base.ptr ≡ self.old.at) × (len ≡ length self.old.pages) × (len < self.old.places) × (self.old.places ≤ 16384) }
+        ensures { (self.new.at ≡ self.old.at) × (self.new.places ≡ self.old.places) × (self.new.pages ≡ self.old.pages ++ page ∷ []) }
     {
         unsafe { base.ptr.add(len).write(page) }
     }
 
     /// Leaves `len` pages.
     pub(crate) fn pop(&mut self, base: Base, len: usize) -> [u8; 4096]
-        requires { (base.ptr ≡ self.old.at) × (length self.old.pages ≡ len + 1) × (len < 64) }
-        ensures { (self.new.at ≡ self.old.at) × (self.old.pages ≡ self.new.pages ++ result ∷ []) }
+        requires { (base.ptr ≡ self.old.at) × (length self.old.pages ≡ len + 1) × (len < self.old.places) × (self.old.places ≤ 16384) }
+        ensures { (self.new.at ≡ self.old.at) × (self.new.places ≡ self.old.places) × (self.old.pages ≡ self.new.pages ++ result ∷ []) }
     {
         unsafe { base.ptr.add(len).read() }
     }
 
     /// The pages, of which there are `len`.
     pub(crate) fn pages(&self, base: Base, len: usize) -> &[[u8; 4096]]
-        requires { (base.ptr ≡ self.now.at) × (len ≡ length self.now.pages) × (len ≤ 64) }
+        requires { (base.ptr ≡ self.now.at) × (len ≡ length self.now.pages) × (len ≤ 16384) }
         ensures { result.now ≡ self.now.pages }
     {
         unsafe { slice::from_raw_parts(base.ptr, len) }
@@ -97,7 +106,7 @@ impl Cells {
 
     /// Lends a page.
     pub(crate) fn page_mut(&mut self, base: Base, at: usize) -> &mut [u8; 4096]
-        requires { (base.ptr ≡ self.old.at) × (at < length self.old.pages) × (length self.old.pages ≤ 64) }
+        requires { (base.ptr ≡ self.old.at) × (at < length self.old.pages) × (length self.old.pages ≤ 16384) }
         ensures* writes_back { sem 𝓛 (lends_cell self.entry at result) }
         ensures value { result.now ≡ slice_index_or self.old.pages at [] }
     {

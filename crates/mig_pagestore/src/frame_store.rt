@@ -1,15 +1,15 @@
-ghost use Rattle.std.specs.Prelude.{◌≡◌, ◌≢◌, ℕ, ◌+◌, ◌-◌, ◌%◌, ◌^◌, ◌<◌, ◌≤◌, ◌⊎◌, List, [], ◌∷◌, ◌++◌, length, flat_map, slice_index_or, vec_capacity, IsTrue, IsSome, IsOk, OnOk, OnErr, IfSome, IfNone, Some, None, Err, true, is_some};
+ghost use Rattle.std.specs.Prelude.{◌≡◌, ◌≢◌, ℕ, ◌+◌, ◌-◌, ◌%◌, ◌^◌, ◌<◌, ◌≤◌, ◌⊎◌, List, [], ◌∷◌, ◌++◌, length, flat_map, slice_get, slice_index_or, vec_capacity, IsTrue, IsSome, IsOk, OnOk, OnErr, IfSome, IfNone, Some, None, Err, true, false, is_some};
 ghost use Rattle.mig_pagestore.specs.Common.{option_copied, option_copied_mut, option_map, sem, type_has_data, pfn_limit, Xtab};
 ghost use Rattle.std.specs.FinMap as maps;
 ghost use Rattle.mig_pagestore.specs.Frames.{FrameOf, frame_page, IsRun, IsSized, framed};
 ghost use Rattle.mig_pagestore.specs.FrameView.{zero_bytes, is_zeros, zeros_in, cell_type, cell_mark, cell_place, IsCell, AreCells, place_of_mark, page_of_mark, frame_at, frames_seen, mark_of_page, place_of_page, IsLed, LieInRun, SameBut, Moved, CountsZeros};
+ghost use Rattle.mig_pagestore.specs.Packed.{LieInOne};
 ghost use Rattle.mig_pagestore.specs.FrameLending.{LendsFramePage};
 ghost use Rattle.mig_pagestore.specs.Filling.{PushesFilled, PlacesLast, PutsFilled};
 ghost use Rattle.mig_bytes.specs.declared.stop.Stop.TheVariants as stops;
 
-use crate::arena::Arena;
+use crate::arena::{Arena, places_in_slab};
 use crate::fill::Fill;
-use crate::slab::PLACES;
 use mig_bytes::{Memory, Stop};
 use mig_pagestore_index::Index;
 use mig_pagetypes::{FrameWord, PageType, decode_word, encode_word};
@@ -112,7 +112,8 @@ fn zero_page() -> &'static [u8; 4096]
 
 /// Whether a page is zeros.
 fn is_zero(page: &[u8; 4096]) -> bool
-    ensures { result ≡ true → page.now ≡ zero_bytes }
+    ensures zeros { IsTrue result → page.now ≡ zero_bytes }
+    ensures other { result ≡ false → page.now ≢ zero_bytes }
 {
     *page == ZERO_PAGE
 }
@@ -210,10 +211,10 @@ fn run_len(index: &Index, arena: &Arena, pfn: u64, place: u64, most: u32) -> u32
     requires some { 0 < place }
     requires small { (pfn < 2 ^ 52) × (place < 2 ^ 52) }
     ensures lie { LieInRun index.now.values arena.now.pages pfn place result }
-    ensures one_slab { (place - 1) % 64 + result ≤ 64 }
+    ensures one_slab { LieInOne (place - 1) result }
     ensures most { result ≤ most }
 {
-    let most = most.min(PLACES as u32 - ((place - 1) % 64) as u32);
+    let most = most.min(places_in_slab(place as usize - 1) as u32);
     let mut count = 0;
     while count < most
         && is_at(
@@ -296,6 +297,7 @@ fn set_page(
     requires room { place ≡ 0 → (1 ≤ arena.old.room) × (length pfns.old.items < vec_capacity pfns.old) }
     ensures led { (c : ℕ) → IsCell c → cell_mark c ≡ result → IsLed (maps.insert index.new.values pfn c) pfns.new.items arena.new.pages }
     ensures here { page_of_mark arena.new.pages result ≡ option_copied page.entry }
+    ensures placeless { place ≡ 0 → option_copied page.entry ≡ Some zero_bytes → is_zeros result ≡ true }
     ensures others { SameBut pfn arena.old.pages index.old.values arena.new.pages index.new.values }
     ensures cell { maps.get index.new.values pfn ≡ maps.get index.old.values pfn }
     ensures zeros { (n : ℕ) → CountsZeros index.old.values n → CountsZeros index.new.values n }
@@ -352,6 +354,7 @@ fn place_last(pfns: &mut Vec<u64>, arena: &mut Arena, pfn: u64, place: u64) -> u
     requires few { (place < 2 ^ 51) × (length pfns.old.items < 2 ^ 31) }
     requires room { place ≡ 0 → length pfns.old.items < vec_capacity pfns.old }
     ensures placed { (pages : List (List ℕ)) (page : List ℕ) → arena.old.pages ≡ pages ++ page ∷ [] → PlacesLast place pfn page pfns.old.items pages pfns.new.items arena.new.pages result }
+    ensures placeless { place ≡ 0 → slice_get arena.old.pages (length arena.old.pages - 1) ≡ Some zero_bytes → is_zeros result ≡ true }
     ensures small { result < 2 ^ 52 }
     ensures pages { arena.old.room + 1 + zeros_in result ≤ arena.new.room + (1 - place) }
     ensures capacity { vec_capacity pfns.old ≤ vec_capacity pfns.new }

@@ -1,8 +1,9 @@
 //! Frames, and pages of 4096 bytes in slabs of raw memory, by frame number.
 //!
-//! Responsible for: the type of each frame that is there, and a page in a slab where its type has data; the slabs, each with
-//! room for 64 pages, and all pointers of the project; room that is kept ready, so that a frame can be put without asking
-//! for memory; and handing out pages without a copy. It knows nothing of what types and pages mean, of guests or of streams.
+//! Responsible for: the type of each frame that is there, and its page where its type has data: in a slab, or by a mark where
+//! it is zeros; the slabs, which grow from 64 pages to 16,384, and all pointers of the project; room that is kept ready, for
+//! pages of zeros too, so that a frame can be put without asking for memory; and handing out pages without a copy. It knows
+//! nothing of what types and pages mean, of guests or of streams.
 //!
 //! What the layers above rely on: a store is a finite map from frame number to a type and a page or none, or to 4096 bytes
 //! alone, and a number of spare pages. Each call says what it does to the whole map; a call that finds no memory leaves the
@@ -20,4 +21,4 @@ mod slab;
 pub use fill::Fill;
 pub use frame_store::FrameStore;
 pub use page_store::PageStore;
-pub use slab::{PLACES, Slab};
+pub use slab::{MOST_PLACES, Slab};

@@ -5,12 +5,13 @@ use crate::cells::{Base, Cells, Deed, allocate, deallocate};
 use std::alloc::{AllocError, Global};
 use std::marker::Model;
 
-/// How many pages a slab has room for.
-pub const PLACES: usize = 64;
+/// A slab has room for so many pages at the most.
+pub const MOST_PLACES: usize = 16384;
 
-/// Up to 64 pages, in one block of raw memory.
+/// Pages, in one block of raw memory that has places for so many.
 pub struct Slab {
     base: Base,
+    places: usize,
     len: usize,
     cells: Cells,
     deed: Deed<Global>,
@@ -25,21 +26,23 @@ impl Model for Slab {
 
     ghost coded = { pages_code };
 
-    ghost view = { λ s. record { pages = s.cells.pages } };
+    ghost view = { λ s. record { pages = s.cells.pages; places = s.places } };
 
-    ghost invariant = { λ s. (s.cells.at ≡ s.base.ptr) × (s.deed.at ≡ s.base.ptr) × (s.deed.alloc ≡ s.alloc) × (s.len ≡ length s.cells.pages) × (s.len ≤ 64) };
+    ghost invariant = { λ s. (s.cells.at ≡ s.base.ptr) × (s.cells.places ≡ s.places) × (s.deed.at ≡ s.base.ptr) × (s.deed.places ≡ s.places) × (s.deed.alloc ≡ s.alloc) × (s.len ≡ length s.cells.pages) × (s.len ≤ s.places) × (s.places ≤ 16384) };
 }
 
 impl Slab {
     ghost use Rattle.mig_pagestore.specs.SlabLends.{lends_slab_page};
 
     /// A slab with no page in it.
-    pub fn new(alloc: Global) -> Result<Slab, AllocError>
-        ensures { IfOk result (λ s. s.pages ≡ []) }
+    pub fn new(alloc: Global, places: usize) -> Result<Slab, AllocError>
+        requires { places ≤ 16384 }
+        ensures { IfOk result (λ s. (s.pages ≡ []) × (s.places ≡ places)) }
     {
-        let (base, cells, deed) = allocate(&alloc)?;
+        let (base, cells, deed) = allocate(&alloc, places)?;
         Ok(Slab {
             base,
+            places,
             len: 0,
             cells,
             deed,
@@ -50,15 +53,16 @@ impl Slab {
     /// How many pages are in it.
     pub fn len(&self) -> usize
         ensures len { result ≡ length self.now.pages }
-        ensures most { result ≤ 64 }
+        ensures most { result ≤ self.now.places }
     {
         self.len
     }
 
     /// Puts a page behind the others, and takes no memory.
     pub fn push(&mut self, page: &[u8; 4096])
-        requires { length self.old.pages < 64 }
-        ensures { self.new.pages ≡ self.old.pages ++ page.now ∷ [] }
+        requires { length self.old.pages < self.old.places }
+        ensures pages { self.new.pages ≡ self.old.pages ++ page.now ∷ [] }
+        ensures places { self.new.places ≡ self.old.places }
     {
         self.cells.push(self.base, self.len, *page);
         self.len += 1;
@@ -67,7 +71,8 @@ impl Slab {
     /// Takes the last page out.
     pub fn pop(&mut self) -> [u8; 4096]
         requires { 0 < length self.old.pages }
-        ensures { self.old.pages ≡ self.new.pages ++ result ∷ [] }
+        ensures pages { self.old.pages ≡ self.new.pages ++ result ∷ [] }
+        ensures places { self.new.places ≡ self.old.places }
     {
         self.len -= 1;
         self.cells.pop(self.base, self.len)
@@ -103,11 +108,12 @@ impl Drop for Slab {
     fn drop(self) {
         let Slab {
             base,
+            places,
             len: _,
             cells,
             deed,
             alloc,
         } = self;
-        deallocate(&alloc, base, cells, deed);
+        deallocate(&alloc, base, places, cells, deed);
     }
 }

@@ -34,7 +34,7 @@ returns-then-is_zero-clause-led c = λ d is at.
     led_put _ _ d _ _ (led_without _ _ _ c.requires.led c.args.pfn (sym c.requires.place ∙ omega (arith, c.if-place-gt0.false))) is (zeros_no_place (Some d) (zeros_is _ at))
 
 pub returns-then-is_zero-clause-here : goal.returns-then-is_zero-clause-here
-returns-then-is_zero-clause-here c = page_zeros _ _ (zeros_is _ refl) ∙ ap Some (sym (c.is_zero.ensures c.if-is_zero.true)) ∙ ap option_copied (sym c.in-Some.is)
+returns-then-is_zero-clause-here c = page_zeros _ _ (zeros_is _ refl) ∙ ap Some (sym (c.is_zero.ensures.zeros c.if-is_zero.true)) ∙ ap option_copied (sym c.in-Some.is)
 
 pub returns-clause-pages : goal.returns-clause-pages
 returns-clause-pages c =
@@ -47,3 +47,6 @@ returns-clause-places c =
     let long = length_behind _ _ _ c.requires.led _ _ _ c.requires.place c.if-place-gt0.false _ _ c.push_spare.ensures.items c.push.ensures.pages in
     let none = no_zeros_small c.push_spare.result (omega (arith, c.requires.few, c.push_spare.ensures.place, long)) in
     omega (arith, none, long, c.if-place-gt0.false)
+
+pub returns-then-is_zero-clause-placeless : goal.returns-then-is_zero-clause-placeless
+returns-then-is_zero-clause-placeless c = λ _ _. zeros_is _ refl

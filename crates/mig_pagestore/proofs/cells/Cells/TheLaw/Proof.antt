@@ -24,11 +24,11 @@ laws : (p : Ptr) (ps : List (List ℕ)) → ShrLaws (cells_lent p ps)
 laws (block_ptr b o) ps = each_shr_laws ps (shared_of Page) page.shr_laws (mem Page).size b o
 laws null_ptr ps = said_shr_laws ffalse tt
 
-lends : {M : Type 1} {𝓤 : Ura M} (𝓛 : Logic 𝓤) (l : Lft) (p : Ptr) (ps : List (List ℕ)) → Lends 𝓛 (cells_own p ps) (cells_lent p ps) l
-lends {M} {𝓤} 𝓛 l (block_ptr b o) ps =
+lends : {M : Type 1} {𝓤 : Ura M} (𝓛 : Logic 𝓤) (l : Lft) (n : ℕ) (p : Ptr) (ps : List (List ℕ)) → Lends 𝓛 (cells_own n p ps) (cells_lent p ps) l
+lends {M} {𝓤} 𝓛 l n (block_ptr b o) ps =
     Lends-first 𝓛 (row Page full_share ps b o) _ (each_shared ps (shared_of Page) (mem Page).size b o) l (λ κ ts. shares_each 𝓛 Page (shared_of Page) l ((page.copied M 𝓤 𝓛).shares full_share l) ps κ ts b o)
-lends 𝓛 l null_ptr ps = Lends-false 𝓛 (said ffalse) l
+lends 𝓛 l n null_ptr ps = Lends-false 𝓛 (said ffalse) l
 
 pub shares : statement
 shares = of_Lends C.struct (C.the_codes (marker.the_row RawPtr).coded) C.the_heap C.the_lent (λ d p. laws d.at d.pages) (copy_shared (marker.the_field RawPtr) (field_copy (marker.the_type RawPtr) tt), tt)
-    (λ M 𝓤 𝓛 d p. lends 𝓛 (C.the_row).lives d.at d.pages)
+    (λ M 𝓤 𝓛 d p. lends 𝓛 (C.the_row).lives d.places d.at d.pages)

@@ -15,7 +15,7 @@ module _ {M : Type 1} {𝓤 : Ura M} (𝓛 : Logic 𝓤) (d : Cells.Denot) (i : 
   -- all but the page
   abbrev Rest : Fml
   Rest = fsep (others (shares Page) full_share d.pages i b o)
-      (fsep (froom (block (64 - length d.pages)) b (length d.pages * 4096 + o)) (fsep (Mark.own_val (tt, tt) vs) (cell_at full_share Cells.mir vs rb ro)))
+      (fsep (froom (block (d.places - length d.pages)) b (length d.pages * 4096 + o)) (fsep (Mark.own_val (tt, tt) vs) (cell_at full_share Cells.mir vs rb ro)))
 
   back : d.at ≡ block_ptr b o → i < length d.pages → (w : List ℕ)
       → ent 𝓤 (sep 𝓤 (sem 𝓛 ((mem Page).own_at w b (i * 4096 + o))) (sem 𝓛 Rest)) (sem 𝓛 ((mem Cells).own_at (with_slab_page d i w) rb ro))
@@ -25,8 +25,8 @@ module _ {M : Type 1} {𝓤 : Ura M} (𝓛 : Logic 𝓤) (d : Cells.Denot) (i : 
       qed 𝓛 (‵ (part_at Page full_share w b (i * 4096 + o)) ∷ ‵ Rest ∷ []) ∵ rewrite ! 0 (λ (k : ℕ). ‵ (part_at Page full_share w b k))
       (sym (place_is 4096 o i)) refl $ move ! (1 ∷ []) $ fsplit3 ! $
       move ! (3 ∷ 0 ∷ []) $ use2 𝓛 (‵ (row Page full_share ws b o)) (puts (shares Page) full_share 𝓛 d.pages i w b o lt) $
-      move ! (1 ∷ []) $ rewrite ! 0 (λ (k : ℕ). ‵ (froom (block (64 - k)) b (k * 4096 + o))) (sym (length-set d.pages i w)) refl $ move ! (1 ∷ 0 ∷ []) $ fjoin ! $
-      rewrite ! 0 (λ (p : Ptr). ‵ (cells_own p ws)) (sym e) refl $ move ! (1 ∷ []) $ fsplit ! $ move ! (0 ∷ 2 ∷ []) $ fjoin ! $ move ! (1 ∷ 0 ∷ []) $ fjoin ! $
+      move ! (1 ∷ []) $ rewrite ! 0 (λ (k : ℕ). ‵ (froom (block (d.places - k)) b (k * 4096 + o))) (sym (length-set d.pages i w)) refl $ move ! (1 ∷ 0 ∷ []) $ fjoin ! $
+      rewrite ! 0 (λ (p : Ptr). ‵ (cells_own d.places p ws)) (sym e) refl $ move ! (1 ∷ []) $ fsplit ! $ move ! (0 ∷ 2 ∷ []) $ fjoin ! $ move ! (1 ∷ 0 ∷ []) $ fjoin ! $
       fpack ! (List Val) (λ us. fsep (cell_at full_share Cells.mir us rb ro) (Cells.own_val (with_slab_page d i w) us)) vs $ done !
 
 pub page_mut_spec : {M : Type 1} → statement M
@@ -39,13 +39,13 @@ page_mut_spec 𝓤 𝓛 𝓜 𝓡 wired =
     let κ = κs.0 in let q = qs.0 in let d = a.0.now in let ps = d.pages in let γ = a.0.ghost_name in let i = a.1.1.0 in let rb = a.0.ref_ptr.0 in
     let ro = a.0.ref_ptr.1 in
     let y : W.Ghost = ((κs, qs, bounds, a, (mut_vals a.0, (lowers.lowered a.1.0 ∷ [], (uint_vals w64 i, tt)))), tt) in
-    let Asked : Type 0 = (a.1.0.ptr ≡ d.at) × (i < length ps) × (length ps ≤ 64) in
+    let Asked : Type 0 = (a.1.0.ptr ≡ d.at) × (i < length ps) × (length ps ≤ 16384) in
     qed 𝓛 (((‵ (flft κ q) ⊛ ‵ ftrue) ⊛ ‵ (owns (MutRef (named 0) κ Cells ∷ Base ∷ usize ∷ []) a y.0.4)) ∷ raw (fact 𝓤 Asked) ∷ []) ∵
     move ! (1 ∷ []) $ heard ! Asked (λ asked. split ! $ split ! $ move ! (2 ∷ []) $ fsplit ! $ fsplit3 ! $ feq_l ! (λ _. keep ! (0 ∷ 1 ∷ 3 ∷ []) $
     let fits : i < 2 ^ 64 = omega (arith, asked.1, asked.2) in let far : i * 4096 < 2 ^ 64 = omega (arith, asked.1, asked.2) in
     enter ! _ _ _ _ _ $ alloc_all ! (λ l. pass_all ! refl ((tt, tt), (word-Good [] a.1.0.ptr, ((tt, record { fits = fits }), tt))) $
     opens ! tt Cells {h = d} rb ro (λ vs. move ! (1 ∷ []) $ fsplit ! $ move ! (1 ∷ []) $
-    in_a_block ! d.at (λ p. cells_own p ps) (id⊢ 𝓤 (never 𝓤)) (λ b o e. fsplit ! $
+    in_a_block ! d.at (λ p. cells_own d.places p ps) (id⊢ 𝓤 (never 𝓤)) (λ b o e. fsplit ! $
     take_at ! 2 $ rewrite ! 0 (λ (p : Ptr). ‵ (fat full_share (lone Base.mir) (l 2) 0 (word p))) (asked.0 ∙ e) refl $ give_at ! 2 $
     let at = i * 4096 + o in let x = get_or ps i [] in
     use1 𝓛 (‵ (part_at Page full_share x b _) ⊛ ‵ (others (shares Page) full_share ps i b o)) (takes (shares Page) full_share 𝓛 ps i [] b o asked.1) $ split ! $

@@ -17,7 +17,7 @@ pages_spec 𝓤 𝓛 𝓜 𝓡 wired =
     (λ κs qs bounds a _ are.
     let d = a.0.now in let len = a.1.1.0 in let rb = a.0.ref_ptr.0 in let ro = a.0.ref_ptr.1 in
     let y : W.Ghost = ((κs, qs, bounds, a, (shr_vals a.0, (lowers.lowered a.1.0 ∷ [], (uint_vals w64 len, tt)))), tt) in
-    let Asked : Type 0 = (a.1.0.ptr ≡ d.at) × (len ≡ length d.pages) × (len ≤ 64) in
+    let Asked : Type 0 = (a.1.0.ptr ≡ d.at) × (len ≡ length d.pages) × (len ≤ 16384) in
     qed 𝓛 (((‵ (flft κs.0 qs.0) ⊛ ‵ ftrue) ⊛ ‵ (owns (ShrRef (named 0) κs.0 Cells ∷ Base ∷ usize ∷ []) a y.0.4)) ∷ raw (fact 𝓤 Asked) ∷ []) ∵
     move ! (1 ∷ []) $ heard ! Asked (λ asked. split ! $ split ! $ move ! (2 ∷ []) $ fsplit ! $ fsplit ! $ feq_l ! (λ _. keep ! (0 ∷ 2 ∷ []) $
     unhide ! $ fsplit ! $ drop ! $ in_a_block ! d.at (λ p. cells_lent p d.pages κs.0) (id⊢ 𝓤 (never 𝓤)) (λ b o e.
