@@ -21,13 +21,8 @@ use std::env;
 use std::io::BufReader;
 use std::process::ExitCode;
 
-/// A block of this size, let go at once, makes the C library's allocator give blocks of up to this size out of one heap:
-/// slabs of pages then lie one behind another, and none is rounded up to whole pages of its own.
-const HEAP_BLOCK: usize = 16 << 20;
-
 fn main(rt: HostRuntime) -> ExitCode {
     let alloc = rt.alloc();
-    let _ = Vec::<u8>::with_capacity(alloc, HEAP_BLOCK);
     let mut report = OutSink::new(rt.stderr());
     let words = words_of(alloc, env::args(&rt));
     let reader = BufReader::with_capacity(alloc, INPUT_BUFFER, rt.stdin());
