@@ -1,7 +1,7 @@
 -- What edits in one slab do to all pages.
 use Rattle.mig_pagestore.proofs.Common.{◌≡◌, ℕ, zero, suc, ◌+◌, ◌-◌, ◌<◌, ◌≤◌, List, [], ◌∷◌, ◌++◌, length, take, drop, get_or, set, slice_get, refl, sym, ap, ◌∙◌, subst, arith, length-append, length-set, append-nil, append_assoc, IsArena, set_front, set_back}
 use Rattle.mig_pagestore.specs.Slab.{Pages}
-use Rattle.mig_pagestore.specs.Packed.{IsPacked, IsFound, AreLaid, all_pages, first_of, places_after, sizes}
+use Rattle.mig_pagestore.specs.Packed.{IsPacked, IsFound, AreLaid, all_pages, places_before, places_after, slab_sizes}
 use Rattle.std.specs.Prelude.{min}
 use Rattle.mig_pagestore.proofs.Sizes.{IsAt, at_found}
 
@@ -29,8 +29,8 @@ module _ {X : Type 0} where
   part_right (x ∷ xs) ys zero k c e = absurd (omega arith)
   part_right (x ∷ xs) ys (suc i) k c e = part_right xs ys i k c (omega arith)
 
-first_none : 0 ≡ first_of 0
-unfolding first_of
+first_none : 0 ≡ places_before 0
+unfolding places_before
 first_none = refl
 
 -- whatever is put for one that isn't there, what is read is what is read with itself in that stead
@@ -57,12 +57,12 @@ count_of [] n p = omega (arith, p)
 count_of (s ∷ ss) n p = let on = count_of ss (n - s.places) p.3 in let long = length-append s.pages (all_pages ss) in
     grind (arith, long, on, p.1, p.2)
 
-pub within : (ss : List Pages) (n from to : ℕ) → IsPacked ss n → AreLaid (sizes ss) from to → from + n ≤ to
+pub within : (ss : List Pages) (n from to : ℕ) → IsPacked ss n → AreLaid (slab_sizes ss) from to → from + n ≤ to
 unfolding IsPacked AreLaid
 within [] n from to p laid = omega (arith, p, laid)
 within (s ∷ ss) n from to p laid = let on = within ss (n - s.places) (from + s.places) to p.3 laid.1 in omega (arith, on)
 
-pub at_place : (ss : List Pages) (n j r p : ℕ) (s : Pages) → IsPacked ss n → IsAt (sizes ss) j r p → p < n → s ≡ get_or ss j s
+pub at_place : (ss : List Pages) (n j r p : ℕ) (s : Pages) → IsPacked ss n → IsAt (slab_sizes ss) j r p → p < n → s ≡ get_or ss j s
     → (j < length ss) × (r < length s.pages) × (slice_get (all_pages ss) p ≡ slice_get s.pages r)
 unfolding IsPacked all_pages IsAt
 at_place [] n j r p s packed is lt e = absurd (omega (arith, is))
@@ -75,7 +75,7 @@ at_place (t ∷ ss) n (suc j) r p s packed is lt e =
     (omega (arith, on.0), on.1, get_right t.pages (all_pages ss) p (p - t.places) (omega (arith, full, is.0)) ∙ on.2)
 
 -- pages one behind another in one slab
-run_place : (ss : List Pages) (n j r c p : ℕ) (s : Pages) → IsPacked ss n → IsAt (sizes ss) j r p → p < n → s ≡ get_or ss j s → r + c ≤ length s.pages
+run_place : (ss : List Pages) (n j r c p : ℕ) (s : Pages) → IsPacked ss n → IsAt (slab_sizes ss) j r p → p < n → s ≡ get_or ss j s → r + c ≤ length s.pages
     → take c (drop p (all_pages ss)) ≡ take c (drop r s.pages)
 unfolding IsPacked all_pages IsAt
 run_place [] n j r c p s packed is lt e fits = absurd (omega (arith, is))
@@ -85,7 +85,7 @@ run_place (t ∷ ss) n (suc j) r c p s packed is lt e fits =
     let full : length t.pages ≡ t.places = packed.1 (omega (arith, lt, is.0)) in
     part_right t.pages (all_pages ss) p (p - t.places) c (omega (arith, full, is.0)) ∙ run_place ss (n - t.places) j r c (p - t.places) s packed.3 is.1 (omega (arith, lt, is.0)) e fits
 
-pub set_place : (ss : List Pages) (n j r p : ℕ) (s : Pages) (w : List ℕ) → IsPacked ss n → IsAt (sizes ss) j r p → p < n → s ≡ get_or ss j s
+pub set_place : (ss : List Pages) (n j r p : ℕ) (s : Pages) (w : List ℕ) → IsPacked ss n → IsAt (slab_sizes ss) j r p → p < n → s ≡ get_or ss j s
     → IsPacked (set ss j (with_pages s (set s.pages r w))) n × (all_pages (set ss j (with_pages s (set s.pages r w))) ≡ set (all_pages ss) p w)
 unfolding IsPacked all_pages IsAt
 set_place [] n j r p s w packed is lt e = absurd (omega (arith, is))
@@ -99,7 +99,7 @@ set_place (t ∷ ss) n (suc j) r p s w packed is lt e =
     let full : length t.pages ≡ t.places = packed.1 (omega (arith, lt, is.0)) in
     ((packed.0, packed.1, packed.2, on.0), ap (λ l. t.pages ++ l) on.1 ∙ sym (set_back t.pages (all_pages ss) p (p - t.places) w (omega (arith, full, is.0))))
 
-pub push_place : (ss : List Pages) (n j r : ℕ) (s : Pages) (w : List ℕ) → IsPacked ss n → IsAt (sizes ss) j r n → s ≡ get_or ss j s
+pub push_place : (ss : List Pages) (n j r : ℕ) (s : Pages) (w : List ℕ) → IsPacked ss n → IsAt (slab_sizes ss) j r n → s ≡ get_or ss j s
     → (j < length ss) × (length s.pages < s.places) × IsPacked (set ss j (with_pages s (s.pages ++ w ∷ []))) (n + 1) × (all_pages (set ss j (with_pages s (s.pages ++ w ∷ []))) ≡ all_pages ss ++ w ∷ [])
 unfolding IsPacked all_pages IsAt
 push_place [] n j r s w packed is e = absurd (omega (arith, is))
@@ -129,7 +129,7 @@ one_more [] n s p e = let none = ap length e in
     ((omega (arith, none), λ le. omega (arith, p, le, none), λ le. none ∙ sym p, omega (arith, p)), append-nil s.pages ∙ e)
 one_more (t ∷ ss) n s p e = let on = one_more ss (n - t.places) s p.3 e in ((p.0, p.1, p.2, on.0), ap (λ l. t.pages ++ l) on.1)
 
-pub pop_place : (ss : List Pages) (n j r p : ℕ) (s : Pages) → IsPacked ss n → IsAt (sizes ss) j r p → p + 1 ≡ n → s ≡ get_or ss j s
+pub pop_place : (ss : List Pages) (n j r p : ℕ) (s : Pages) → IsPacked ss n → IsAt (slab_sizes ss) j r p → p + 1 ≡ n → s ≡ get_or ss j s
     → (j < length ss) × (0 < length s.pages) × ((us : List (List ℕ)) (w : List ℕ) → s.pages ≡ us ++ w ∷ [] → IsPacked (set ss j (with_pages s us)) p × (all_pages ss ≡ all_pages (set ss j (with_pages s us)) ++ w ∷ []))
 unfolding IsPacked all_pages IsAt
 pop_place [] n j r p s packed at is e = absurd (omega (arith, at))
@@ -157,12 +157,12 @@ pop_place (t ∷ ss) n (suc j) r p s packed at is e =
       ),
     )
 
-sizes_set : (ss : List Pages) (j : ℕ) (s t : Pages) → s ≡ get_or ss j s → t.places ≡ s.places → sizes (set ss j t) ≡ sizes ss
+sizes_set : (ss : List Pages) (j : ℕ) (s t : Pages) → s ≡ get_or ss j s → t.places ≡ s.places → slab_sizes (set ss j t) ≡ slab_sizes ss
 sizes_set [] j s t e same = refl
-sizes_set (x ∷ ss) zero s t e same = ap (λ k. k ∷ sizes ss) (same ∙ ap (λ (u : Pages). u.places) e)
+sizes_set (x ∷ ss) zero s t e same = ap (λ k. k ∷ slab_sizes ss) (same ∙ ap (λ (u : Pages). u.places) e)
 sizes_set (x ∷ ss) (suc j) s t e same = ap (λ l. x.places ∷ l) (sizes_set ss j s t e same)
 
-laid_more : (ss : List Pages) (s : Pages) (from to : ℕ) → AreLaid (sizes ss) from to → s.places ≡ places_after to → AreLaid (sizes (ss ++ s ∷ [])) from (to + s.places)
+laid_more : (ss : List Pages) (s : Pages) (from to : ℕ) → AreLaid (slab_sizes ss) from to → s.places ≡ places_after to → AreLaid (slab_sizes (ss ++ s ∷ [])) from (to + s.places)
 unfolding AreLaid
 laid_more [] s from to laid is = (is ∙ ap places_after (sym laid), ap (λ k. k + s.places) laid)
 laid_more (t ∷ ss) s from to laid is = (laid.0, laid_more ss s (from + t.places) to laid.1 is)
@@ -176,18 +176,18 @@ module _ (ss : List Pages) (n m : ℕ) (arena : IsArena ss n m) where
   pub arena_room : n ≤ m
   arena_room = omega (arith, within ss n 0 m arena.packed arena.laid)
 
-  is_at : (place slab at : ℕ) → place < m → IsFound place slab at → IsAt (sizes ss) slab at place
-  is_at place slab at lt found = at_found (sizes ss) 0 m 0 slab slab at place place arena.laid (first_none) (omega arith) (omega arith) lt found
+  is_at : (place slab at : ℕ) → place < m → IsFound place slab at → IsAt (slab_sizes ss) slab at place
+  is_at place slab at lt found = at_found (slab_sizes ss) 0 m 0 slab slab at place place arena.laid first_none (omega arith) (omega arith) lt found
 
   module _ (j : ℕ) (s t : Pages) (e : s ≡ get_or ss j s) (same : t.places ≡ s.places) where
-    laid_set : AreLaid (sizes (set ss j t)) 0 m
+    laid_set : AreLaid (slab_sizes (set ss j t)) 0 m
     laid_set = subst (λ l. AreLaid l 0 m) (sym (sizes_set ss j s t e same)) arena.laid
 
   module _ (place slab at : ℕ) (found : IsFound place slab at) (lt : place < length (all_pages ss)) where
     below : place < n
     below = omega (arith, lt, arena_len)
 
-    there : IsAt (sizes ss) slab at place
+    there : IsAt (slab_sizes ss) slab at place
     there = is_at place slab at (omega (arith, below, arena_room)) found
 
     pub slab_there : slab < length ss
@@ -203,11 +203,11 @@ module _ (ss : List Pages) (n m : ℕ) (arena : IsArena ss n m) where
       pub page_in_slab : slice_get (all_pages ss) place ≡ slice_get s.pages at
       page_in_slab = lies.2
 
-      module _ (c : ℕ) (some : 0 < c) (fits : place + c ≤ length (all_pages ss)) (one : at + c ≤ places_after (first_of slab)) where
+      module _ (c : ℕ) (some : 0 < c) (fits : place + c ≤ length (all_pages ss)) (one : at + c ≤ places_after (places_before slab)) where
         last : IsFound (place + c - 1) slab (at + c - 1)
         last = record { is = omega (arith, found.is, some); small = omega (arith, some, one) }
 
-        last_there : IsAt (sizes ss) slab (at + c - 1) (place + c - 1)
+        last_there : IsAt (slab_sizes ss) slab (at + c - 1) (place + c - 1)
         last_there = is_at (place + c - 1) slab (at + c - 1) (omega (arith, fits, some, arena_len, arena_room)) last
 
         pub run_within : at + c ≤ length s.pages
@@ -227,7 +227,7 @@ module _ (ss : List Pages) (n m : ℕ) (arena : IsArena ss n m) where
         pages_set = did.1
 
   module _ (slab at : ℕ) (found : IsFound n slab at) (room : 1 ≤ m - n) where
-    spare_at : IsAt (sizes ss) slab at n
+    spare_at : IsAt (slab_sizes ss) slab at n
     spare_at = is_at n slab at (omega (arith, room)) found
 
     pub slab_spare : slab < length ss
@@ -254,7 +254,7 @@ module _ (ss : List Pages) (n m : ℕ) (arena : IsArena ss n m) where
     one : n - 1 + 1 ≡ n
     one = omega (arith, some, arena_len)
 
-    last_at : IsAt (sizes ss) slab at (n - 1)
+    last_at : IsAt (slab_sizes ss) slab at (n - 1)
     last_at = is_at (n - 1) slab at (omega (arith, one, arena_room)) found
 
     pub slab_last : slab < length ss

@@ -18,21 +18,21 @@ abbrev pub places_after : ℕ → ℕ
 places_after a = min (a + 64) 16384
 
 -- how many places there are before the slab of this number
-unfoldable pub first_of : ℕ → ℕ
-first_of zero = 0
-first_of (suc k) = first_of k + places_after (first_of k)
+unfoldable pub places_before : ℕ → ℕ
+places_before zero = 0
+places_before (suc k) = places_before k + places_after (places_before k)
 
 -- the place is number `at` in the slab of this number
 pub record IsFound (place slab at : ℕ) : Type 0 where
-  pub is : first_of slab + at ≡ place
-  pub small : at < places_after (first_of slab)
+  pub is : places_before slab + at ≡ place
+  pub small : at < places_after (places_before slab)
 
 -- n places from this one on lie in one slab
 pub record LieInOne (place n : ℕ) : Type 0 where
   pub slab : ℕ
   pub at : ℕ
   pub found : IsFound place slab at
-  pub fits : at + n ≤ places_after (first_of slab)
+  pub fits : at + n ≤ places_after (places_before slab)
 
 -- slabs of these sizes lie behind `from` places, and `to` places end with them
 unfoldable pub AreLaid : List ℕ → ℕ → ℕ → Type 0
@@ -47,11 +47,11 @@ pub record Placed : Type 0 where
 abbrev pub arena_code : Coded Placed
 arena_code = code_by (List (List ℕ) × ℕ) (coded× (coded_list (coded_list coded_ℕ)) coded_ℕ) (λ a. (a.pages, a.room)) (λ p. record { pages = p.0; room = p.1 }) (λ _. refl)
 
-abbrev pub sizes : List Pages → List ℕ
-sizes ss = map (λ s. s.places) ss
+abbrev pub slab_sizes : List Pages → List ℕ
+slab_sizes ss = map (λ s. s.places) ss
 
 -- slabs with `places` in all, of which the first n hold pages
 pub record IsArena (ss : List Pages) (n places : ℕ) : Type 0 where
   pub packed : IsPacked ss n
-  pub laid : AreLaid (sizes ss) 0 places
+  pub laid : AreLaid (slab_sizes ss) 0 places
   pub few : places ≤ 1073758208
