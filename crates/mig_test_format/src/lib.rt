@@ -28,4 +28,6 @@ mod renaming;
 #[cfg(test)]
 mod shown;
 #[cfg(test)]
+mod store;
+#[cfg(test)]
 mod tables;
