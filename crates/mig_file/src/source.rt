@@ -1,4 +1,5 @@
-ghost use Rattle.std.specs.Prelude.{◌≡◌, ◌+◌, ◌-◌, ◌^◌, ◌<◌, ◌≤◌, length, min, IfSome};
+ghost use Rattle.std.specs.Prelude.{◌≡◌, ℕ, ◌+◌, ◌-◌, ◌^◌, ◌<◌, ◌≤◌, List, ◌++◌, length, min, Some, IfSome};
+ghost use Rattle.mig_file.specs.Files.{left_at, left_in, failed_in};
 
 use crate::file::PageFile;
 use mig_bytes::{Failed, Source};
@@ -11,18 +12,26 @@ pub struct FileSource<'a, P: PageFile> {
     faults: u64,
 }
 
-impl<P: PageFile> FileSource<'_, P> {
-    /// From this place on.
-    pub fn new(file: &P, at: u64) -> FileSource<'_, P>
-        ensures file { result.file.now ≡ file.now }
+impl<'a, P: PageFile> FileSource<'a, P> {
+    /// From this place on. None of its reads has failed.
+    pub fn new(file: &'a P, at: u64) -> FileSource<'a, P>
         ensures at { result.at ≡ at }
-        ensures faults { result.faults ≡ 0 }
+        ensures left { left_in P.bytes result ≡ left_at (P.bytes file.now) at }
+        ensures faults { failed_in result ≡ 0 }
     {
         FileSource {
             file,
             at,
             faults: 0,
         }
+    }
+
+    /// The same file from the same place on, for a reading of its own. None of its reads has failed.
+    pub fn again(&self) -> FileSource<'a, P>
+        ensures left { left_in P.bytes result ≡ left_in P.bytes self.now }
+        ensures faults { failed_in result ≡ 0 }
+    {
+        FileSource::new(self.file, self.at)
     }
 
     /// The place of the next byte.
@@ -32,23 +41,37 @@ impl<P: PageFile> FileSource<'_, P> {
         self.at
     }
 
+    /// How many bytes are left.
+    fn rest(&self) -> u64
+        ensures left { IfSome (left_in P.bytes self.now) (λ left. result ≡ length left) }
+        ensures fits { self.now.at + result < 2 ^ 64 }
+    {
+        self.file.size().saturating_sub(self.at)
+    }
+
+    /// Goes on where another reading of the same file has come to, and counts its failures too.
+    pub fn follow(&mut self, other: &FileSource<'_, P>)
+        ensures left { (taken rest : List ℕ) → left_in P.bytes self.old ≡ Some (taken ++ rest) → left_in P.bytes other.now ≡ Some rest → left_in P.bytes self.new ≡ Some rest }
+        ensures faults { failed_in self.new ≡ min (failed_in self.old + failed_in other.now) (2 ^ 64 - 1) }
+    {
+        self.at = self.file.size().saturating_sub(other.rest());
+        self.faults = self.faults.saturating_add(other.faults);
+    }
+
     /// How many of so many bytes are left.
     fn left_of(&self, most: usize) -> usize
         ensures few { result ≤ most }
         ensures fits { self.now.at + result < 2 ^ 64 }
         ensures all { IfSome (P.bytes self.now.file.now) (λ all. result ≡ min (length all - self.now.at) most) }
     {
-        let left = self.file.size().saturating_sub(self.at);
-        left.min(most as u64) as usize
+        self.rest().min(most as u64) as usize
     }
 }
 
 impl<P: PageFile> Source for FileSource<'_, P> {
-    ghost use Rattle.mig_file.specs.Files.{left_at};
+    ghost left = { λ s. left_in P.bytes s };
 
-    ghost left = { λ s. left_at (P.bytes s.file.now) s.at };
-
-    ghost faults = { λ s. s.faults };
+    ghost faults = { λ s. failed_in s };
 
     /// One read of the file, where bytes are left.
     fn read(&mut self, buf: &mut [u8]) -> Result<usize, Failed> {
