@@ -1,7 +1,6 @@
 -- What is left of a file that is read on.
 use Rattle.std.proofs.Common.{◌≡◌, ℕ, ◌+◌, ◌-◌, ◌<◌, min, List, [], ◌++◌, length, take, drop, Option, Some, None, IfSome, sym, ap, ◌∙◌, arith, replicate, drop-drop, take-append-drop}
-use Rattle.std.proofs.lemmas.List.{append_assoc, drop_all, drop-append-le, length-append, length-drop, length-replicate, length-take, nil_from_length, take-append-le, take_all}
-use Rattle.std.proofs.lemmas.Option.{same_Some}
+use Rattle.std.proofs.lemmas.List.{length-drop, length-replicate, length-take, nil_from_length, take-append-le, take_all}
 use Rattle.std.proofs.lemmas.List.Elements.{All-replicate, All-take, All-drop}
 use Rattle.std.specs.Io.KnownBytes.{Consumes, IsAtEnd}
 use Rattle.mig_bytes.specs.Bytes.{AreBytes}
@@ -33,12 +32,3 @@ passed (Some all) at count most below few = (
   ),
   at_end all at count most few,
 )
-
--- a reading of the same file that left so much is at this place
-pub followed : (o : Option (List ℕ)) (at size len : ℕ) (taken rest : List ℕ) → IfSome o (λ all. size ≡ length all) → len ≡ length rest → left_at o at ≡ Some (taken ++ rest) → left_at o (size - len) ≡ Some rest
-followed None at size len taken rest sized is left = absurd (cc)
-followed (Some all) at size len taken rest sized is left =
-    let behind : drop at all ≡ taken ++ rest = same_Some _ _ left in
-    let whole : all ≡ (take at all ++ taken) ++ rest = sym (take-append-drop at all) ∙ ap (λ l. take at all ++ l) behind ∙ sym (append_assoc (take at all) taken rest) in
-    let place : size - len ≡ length (take at all ++ taken) = omega (arith, sized, is, ap length whole, length-append (take at all ++ taken) rest) in
-    ap (λ l. Some l) (ap (λ n. drop n all) place ∙ ap (drop (length (take at all ++ taken))) whole ∙ drop-append-le (length (take at all ++ taken)) (take at all ++ taken) rest (omega arith) ∙ ap (λ l. l ++ rest) (drop_all (length (take at all ++ taken)) (take at all ++ taken) (omega arith)))

@@ -1,4 +1,4 @@
-ghost use Rattle.std.specs.Prelude.{◌≡◌, ℕ, ◌+◌, ◌-◌, ◌^◌, ◌<◌, ◌≤◌, List, ◌++◌, length, min, Some, IfSome};
+ghost use Rattle.std.specs.Prelude.{◌≡◌, ◌+◌, ◌-◌, ◌^◌, ◌<◌, ◌≤◌, length, min, IfSome};
 ghost use Rattle.mig_file.specs.Files.{left_at, left_in, failed_in};
 
 use crate::file::PageFile;
@@ -26,12 +26,15 @@ impl<'a, P: PageFile> FileSource<'a, P> {
         }
     }
 
-    /// The same file from the same place on, for a reading of its own. None of its reads has failed.
+    /// The same file from the same place on, for a reading of its own.
     pub fn again(&self) -> FileSource<'a, P>
-        ensures left { left_in P.bytes result ≡ left_in P.bytes self.now }
-        ensures faults { failed_in result ≡ 0 }
+        ensures { result ≡ self.now }
     {
-        FileSource::new(self.file, self.at)
+        FileSource {
+            file: self.file,
+            at: self.at,
+            faults: self.faults,
+        }
     }
 
     /// The place of the next byte.
@@ -41,30 +44,14 @@ impl<'a, P: PageFile> FileSource<'a, P> {
         self.at
     }
 
-    /// How many bytes are left.
-    fn rest(&self) -> u64
-        ensures left { IfSome (left_in P.bytes self.now) (λ left. result ≡ length left) }
-        ensures fits { self.now.at + result < 2 ^ 64 }
-    {
-        self.file.size().saturating_sub(self.at)
-    }
-
-    /// Goes on where another reading of the same file has come to, and counts its failures too.
-    pub fn follow(&mut self, other: &FileSource<'_, P>)
-        ensures left { (taken rest : List ℕ) → left_in P.bytes self.old ≡ Some (taken ++ rest) → left_in P.bytes other.now ≡ Some rest → left_in P.bytes self.new ≡ Some rest }
-        ensures faults { failed_in self.new ≡ min (failed_in self.old + failed_in other.now) (2 ^ 64 - 1) }
-    {
-        self.at = self.file.size().saturating_sub(other.rest());
-        self.faults = self.faults.saturating_add(other.faults);
-    }
-
     /// How many of so many bytes are left.
     fn left_of(&self, most: usize) -> usize
         ensures few { result ≤ most }
         ensures fits { self.now.at + result < 2 ^ 64 }
         ensures all { IfSome (P.bytes self.now.file.now) (λ all. result ≡ min (length all - self.now.at) most) }
     {
-        self.rest().min(most as u64) as usize
+        let left = self.file.size().saturating_sub(self.at);
+        left.min(most as u64) as usize
     }
 }
 

@@ -2,6 +2,7 @@ pub mod Common
 pub mod Says
 pub mod Walks
 pub mod Reporting
+pub mod Summaries
 pub mod Unread
 pub mod Walking
 pub mod Once

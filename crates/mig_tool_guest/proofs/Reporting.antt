@@ -115,27 +115,3 @@ restored_came base e outcome said (inr (inr is)) kept same write =
 abbrev pub reported : Result (Unit {0}) WriteFailed → Status
 reported (Ok u) = statuses.Done
 reported (Err e) = statuses.WriteFault
-
--- the summary is that of the stream
-summed : (input rest : List ℕ) (stream : StreamOf) (reading : Reading) (is : IsStreamReading reading stream) (a : AcceptedStream input reading.guest rest) (s : Summary) → a.image ≡ is.image
-    → s.version ≡ reading.version → s.kind ≡ reading.guest.kind → s.frames ≡ length (maps.entries reading.guest.frames) → s.records ≡ reading.records → s.differs ≡ reading.differs → s ≡ summary_of a
-summed input rest stream reading is a s same v k f n d =
-    let kind : reading.guest.kind ≡ is.image.opening.kind = ap (λ (x : GuestOf). x.kind) is.guest ∙ mean_kind is.image.opening.kind is.image.records in
-    let v' : s.version ≡ a.image.opening.version = v ∙ is.version ∙ ap (λ (x : ImageOf). x.opening.version) (sym same) in
-    let k' : s.kind ≡ a.image.opening.kind = k ∙ kind ∙ ap (λ (x : ImageOf). x.opening.kind) (sym same) in
-    let n' : s.records ≡ length a.image.records = n ∙ is.records ∙ ap (λ (x : ImageOf). length x.records) (sym same) in
-    let d' : s.differs ≡ differs_of a.image.opening.kind a.image.records = d ∙ is.differs ∙ ap (λ (x : ImageOf). differs_of x.opening.kind x.records) (sym same) in
-    λ i. record { version = v' i; kind = k' i; frames = f i; records = n' i; differs = d' i }
-
-pub verified : (told left old new : Option (List ℕ)) (reading : Reading) (s : Summary) (r : Result (Unit {0}) WriteFailed) (status : Status) → ReadsStream told left (Ok reading)
-    → s.version ≡ reading.version → s.kind ≡ reading.guest.kind → s.frames ≡ length (maps.entries reading.guest.frames) → s.records ≡ reading.records → s.differs ≡ reading.differs
-    → Puts (ok_line s) old new r → status ≡ reported r → VerifySays told left old new status
-unfolding accepted_front
-verified None left old new reading s r status h v k f n d put is = tt
-verified (Some input) left old new reading s r status (stream, rest, accepts, left_is, is_read) v k f n d put is =
-    let a = accepted_front input rest stream reading accepts is_read in
-    subst (VerifySays (Some input) left old new) (sym is) (by r (subst (λ t. Puts (ok_line t) old new r) (summed input rest stream reading is_read a s refl v k f n d) put))
-  where
-    by : (r : Result (Unit {0}) WriteFailed) → Puts (ok_line (summary_of (accepted_front input rest stream reading accepts is_read))) old new r → VerifySays (Some input) left old new (reported r)
-    by (Ok u) put = record { guest = reading.guest; rest = rest; accepted = accepted_front input rest stream reading accepts is_read; left_is = left_is; reported = put }
-    by (Err e) put = record { guest = reading.guest; rest = rest; accepted = accepted_front input rest stream reading accepts is_read; left_is = left_is; reported = put }

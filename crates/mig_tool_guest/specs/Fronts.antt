@@ -7,7 +7,9 @@ use Rattle.mig_image.specs.declared.version.GuestImageVersion.TheVariants.{Two}
 use Rattle.mig_image.specs.GuestImage.{guest_image}
 use Rattle.mig_libxl_form.specs.Carried.{IsCarried}
 use Rattle.mig_legacy.specs.Spelled.{AcceptedLegacy}
+use Rattle.mig_libxl_form.specs.Stream.{StreamOf, guest_of, image_of_stream}
 use Rattle.mig_restore_form.specs.Mean.{differs_of}
+use Rattle.mig_restore_form.specs.Stream.{ImageOf}
 use Rattle.mig_tool_report.specs.Report.{checked_legacy_line, checked_line, uncompared}
 use Rattle.mig_tool_report.specs.declared.outcome.Summary.{Summary}
 
@@ -53,11 +55,21 @@ pub record PartWritten (Accepts : Accepting) (text : GuestOf → List ℕ) (inpu
   pub left_is : left ≡ Some rest
   pub wrote : AppendsPart old new (text guest)
 
--- what is said of an accepted stream: the version and kind of its image, its guest's number of frames, the image's number
--- of records, and how many of its entries behind a VERIFY differ from the frames before it, where it has one
+-- what is said of a stream that has this image and this guest: the version and kind of the image, the guest's number of
+-- frames, the image's number of records, and how many of its entries behind a VERIFY differ from the frames before it, where
+-- it has one
+abbrev pub summary_in : ImageOf → GuestOf → Summary
+summary_in image guest =
+    record { version = image.opening.version; kind = image.opening.kind; frames = length (maps.entries guest.frames); records = length image.records; differs = differs_of image.opening.kind image.records }
+
 abbrev pub summary_of : {input : List ℕ} {guest : GuestOf} {rest : List ℕ} → AcceptedStream input guest rest → Summary
-summary_of {input} {guest} {rest} a =
-    record { version = a.image.opening.version; kind = a.image.opening.kind; frames = length (maps.entries guest.frames); records = length a.image.records; differs = differs_of a.image.opening.kind a.image.records }
+summary_of {input} {guest} {rest} a = summary_in a.image guest
+
+-- that is said of a stream
+pub record IsSummary (summary : Summary) (s : StreamOf) : Type 0 where
+  pub image : ImageOf
+  pub is : image_of_stream s ≡ Some image
+  pub said : summary ≡ summary_in image (guest_of image s)
 
 -- a front of the input is an accepted stream, the rest is left, and a line of what is said of it was reported
 pub record StreamReported (line_of : Summary → List ℕ) (Reported : List ℕ → Type 0) (input : List ℕ) (left : Option (List ℕ)) : Type 0 where

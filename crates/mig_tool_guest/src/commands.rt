@@ -1,9 +1,14 @@
 ghost use Rattle.std.specs.Prelude.{◌≡◌, ◌⊎◌};
 ghost use Rattle.mig_tool_guest.specs.Common.{Appends, AppendsPart, canon_any, OutputRises, CarriedOut, ComesTo, effects, input_effect, sink_effect, unreached, status_of};
 ghost use Rattle.mig_pvtables.specs.Whole.{IsWhole};
-ghost use Rattle.mig_tool_guest.specs.Fronts.{restored_text};
+ghost use Rattle.mig_bytes.specs.Answers.{or_stop};
+ghost use Rattle.mig_bytes.specs.Faults.{RisesOnReadFault};
+ghost use Rattle.mig_bytes.specs.Judged.{AgreesWithJudging};
+ghost use Rattle.mig_libxl_form.specs.Stream.{stream_at};
+ghost use Rattle.mig_tool_guest.specs.Fronts.{IsSummary, restored_text};
 ghost use Rattle.mig_tool_guest.specs.Outcomes.{outcome_of};
 ghost use Rattle.mig_tool_guest.specs.Promises.{normalise_promise, convert_promise, restore_promise, verify_promise};
+ghost use Rattle.mig_tool_report.specs.Promises.{InputEffect};
 ghost use Rattle.mig_tool_report.specs.Words.{IsBase};
 ghost use Rattle.mig_tool_report.specs.declared.outcome.Outcome.TheVariants as outcomes;
 ghost use Rattle.mig_tool_report.specs.declared.outcome.Refusal.TheVariants as refusals;
@@ -150,24 +155,45 @@ pub fn restore<S: Source, K: Sink, R: Sink>(
     finish(report, outcome)
 }
 
+/// Reads a stream: what is said of it.
+pub(crate) fn summarised<S: Source>(alloc: Global, input: &mut S) -> Result<Summary, StreamAnswer>
+    ensures read { AgreesWithJudging IsSummary (S.left input.old) (S.left input.new) stream_at (or_stop result) }
+    ensures faults { RisesOnReadFault (S.faults input.old) (S.faults input.new) (or_stop result) }
+{
+    match read_any(alloc, input) {
+        Ok(reading) => Ok(Summary {
+            version: u64::from(reading.version),
+            kind: reading.guest.kind(),
+            frames: reading.guest.frames(),
+            records: u64::from(reading.records),
+            differs: reading.differs,
+        }),
+        Err(answer) => Err(answer),
+    }
+}
+
+/// Puts on the report what is said of a stream, or why it isn't read.
+pub(crate) fn tell_summary<R: Sink>(
+    report: &mut R,
+    said: Result<Summary, StreamAnswer>,
+) -> Status
+    ensures { (input : InputEffect) → AgreesWithJudging IsSummary input.told input.left stream_at (or_stop said) → RisesOnReadFault input.failed input.failed_now (or_stop said)
+        → CarriedOut verify_promise (effects input unreached (sink_effect R.written R.faults report.old report.new)) result }
+{
+    match said {
+        Ok(summary) => match put_ok(report, summary) {
+            Ok(()) => Status::Done,
+            Err(_) => Status::WriteFault,
+        },
+        Err(answer) => finish(report, unread(answer)),
+    }
+}
+
 /// Reads a stream, and says on the report what it is.
 pub fn verify<S: Source, R: Sink>(alloc: Global, input: &mut S, report: &mut R) -> Status
     ensures { CarriedOut verify_promise (effects (input_effect S.left S.faults input.old input.new)
         unreached (sink_effect R.written R.faults report.old report.new)) result }
 {
-    let reading = match read_any(alloc, input) {
-        Ok(reading) => reading,
-        Err(answer) => return finish(report, unread(answer)),
-    };
-    let summary = Summary {
-        version: u64::from(reading.version),
-        kind: reading.guest.kind(),
-        frames: reading.guest.frames(),
-        records: u64::from(reading.records),
-        differs: reading.differs,
-    };
-    match put_ok(report, summary) {
-        Ok(()) => Status::Done,
-        Err(_) => Status::WriteFault,
-    }
+    let said = summarised(alloc, input);
+    tell_summary(report, said)
 }

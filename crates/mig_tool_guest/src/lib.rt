@@ -16,11 +16,13 @@
 mod addresses;
 mod checks;
 mod commands;
+mod files;
 mod passing;
 mod shown;
 
 pub use addresses::{walk, walk_image};
 pub use checks::{check, check_legacy};
 pub use commands::{convert, normalise, restore, verify};
+pub use files::verify_file;
 pub use passing::relay;
 pub use shown::show;

@@ -1,0 +1,58 @@
+-- What is said of a stream that was read, or judged.
+use Rattle.mig_tool_guest.proofs.Common.{Appends, AppendsPart, Passes, StreamOf, Status, ◌≡◌, ◌∙◌, ℕ, List, length, Option, Some, None, Result, Ok, Err, refl, sym, ap, subst, GuestOf, AcceptedStream, Reading, mean_kind, Puts, accepted_is_stream, stream_at, IsStreamReading, ok_line, summary_of}
+use Rattle.mig_tool_guest.proofs.Reporting.{reported}
+use Rattle.mig_tool_guest.proofs.Says.{VerifySays}
+use Rattle.mig_tool_guest.specs.Fronts.{IsSummary, summary_in}
+use Rattle.mig_bytes.specs.Judged.{AgreesWithJudging}
+use Rattle.mig_bytes.specs.declared.failure.WriteFailed.{WriteFailed}
+use Rattle.mig_libxl.specs.Reads.{IsStreamTally}
+use Rattle.mig_libxl_form.specs.Stream.{guest_of}
+use Rattle.mig_outline.specs.declared.judge.Tally.{Tally}
+use Rattle.mig_restore_form.specs.Mean.{differs_of}
+use Rattle.mig_tool_report.specs.declared.outcome.Summary.{Summary}
+use Rattle.std.specs.FinMap as maps
+use Rattle.std.specs.Prelude.{false, is_some}
+
+-- that of a reading
+pub of_reading : (told left : Option (List ℕ)) (reading : Reading) (s : Summary) → s.version ≡ reading.version → s.kind ≡ reading.guest.kind → s.frames ≡ length (maps.entries reading.guest.frames) → s.records ≡ reading.records → s.differs ≡ reading.differs
+    → AgreesWithJudging IsStreamReading told left stream_at (Ok reading) → AgreesWithJudging IsSummary told left stream_at (Ok s)
+of_reading None left reading s v k f n d h = tt
+of_reading (Some input) left reading s v k f n d (stream, rest, accepts, left_is, is) =
+    let v' : s.version ≡ is.image.opening.version = v ∙ is.version in
+    let k' : s.kind ≡ is.image.opening.kind = k ∙ ap (λ (x : GuestOf). x.kind) is.guest ∙ mean_kind is.image.opening.kind is.image.records in
+    let f' : s.frames ≡ length (maps.entries (guest_of is.image stream).frames) = f ∙ ap (λ (x : GuestOf). length (maps.entries x.frames)) is.guest in
+    let n' : s.records ≡ length is.image.records = n ∙ is.records in
+    let d' : s.differs ≡ differs_of is.image.opening.kind is.image.records = d ∙ is.differs in
+    (stream, rest, accepts, left_is, record { image = is.image; is = is.is; said = λ i. record { version = v' i; kind = k' i; frames = f' i; records = n' i; differs = d' i } })
+
+-- that of a tally, where nothing is compared
+none_there : (o : Option ℕ) → false ≡ is_some o → None ≡ o
+none_there None is = refl
+none_there (Some n) is = absurd (cc)
+
+pub of_tally : (told left : Option (List ℕ)) (tally : Tally) (s : Summary) → tally.verified ≡ false → s.version ≡ tally.version → s.kind ≡ tally.kind → s.frames ≡ tally.frames → s.records ≡ tally.records → s.differs ≡ None
+    → AgreesWithJudging IsStreamTally told left stream_at (Ok tally) → AgreesWithJudging IsSummary told left stream_at (Ok s)
+of_tally None left tally s none v k f n d h = tt
+of_tally (Some input) left tally s none v k f n d (stream, rest, accepts, left_is, is) =
+    let v' : s.version ≡ is.image.opening.version = v ∙ is.version in
+    let k' : s.kind ≡ is.image.opening.kind = k ∙ is.kind in
+    let f' : s.frames ≡ length (maps.entries (guest_of is.image stream).frames) = f ∙ is.frames ∙ maps.len-entries (guest_of is.image stream).frames in
+    let n' : s.records ≡ length is.image.records = n ∙ is.records in
+    let d' : s.differs ≡ differs_of is.image.opening.kind is.image.records = d ∙ none_there (differs_of is.image.opening.kind is.image.records) (sym none ∙ is.verified) in
+    (stream, rest, accepts, left_is, record { image = is.image; is = is.is; said = λ i. record { version = v' i; kind = k' i; frames = f' i; records = n' i; differs = d' i } })
+
+-- ---- its line
+
+told_as : (input rest : List ℕ) (stream : StreamOf) (s : Summary) → stream_at input ≡ Passes stream rest → (is : IsSummary s stream) → AcceptedStream input (guest_of is.image stream) rest
+told_as input rest stream s accepts is = record { stream = stream; image = is.image; spelled = accepted_is_stream input stream rest accepts; image_is = is.is; means = refl }
+
+pub verified : (told left old new : Option (List ℕ)) (s : Summary) (r : Result (Unit {0}) WriteFailed) (status : Status) → AgreesWithJudging IsSummary told left stream_at (Ok s)
+    → Puts (ok_line s) old new r → status ≡ reported r → VerifySays told left old new status
+unfolding told_as
+verified None left old new s r status h put is = tt
+verified (Some input) left old new s r status (stream, rest, accepts, left_is, is_summary) put is =
+    subst (VerifySays (Some input) left old new) (sym is) (by r (subst (λ t. Puts (ok_line t) old new r) is_summary.said put))
+  where
+    by : (r : Result (Unit {0}) WriteFailed) → Puts (ok_line (summary_of (told_as input rest stream s accepts is_summary))) old new r → VerifySays (Some input) left old new (reported r)
+    by (Ok u) put = record { guest = guest_of is_summary.image stream; rest = rest; accepted = told_as input rest stream s accepts is_summary; left_is = left_is; reported = put }
+    by (Err e) put = record { guest = guest_of is_summary.image stream; rest = rest; accepted = told_as input rest stream s accepts is_summary; left_is = left_is; reported = put }
