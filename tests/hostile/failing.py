@@ -184,16 +184,20 @@ def short(tool, faults):
 
 
 def shrinking(tool, faults):
-    """A file that is cut while it is read is judged as it then is."""
+    """A file that is cut while it is read is judged as it then is. Of one that is read by place the size is asked for once: what is
+    gone then can't be read, where it is asked for."""
     for it in every(tool, faults):
-        data = os.pread(it.runs.files[0], it.made.bytes_read, 0)
+        data = it.data if program.reads_by_place(it.words) else os.pread(it.runs.files[0], it.made.bytes_read, 0)
         most = max(1, len(data) // 10)
         for number in range(1, 10) if data else ():
             for left in (0, number * most, number * most + most // 2):
                 it.runs.give(data)
                 got = it.answer(read_most=most, shrink='%d %d' % (number, left))
-                want = program.wanted(it.words, data[:max(left, number * most)])
-                yield from it.differences('cut to %d bytes at read %d' % (left, number), got, want)
+                what = 'cut to %d bytes at read %d' % (left, number)
+                if not program.reads_by_place(it.words):
+                    yield from it.differences(what, got, program.wanted(it.words, data[:max(left, number * most)]))
+                elif got != program.NO_READ:
+                    yield from it.differences(what, got, it.want)
 
 
 # ---- what a system does of itself

@@ -29,12 +29,14 @@ static int fails(const struct chosen *it, uint64_t number) {
     return 1;
 }
 
-ssize_t read(int fd, void *to, size_t length) {
+/* A read of standard input, from a place on or, where that is below 0, from the file's position on. */
+static ssize_t read_input(void *to, size_t length, off_t at) {
     static ssize_t (*next)(int, void *, size_t);
-    if (!next)
+    static ssize_t (*next_at)(int, void *, size_t, off_t);
+    if (!next) {
         next = (ssize_t (*)(int, void *, size_t))dlsym(RTLD_NEXT, "read");
-    if (fd != 0)
-        return next(fd, to, length);
+        next_at = (ssize_t (*)(int, void *, size_t, off_t))dlsym(RTLD_NEXT, "pread64");
+    }
     if (told->reads == 0)
         told->peak = told->live;
     uint64_t number = told->reads++;
@@ -42,9 +44,28 @@ ssize_t read(int fd, void *to, size_t length) {
         return -1;
     if (is_chosen(&shrink, number) && ftruncate(0, (off_t)shrink.what) != 0)
         abort();
-    ssize_t got = next(fd, to, length < read_most ? length : read_most);
+    size_t most = length < read_most ? length : read_most;
+    ssize_t got = at < 0 ? next(0, to, most) : next_at(0, to, most, at);
     told->bytes_read += got > 0 ? (uint64_t)got : 0;
     return got;
+}
+
+ssize_t read(int fd, void *to, size_t length) {
+    static ssize_t (*next)(int, void *, size_t);
+    if (!next)
+        next = (ssize_t (*)(int, void *, size_t))dlsym(RTLD_NEXT, "read");
+    return fd == 0 ? read_input(to, length, -1) : next(fd, to, length);
+}
+
+ssize_t pread64(int fd, void *to, size_t length, off_t at) {
+    static ssize_t (*next)(int, void *, size_t, off_t);
+    if (!next)
+        next = (ssize_t (*)(int, void *, size_t, off_t))dlsym(RTLD_NEXT, "pread64");
+    return fd == 0 ? read_input(to, length, at) : next(fd, to, length, at);
+}
+
+ssize_t pread(int fd, void *to, size_t length, off_t at) {
+    return pread64(fd, to, length, at);
 }
 
 ssize_t write(int fd, const void *from, size_t length) {

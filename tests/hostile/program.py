@@ -87,6 +87,11 @@ def passes_on(words):
     return words == ['relay']
 
 
+def reads_by_place(words):
+    """Whether the command reads a file by place, and passes over what it has no need of."""
+    return words in OF_CHECK or words == ['verify']
+
+
 def no_read(words, front):
     """What is answered where this front of an input came, and then a read failed: of `relay` it is passed on."""
     return NO_READ._replace(out=wanted(words, front).out) if passes_on(words) else NO_READ

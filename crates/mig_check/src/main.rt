@@ -14,20 +14,53 @@ mod words;
 pub use crate::law::checked_as_verified;
 use crate::run::run;
 use mig_bytes::{BufferedSource, OutSink};
+use mig_file::{FileSource, StandardFile};
 use mig_tool_report::{INPUT_BUFFER, Outcome, Status, put_line, words_of};
+use std::alloc::Global;
 use std::env;
-use std::io::BufReader;
+use std::io::{BufReader, Stderr, Stdin};
 use std::process::ExitCode;
+
+/// Checks the standard input as it comes.
+fn run_as_it_comes(
+    alloc: Global,
+    words: &[String],
+    stdin: Stdin,
+    report: &mut OutSink<Stderr>,
+) -> Status {
+    match BufReader::with_capacity(alloc, INPUT_BUFFER, stdin) {
+        Ok(reader) => run(alloc, words, &mut BufferedSource::new(reader), report),
+        Err(_) => {
+            let _ = put_line(report, Outcome::Memory);
+            Status::Memory
+        }
+    }
+}
+
+/// Checks the standard input, which is this file, from a place on, and leaves it where what was taken ends.
+fn run_file(
+    alloc: Global,
+    words: &[String],
+    file: &StandardFile,
+    at: u64,
+    report: &mut OutSink<Stderr>,
+) -> Status {
+    let mut input = FileSource::new(file, at);
+    let status = run(alloc, words, &mut input, report);
+    file.leave_at(input.at());
+    status
+}
 
 fn main(rt: HostRuntime) -> ExitCode {
     let alloc = rt.alloc();
     let mut report = OutSink::new(rt.stderr());
-    let words = words_of(alloc, env::args(&rt));
-    let reader = BufReader::with_capacity(alloc, INPUT_BUFFER, rt.stdin());
-    let (Some(words), Ok(reader)) = (words, reader) else {
+    let Some(words) = words_of(alloc, env::args(&rt)) else {
         let _ = put_line(&mut report, Outcome::Memory);
         return ExitCode::from(Status::Memory.code());
     };
-    let mut input = BufferedSource::new(reader);
-    ExitCode::from(run(alloc, &words, &mut input, &mut report).code())
+    let status = match StandardFile::of(rt.stdin()) {
+        Some((file, at)) => run_file(alloc, &words, &file, at, &mut report),
+        None => run_as_it_comes(alloc, &words, rt.stdin(), &mut report),
+    };
+    ExitCode::from(status.code())
 }

@@ -1,9 +1,8 @@
 ghost use Rattle.std.specs.Prelude.{None};
 
 use crate::file::PageFile;
-use core::rt::Stdin;
 use mig_bytes::Failed;
-use std::fmt::Debug;
+use std::io::Stdin;
 
 /// The standard input, where it is a file of the machine: the trusted edge towards it. It tells no bytes.
 #[derive(Drop)]

@@ -1,12 +1,14 @@
+ghost use Rattle.mig_file.specs.Files.{failed_in, left_in};
 ghost use Rattle.mig_tool_report.specs.Promises.{KeepsPromise, TellsUsage, effects, input_effect, sink_effect};
 ghost use Rattle.mig_tool_report.specs.Report.{usage_line};
 ghost use Rattle.mig_tool_report.specs.Words.{texts_of, Names};
 ghost use Rattle.mig_tool_report.specs.declared.command.Command.{Command};
 ghost use Rattle.mig_tool.specs.Promises.{promise_of};
 
-use crate::carry::carry_out;
+use crate::carry::{carry_out, carry_out_file};
 use mig_bytes::{Sink, Source};
-use mig_tool_report::{Outcome, Status, command_in, finish};
+use mig_file::{FileSource, PageFile};
+use mig_tool_report::{Command, Outcome, Status, command_in, finish};
 use std::alloc::Global;
 
 /// Does what the words say: reads `input`, writes on `out`, and puts the line of the status on `report`.
@@ -44,4 +46,32 @@ pub fn run<S: Source, K: Sink, R: Sink>(
         Some(command) => carry_out(alloc, command, input, out, report),
         None => finish(report, Outcome::Usage),
     }
+}
+
+/// Does what the words say, as `run` does, of a file that is read from a place on. What it needs no page of, it reads none
+/// of: `verify` reads those of page tables alone, where the stream has no VERIFY.
+pub fn run_file<P: PageFile, K: Sink, R: Sink>(
+    alloc: Global,
+    words: &[String],
+    input: &mut FileSource<'_, P>,
+    out: &mut K,
+    report: &mut R,
+) -> Status
+    // Words that name no command are told the usage: nothing is read or written.
+    ensures usage { ((command : Command) → Names (texts_of words.now) command → ⊥)
+        → TellsUsage usage_line (effects (input_effect (left_in P.bytes) failed_in input.old input.new) (sink_effect K.written K.faults out.old out.new) (sink_effect R.written R.faults report.old report.new)) result }
+
+    // Of words that name a command the promise of the command is kept.
+    ensures kept { (command : Command) → Names (texts_of words.now) command
+        → KeepsPromise (promise_of command) (effects (input_effect (left_in P.bytes) failed_in input.old input.new) (sink_effect K.written K.faults out.old out.new) (sink_effect R.written R.faults report.old report.new)) result }
+{
+    match command_in(words) {
+        Some(command) => carry_out_file(alloc, command, input, out, report),
+        None => finish(report, Outcome::Usage),
+    }
+}
+
+/// Whether what these words name takes less of a file where it is read by place.
+pub(crate) fn reads_by_place(words: &[String]) -> bool {
+    matches!(command_in(words), Some(Command::Verify))
 }

@@ -1,0 +1,44 @@
+"""Standard input that is a file: the commands that read one by place answer what they answer of a pipe, wherever in the file their input
+begins, and leave the file where what they took ends."""
+import os
+import tempfile
+
+import failing
+import program
+
+BEFORE = b'another\n'
+FAR = (5 << 30) + 3                                  # beyond what 32 bits count
+
+
+def by_place(tool):
+    """Of each form of input that is read by place its name, the words of the command and the input."""
+    return [it for it in program.forms(tool) if program.reads_by_place(it[1])]
+
+
+def given_at(tool, words, data, at):
+    """The answer to a file that has these bytes at a place, and holes before it, and where the file stands then."""
+    with tempfile.TemporaryFile() as file:
+        os.pwrite(file.fileno(), data, at)
+        os.lseek(file.fileno(), at, os.SEEK_SET)
+        got = failing.run(tool, words, stdin=file)
+        return got, os.lseek(file.fileno(), 0, os.SEEK_CUR)
+
+
+def as_from_a_pipe(tool):
+    """Whole inputs, and such that are cut at some places."""
+    for name, words, data in by_place(tool):
+        for length in sorted({*range(0, len(data), max(1, len(data) // 50)), len(data)}):
+            want = program.wanted(words, data[:length])
+            for place in 0, len(BEFORE), FAR:
+                got, _ = given_at(tool, words, data[:length], place)
+                for why in program.differences(got, want):
+                    yield '%s, %s, %d bytes at %d of a file: %s' % (name, program.named(words), length, place, why)
+
+
+def is_left_behind_it(tool):
+    """What stands behind the input isn't taken."""
+    for name, words, data in by_place(tool):
+        for place in 0, len(BEFORE), FAR:
+            got, left = given_at(tool, words, data + b'more', place)
+            if got.status == program.DONE and left != place + len(data):
+                yield '%s, %s: the file is left at %d, and the input ends at %d' % (name, program.named(words), left, place + len(data))
