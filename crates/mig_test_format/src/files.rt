@@ -1,0 +1,50 @@
+use mig_bytes::{Failed, Got, ReadFailed, Source, skip, take_exact};
+use mig_file::{FileSource, MemFile, PageFile};
+use std::test::Fail;
+
+// A file is read on from a place, passed over without a read, and read again from there.
+#[test]
+fn a_file_is_read_on(rt: HostRuntime) -> Result<(), Fail> {
+    let bytes = vec![in rt.alloc(); 10, 11, 12, 13, 14, 15, 16, 17, 18]?;
+    let file = MemFile::new(bytes, vec![in rt.alloc(); 13, 14]?);
+    let mut src = FileSource::new(&file, 1);
+    let mut buf = [0; 2];
+    assert_eq!(rt; take_exact(&mut src, &mut buf), Ok(Got::Whole));
+    assert_eq!(rt; (buf, src.at()), ([11, 12], 3));
+    let mut again = src.again();
+    assert_eq!(rt; skip(&mut src, 2), Ok(true));
+    assert_eq!(rt; take_exact(&mut src, &mut buf), Ok(Got::Whole));
+    assert_eq!(rt; (buf, src.at()), ([15, 16], 7));
+    assert_eq!(rt; skip(&mut again, 5), Ok(true));
+    assert_eq!(rt; take_exact(&mut again, &mut buf), Ok(Got::Short(1)));
+    assert_eq!(rt; (again.read(&mut buf), again.pass(3), again.at()), (Ok(0), Ok(0), 9));
+    Ok(())
+}
+
+// The third read of a file fails, as one of its bytes can't be read: what was read before is taken, and no more.
+#[test]
+fn a_read_of_a_file_fails(rt: HostRuntime) -> Result<(), Fail> {
+    let bytes = vec![in rt.alloc(); 10, 11, 12, 13, 14, 15, 16]?;
+    let file = MemFile::new(bytes, vec![in rt.alloc(); 5]?);
+    let mut src = FileSource::new(&file, 0);
+    let mut buf = [0; 2];
+    assert_eq!(rt; take_exact(&mut src, &mut buf), Ok(Got::Whole));
+    assert_eq!(rt; take_exact(&mut src, &mut buf), Ok(Got::Whole));
+    assert_eq!(rt; take_exact(&mut src, &mut buf), Err(ReadFailed));
+    assert_eq!(rt; src.at(), 4);
+    Ok(())
+}
+
+// Of a file with too few bytes from a place on nothing is read there.
+#[test]
+fn a_file_ends(rt: HostRuntime) -> Result<(), Fail> {
+    let file = MemFile::new(vec![in rt.alloc(); 10, 11, 12]?, vec![in rt.alloc(); 7]?);
+    file.has_bytes();
+    let mut buf = [0; 2];
+    assert_eq!(rt; (file.size(), file.read_at(1, &mut buf), buf), (3, Ok(()), [11, 12]));
+    assert_eq!(rt; (file.read_at(2, &mut buf), file.read_at(u64::MAX, &mut buf)), (Err(Failed), Err(Failed)));
+    assert_eq!(rt; file.read_at(3, &mut buf[..0]), Ok(()));
+    let mut beyond = FileSource::new(&file, 9);
+    assert_eq!(rt; (beyond.read(&mut buf), beyond.pass(1)), (Ok(0), Ok(0)));
+    Ok(())
+}
