@@ -12,6 +12,7 @@ from front.text import shown
 
 BLOCK = 1 << 20
 MOST_KEPT = 64 << 20                                 # so much of a pipe is kept, to be looked at
+CHANGED = 'it was written to while it was read'
 MOST_BEHIND = 1 << 30                                # so much of what follows a stream is read, which needn't ever end
 TOLD_UNPACKERS = 'GZIP', 'XZ_', 'ZSTD_'              # names of variables by which an unpacker may be told to do other things
 
@@ -96,13 +97,18 @@ class Cursor:
         self.place += count
 
 
+def mark_of(status):
+    """What is another where a file was written to."""
+    return status.st_size, status.st_mtime_ns
+
+
 class Plain:
     """A regular file, from the place on where it is open."""
     packed, is_walkable = None, True
 
-    def __init__(self, fd, size):
-        self.fd, self.base = fd, os.lseek(fd, 0, os.SEEK_CUR)
-        self.size = max(size - self.base, 0)
+    def __init__(self, fd, status):
+        self.fd, self.base, self.mark = fd, os.lseek(fd, 0, os.SEEK_CUR), mark_of(status)
+        self.size = max(status.st_size - self.base, 0)
 
     def at(self, offset, count):
         data = bytearray()
@@ -132,10 +138,24 @@ class Plain:
         return self.fd
 
     def ended(self, accepted):
-        """To be called when the program has ended. Answers what is wrong with the source itself, or None."""
+        """To be called when the program has ended. Answers what is wrong with the source itself, or None. A program may read a file
+        twice, so one that was written to meanwhile is no input."""
+        return CHANGED if mark_of(os.fstat(self.fd)) != self.mark else None
 
     def close(self):
         os.close(self.fd)
+
+
+class Whole(Plain):
+    """The same, of which the program gets every byte: what the disk can't give any more is noticed."""
+
+    def input_from(self, offset):
+        os.lseek(self.fd, self.base + offset, os.SEEK_SET)
+        self.through = Piped(self.fd)
+        return self.through.input_from(0)
+
+    def ended(self, accepted):
+        return self.through.ended(accepted) or super().ended(accepted)
 
 
 class Packed:
@@ -281,17 +301,17 @@ class Piped:
             os.close(self.fd)
 
 
-def unpacked(fd, size):
-    """The source of a regular file."""
-    plain = Plain(fd, size)
+def unpacked(fd, status, kind):
+    """The source of a regular file, of this kind where it isn't packed."""
+    plain = kind(fd, status)
     packer = forms.packer_of(plain.at(0, 8))
     return Packed(fd, plain.base, packer) if packer else plain
 
 
-def source_of_open(fd, name):
+def source_of_open(fd, name, kind):
     status = os.fstat(fd)
     if stat.S_ISREG(status.st_mode):
-        return unpacked(fd, status.st_size)
+        return unpacked(fd, status, kind)
     if stat.S_ISDIR(status.st_mode):
         raise errors.Unreadable("Is a link to a folder, and isn't followed; name the folder" if os.path.islink(name) else 'Is a directory')
     return Piped(fd)
@@ -315,14 +335,14 @@ def is_special(status):
     return not stat.S_ISREG(status.st_mode) and not stat.S_ISDIR(status.st_mode)
 
 
-def source_of(name):
+def source_of(name, kind=Plain):
     """The source of a file with this name; `-` is standard input. A file that gives none is closed again."""
     if isinstance(name, EmptyFolder):
         raise errors.Unreadable(name.why)
     fd = source = None
     try:
         fd = 0 if name == '-' else opened(name)
-        source = source_of_open(fd, name)
+        source = source_of_open(fd, name, kind)
         return source
     except OSError as fault:
         raise errors.Unreadable(why(fault)) from None

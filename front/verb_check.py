@@ -2,7 +2,7 @@
 import os
 import sys
 
-from front import errors, forms, many, program, resolve, verdict
+from front import errors, forms, many, program, resolve, sources, verdict
 from front.files import chosen
 from front.sharing import MOST_OF_CHECK, Memory
 from front.text import put_lines
@@ -19,9 +19,10 @@ class Checks:
     def __init__(self, words):
         self.path, self.memory = program.find(resolve.CHECK), Memory(words.jobs)
         self.tool = program.find(resolve.TOOL) if words.compare else None
+        self.kind = sources.Whole if words.whole else sources.Plain
 
     def judged(self, name):
-        return verdict.of_file(name, self.said)
+        return verdict.of_file(name, self.said, self.kind)
 
     def said(self, name, source):
         if self.tool and not source.is_walkable and forms.form_of(source).kind == forms.STREAM:
@@ -95,6 +96,8 @@ def offer(verbs):
     at_once(words)
     in_json(words, 'print one JSON object for each file, and no count')
     words.add_argument('-q', dest='quiet', action='store_true', help='print nothing of what was accepted but the count')
+    words.add_argument('--read', dest='whole', action='store_true',
+                       help="read every byte of each file, also those that nothing depends on, so that a disk that can't give them is noticed")
     words.add_argument('--compare', action='store_true',
                        help='compare the frames that were sent again to be compared (VERIFY); that takes memory for the pages')
     words.add_argument('--host', action='store_true', help='with --json: put the name of this host in each object')

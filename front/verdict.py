@@ -170,11 +170,11 @@ def compared(name, path, source):
     return of_answer(name, source, form, 'verify', program.run(path, ['verify'], source, form.begins))
 
 
-def of_file(name, judge):
-    """The verdict of a file with this name, as a function answers it of a name and a source."""
+def of_file(name, judge, kind=sources.Plain):
+    """The verdict of a file with this name, as a function answers it of a name and a source, of this kind where it isn't packed."""
     source = None
     try:
-        source = sources.source_of(name)
+        source = sources.source_of(name, kind)
         return judge(name, source)
     except errors.Special:
         return Verdict.of(name, NOT_JUDGED, errors.REFUSED, SPECIAL)

@@ -32,6 +32,7 @@ complete -c mig -n '__fish_seen_subcommand_from check digest' -s j -x -d 'up to 
 complete -c mig -n '__fish_seen_subcommand_from check digest' -s q -d 'print nothing of what is well'
 complete -c mig -n '__fish_seen_subcommand_from digest' -l check -d 'check a list of digests'
 complete -c mig -n '__fish_seen_subcommand_from check info' -l json -d 'print one JSON object for each file'
+complete -c mig -n '__fish_seen_subcommand_from check' -l read -d 'read every byte of each file'
 complete -c mig -n '__fish_seen_subcommand_from check' -l compare -d 'compare frames that were sent again'
 complete -c mig -n '__fish_seen_subcommand_from check' -l host -d 'put the name of this host in each object'
 complete -c mig -n '__fish_seen_subcommand_from check' -l skip-seen -r -d 'pass over what a file of such objects tells of'
