@@ -63,12 +63,14 @@ fn main(rt: HostRuntime) -> ExitCode {
         let _ = put_line(&mut report, Outcome::Memory);
         return ExitCode::from(Status::Memory.code());
     };
-    if reads_by_place(&words)
-        && let Some((file, at)) = StandardFile::of(rt.stdin())
-    {
-        let status = run_standard_file(alloc, &words, &file, at, &mut out, &mut report);
-        return ExitCode::from(status.code());
-    }
-    let status = run_as_it_comes(alloc, &words, rt.stdin(), &mut out, &mut report);
+    let file = if reads_by_place(&words) {
+        StandardFile::of(rt.stdin())
+    } else {
+        None
+    };
+    let status = match file {
+        Some((file, at)) => run_standard_file(alloc, &words, &file, at, &mut out, &mut report),
+        None => run_as_it_comes(alloc, &words, rt.stdin(), &mut out, &mut report),
+    };
     ExitCode::from(status.code())
 }

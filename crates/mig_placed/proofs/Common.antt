@@ -1,0 +1,20 @@
+-- Names that many proofs of this crate use.
+pub use Rattle.std.proofs.Common.{Bool, IfSome, List, None, Option, Result, Some, [], ap, append-nil, append_assoc, arith, cond, drop, drop-drop, false, inl, inr, length, length-append, refl, rules, subst, suc, sym, take, true, zero, ℕ, ◌*◌, ◌++◌, ◌+◌, ◌-◌, ◌<◌, ◌^◌, ◌∙◌, ◌∷◌, ◌≡◌, ◌≢◌, ◌≤◌}
+pub use Rattle.std.proofs.lemmas.Bool.{cases_eq}
+pub use Rattle.std.proofs.lemmas.List.{length-drop, length-take, take-append-le, take_all}
+pub use Rattle.std.specs.FinMap.{get-empty}
+pub use Rattle.std.specs.Option.{option_map, unwrap_or}
+pub use Rattle.std.specs.Ordering.{nat_cmp}
+pub use Rattle.mig_bytes.proofs.NumberMaps.{inserted, inserted_other, removed, removed_other}
+pub use Rattle.mig_pagestore.proofs.FrameCells.{cell_some, place_of_cell, type_of_cell}
+pub use Rattle.mig_pagestore.proofs.Mapping.{get-mapped, len-mapped, mapped-empty, mapped-insert, mapped-remove}
+pub use Rattle.mig_pagestore.proofs.Places.{length_whole, whole_is}
+pub use Rattle.mig_pagestore.specs.FrameView.{AreCells, IsCell, cell_type, is_place, whole_page}
+pub use Rattle.mig_pagestore.specs.Frames.{FrameMap, FrameOf, framed}
+pub use Rattle.mig_pagestore_index.specs.Indexed.{ValueMap}
+pub use Rattle.mig_pagetypes.specs.FrameWords.{word_of}
+pub use Rattle.mig_pagetypes.specs.Limits.{pfn_limit}
+pub use Rattle.mig_pagetypes.specs.PageTypes.{type_has_data}
+pub use Rattle.mig_pagetypes.specs.declared.page_type.PageType.{PageType}
+pub use Rattle.mig_pagetypes.specs.declared.page_type.PageType.TheVariants.{Xtab}
+pub use Rattle.mig_placed.specs.InFile.{cell_for, frame_in_file, frames_in_file, page_bytes_at, place_for, place_limit, with_place}

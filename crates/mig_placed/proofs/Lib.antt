@@ -1,0 +1,3 @@
+mod Common
+pub mod Cells
+pub mod Seen

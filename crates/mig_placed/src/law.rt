@@ -1,0 +1,22 @@
+ghost use Rattle.std.specs.Prelude.{◌≡◌, ◌<◌, ◌+◌, ℕ, List, ◌++◌, length, Some, None};
+ghost use Rattle.std.specs.declared.option.Option.{Option};
+ghost use Rattle.std.specs.FinMap as maps;
+ghost use Rattle.mig_placed.specs.Common.{type_has_data, PageType, ValueMap, framed};
+ghost use Rattle.mig_placed.specs.InFile.{place_limit, place_for, with_place, page_in_file, frames_in_file};
+
+/// With any file places read as frames: no places as none; places with one set as the frames with that one set, and its page
+/// is the one at this place; and there are as many.
+#[tactic(auto, using(crate::proofs::Seen::none_placed, crate::proofs::Seen::set_placed, crate::proofs::Seen::len_placed))]
+pub fn places_read_as_frames()
+    ensures none { (file : Option (List ℕ)) → frames_in_file file maps.empty ≡ maps.empty }
+    ensures set { (file : Option (List ℕ)) (cells : ValueMap) (pfn : ℕ) (type : PageType) (at : ℕ) → at < place_limit
+        → frames_in_file file (with_place cells pfn type at) ≡ framed (frames_in_file file cells) pfn type (page_in_file file (place_for (type_has_data type) at)) }
+    ensures count { (file : Option (List ℕ)) (cells : ValueMap) → maps.len (frames_in_file file cells) ≡ maps.len cells }
+{}
+
+/// Behind so many bytes of a file stands as a page what stands there, where it is a whole page. At place 0 stands none.
+#[tactic(auto, using(crate::proofs::Seen::page_stands, crate::proofs::Seen::no_page_at_0))]
+pub fn page_is_where_it_stands()
+    ensures there { (front page rest : List ℕ) → length page ≡ 4096 → page_in_file (Some (front ++ (page ++ rest))) (length front + 1) ≡ Some page }
+    ensures none { (file : Option (List ℕ)) → page_in_file file 0 ≡ None }
+{}
