@@ -1,14 +1,6 @@
 -- Batches of frames one after another.
-use Rattle.mig_canon.proofs.Common.{◌≡◌, ℕ, suc, ◌+◌, ◌-◌, ◌*◌, ◌<◌, min, List, [], ◌∷◌, length, take, drop, true, cond, refl, sym, ap, ◌∙◌, arith, drop-drop, drop-cons, common_steps, length-drop, take_all, entries_from, Frame, Record, batch, frame_bodies, length-map-range_with_len, body_of, nat_le, take_min, drop_min, get_or-map-range_with_len}
-
--- ---- the cursor at the first frame
-
-pub from_zero : (fs : List Frame) → entries_from 0 fs ≡ fs
-from_zero [] = refl
-from_zero (f ∷ fs) = ap (λ b. cond b (f ∷ entries_from 0 fs) (entries_from 0 fs)) (zero_le f.0) ∙ ap (λ l. f ∷ l) (from_zero fs)
-  where
-    zero_le : (n : ℕ) → nat_le 0 n ≡ true
-    zero_le n = grind (arith, common_steps)
+use Rattle.mig_canon.proofs.Common.{◌≡◌, ℕ, suc, ◌+◌, ◌-◌, ◌*◌, ◌<◌, min, List, ◌∷◌, length, take, drop, sym, ap, ◌∙◌, arith, drop-drop, drop-cons, length-drop, take_all, Frame, Record, batch, batches, frame_bodies, most_entries, length-map-range_with_len, body_of, take_min, drop_min, get_or-map-range_with_len}
+use Rattle.std.specs.Int.{div_ceil}
 
 -- ---- all batches
 
@@ -38,3 +30,7 @@ module _ (fs : List Frame) (n : ℕ) where
 
   pub all_bodies : (k : ℕ) → k ≡ n → take k (frame_bodies fs n) ≡ frame_bodies fs n
   all_bodies k all = take_all k (frame_bodies fs n) (omega (arith, bodies_len, all))
+
+-- the number of batches, where the frames are counted
+pub batch_count : (fs : List Frame) (total n : ℕ) → total ≡ length fs → n ≡ div_ceil total most_entries → n ≡ batches fs
+batch_count fs total n is counted = counted ∙ ap (λ m. div_ceil m most_entries) is

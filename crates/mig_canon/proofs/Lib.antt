@@ -1,6 +1,7 @@
 pub mod Common
 pub mod Wholes
 pub mod Spelling
+pub mod Elsewhere
 pub mod Batches
 pub mod PvRecords
 pub mod CanonMaps

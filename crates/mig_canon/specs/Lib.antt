@@ -1,5 +1,6 @@
 mod Common
 pub mod Canon
+pub mod Elsewhere
 pub mod CanonStream
 pub mod Pieces
 pub mod Bare

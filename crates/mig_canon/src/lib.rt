@@ -11,7 +11,8 @@
 //! What the layers above rely on: for a whole guest the bytes that are appended are exactly `canon` of specs/Canon, and
 //! after a failed write a part of them that isn't all; a failure is answered only where the count of the sink rose; and the
 //! canonical image of a bare guest is accepted with this guest, whatever follows it, and so is one with its frames in other
-//! records. It takes no memory. A writer of frames that come from elsewhere takes the pieces: `write_headers` appends the
+//! records. It takes no memory. `write_canon_with` writes the frames of any `FrameSequence`, of a guest that need only be well
+//! formed. A writer of other frames takes the pieces: `write_headers` appends the
 //! headers alone; `write_codes` the records of the parts of some codes, of a guest that need only be well formed;
 //! `write_static` the policies; `write_info`, `write_p2m_frames` and `write_vcpus` what a PV guest alone has.
 //!
@@ -29,4 +30,4 @@ mod writer;
 
 pub use law::{canonical_image_is_accepted, frames_may_come_in_any_records};
 pub use pv::{write_info, write_p2m_frames, write_vcpus};
-pub use writer::{write_canon, write_codes, write_headers, write_static};
+pub use writer::{write_canon, write_canon_with, write_codes, write_headers, write_static};

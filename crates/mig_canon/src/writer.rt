@@ -1,6 +1,11 @@
+ghost use Rattle.std.specs.Prelude.{◌≡◌, true};
+ghost use Rattle.std.specs.FinMap as maps;
+ghost use Rattle.mig_guest.specs.Frames.{FrameMap};
 ghost use Rattle.mig_canon.specs.Common.{Puts, FaultHasCause, IsFormed, IsWhole, text_of};
 ghost use Rattle.std.specs.List.{flat_map};
+ghost use Rattle.mig_records_pages.specs.Copied.{IsPageBuffer, Copies, CopyHasCause};
 ghost use Rattle.mig_canon.specs.Canon.{headers, records_of, static_bodies, last_records, canon};
+ghost use Rattle.mig_canon.specs.Elsewhere.{with_frames, before_frames, behind_frames};
 
 use crate::frames::write_frames;
 use crate::parts::write_parts;
@@ -9,7 +14,7 @@ use mig_bytes::{Sink, WriteFailed, put_all};
 use mig_guest::{Guest, PartCode};
 use mig_headers::{DomainHeader, ImageHeader, Kind, STATIC_DATA_END};
 use mig_records::write_record;
-use mig_records_pages::write_end;
+use mig_records_pages::{CopyFailed, FrameSequence, page_buffer, write_end};
 
 /// Appends the headers of a canonical image of a guest of this kind.
 #[tactic(auto, using(mig_bytes::proofs::Texts::puts_then))]
@@ -81,19 +86,66 @@ fn write_last<K: Sink>(sink: &mut K, guest: &Guest) -> Result<(), WriteFailed>
     }
 }
 
-/// Appends the canonical image of the guest, in which nothing stands of emulators. After `WriteFailed` some first bytes of
-/// it are appended, but not all.
-#[tactic(auto, using(mig_bytes::proofs::Texts::puts_then, mig_bytes::proofs::Texts::puts_stop, mig_bytes::proofs::Texts::puts_same, crate::proofs::Spelling::canon_is))]
-pub fn write_canon<K: Sink>(sink: &mut K, guest: &Guest) -> Result<(), WriteFailed>
-    requires { IsWhole guest.now }
-    ensures bytes { Puts (canon guest.now) (K.written sink.old) (K.written sink.new) result }
+/// Appends what stands before the frames.
+#[tactic(auto, using(mig_bytes::proofs::Texts::puts_then, mig_bytes::proofs::Texts::puts_stop, mig_bytes::proofs::Texts::puts_same))]
+fn write_before<K: Sink>(sink: &mut K, guest: &Guest) -> Result<(), WriteFailed>
+    requires { IsFormed guest.now }
+    ensures bytes { Puts (before_frames guest.now) (K.written sink.old) (K.written sink.new) result }
     ensures cause { FaultHasCause (K.faults sink.old) (K.faults sink.new) result }
 {
     write_opening(sink, guest)?;
     write_info(sink, guest)?;
     write_static(sink, guest)?;
-    write_p2m_frames(sink, guest)?;
-    write_frames(sink, guest)?;
+    write_p2m_frames(sink, guest)
+}
+
+/// Appends what stands behind the frames.
+#[tactic(auto, using(mig_bytes::proofs::Texts::puts_then, mig_bytes::proofs::Texts::puts_stop, mig_bytes::proofs::Texts::puts_same))]
+fn write_behind<K: Sink>(sink: &mut K, guest: &Guest) -> Result<(), WriteFailed>
+    requires { IsFormed guest.now }
+    ensures bytes { Puts (behind_frames guest.now) (K.written sink.old) (K.written sink.new) result }
+    ensures cause { FaultHasCause (K.faults sink.old) (K.faults sink.new) result }
+{
     write_last(sink, guest)?;
     write_end(sink)
+}
+
+/// Appends the canonical image of a guest with frames that come from elsewhere, through a buffer of pages: all else is this
+/// guest's, whose own frames don't count. After an error some first bytes of the image are appended, but not all.
+pub fn write_canon_with<K: Sink, F: FrameSequence>(
+    sink: &mut K,
+    guest: &Guest,
+    frames: &F,
+    buffer: &mut [u8],
+) -> Result<(), CopyFailed>
+    requires formed { IsFormed guest.now }
+    requires room { IsPageBuffer buffer.old }
+    ensures bytes { (map : FrameMap) → F.frames_from frames.now 0 ≡ maps.entries map → F.told frames.now ≡ true → Copies (canon (with_frames guest.now map)) (K.written sink.old) (K.written sink.new) result }
+    ensures cause { CopyHasCause (K.faults sink.old) (K.faults sink.new) (F.fails frames.now) result }
+{
+    let Ok(()) = write_before(sink, guest) else {
+        return Err(CopyFailed::Write);
+    };
+    match write_frames(sink, frames, buffer) {
+        Ok(()) => {}
+        Err(failed) => return Err(failed),
+    }
+    match write_behind(sink, guest) {
+        Ok(()) => Ok(()),
+        Err(_) => Err(CopyFailed::Write),
+    }
+}
+
+/// Appends the canonical image of the guest, in which nothing stands of emulators. After `WriteFailed` some first bytes of
+/// it are appended, but not all.
+pub fn write_canon<K: Sink>(sink: &mut K, guest: &Guest) -> Result<(), WriteFailed>
+    requires { IsWhole guest.now }
+    ensures bytes { Puts (canon guest.now) (K.written sink.old) (K.written sink.new) result }
+    ensures cause { FaultHasCause (K.faults sink.old) (K.faults sink.new) result }
+{
+    let mut buffer = page_buffer();
+    match write_canon_with(sink, guest, guest, &mut buffer) {
+        Ok(()) => Ok(()),
+        Err(_) => Err(WriteFailed),
+    }
 }

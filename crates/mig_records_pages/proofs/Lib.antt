@@ -3,3 +3,4 @@ pub mod Written
 pub mod Joins
 pub mod ListSteps
 pub mod PageTexts
+pub mod Copying

@@ -1,10 +1,8 @@
 -- The words and pages of frames, one after another, and the record that they make.
-use Rattle.std.proofs.Common.{List, Option, Result, Ok, Err, [], ap, arith, drop, length, length-append, refl, replicate, sym, take, ℕ, ◌*◌, ◌++◌, ◌+◌, ◌∙◌, ◌∷◌, ◌≡◌, ◌≤◌}
+use Rattle.std.proofs.Common.{List, [], ap, arith, drop, length, length-append, refl, replicate, sym, take, ℕ, ◌*◌, ◌++◌, ◌+◌, ◌∙◌, ◌∷◌, ◌≡◌, ◌≤◌}
 use Rattle.std.proofs.Math.Seq.{take-append-add}
 use Rattle.std.proofs.lemmas.List.{length-take}
-use Rattle.std.specs.Prelude.{OnErr}
-use Rattle.mig_bytes.specs.Bytes.{AppendsPart, Puts, padding_len}
-use Rattle.mig_bytes.specs.declared.failure.WriteFailed.{WriteFailed}
+use Rattle.mig_bytes.specs.Bytes.{padding_len}
 use Rattle.mig_records_pages.specs.PageData.{Frame, frame_word_in, page_in, pages_of, words_of, body_of}
 use Rattle.mig_records.specs.Records.{head_of, spelled}
 use Rattle.byteorder.specs.Endian.{little_bytes}
@@ -56,16 +54,3 @@ words_put i fs rest e buf new is room before put =
     ap (take (8 * (i + 1))) put ∙ ap (λ n. take n (front ++ (field ++ behind))) (let e : 8 * (i + 1) ≡ length front + 8 = omega (arith, size) in e)
     ∙ take-append-add front (field ++ behind) 8 ∙ ap (λ l. l ++ field) before
     ∙ sym (flat_next (λ f. little_bytes 8 (frame_word_in f)) i fs rest e is)
-
--- ---- the pages in a buffer
-
--- one frame's page more
-pub pages_put : (i : ℕ) (fs rest : List Frame) (e : Frame) (n m : ℕ) (buf new : List ℕ) → drop i fs ≡ e ∷ rest → take (4096 * n) buf ≡ pages_of (take i fs) → take (4096 * (n + m)) new ≡ take (4096 * n) buf ++ page_in e
-    → take (4096 * (n + m)) new ≡ pages_of (take (i + 1) fs)
-pages_put i fs rest e n m buf new is before put = put ∙ ap (λ l. l ++ page_in e) before ∙ sym (flat_next page_in i fs rest e is)
-
--- ---- where a write failed
-
-pub part_written : {X : Type 0} (text : List ℕ) (old new : Option (List ℕ)) (r : Result X WriteFailed) → Puts text old new r → OnErr r (AppendsPart old new text)
-part_written text old new (Ok x) puts = tt
-part_written text old new (Err e) puts = puts

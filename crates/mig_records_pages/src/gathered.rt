@@ -1,13 +1,16 @@
-ghost use Rattle.std.specs.Prelude.{◌≡◌, ◌+◌, ◌*◌, ◌≤◌, [], ◌++◌, length, take};
+ghost use Rattle.std.specs.Prelude.{◌≡◌, ◌*◌, ◌≤◌, [], length, take};
 ghost use Rattle.std.specs.Option.{option_copied, unwrap_or};
+ghost use Rattle.mig_records_pages.specs.Copied.{IsPageBuffer};
 
 /// Room for the words of a batch.
 pub(crate) fn no_words() -> [u8; 8192] {
     [0; 8192]
 }
 
-/// Room for the pages of one write.
-pub(crate) fn no_pages() -> [u8; 16384] {
+/// Room for the pages of one write, where they are gathered from memory.
+pub fn page_buffer() -> [u8; 16384]
+    ensures { IsPageBuffer result }
+{
     [0; 16384]
 }
 
@@ -30,17 +33,16 @@ pub(crate) fn pages_with(page: Option<&[u8; 4096]>) -> u32
     }
 }
 
-/// Puts the page, if there is one, behind so many pages; answers how many came: 1 or 0.
-pub(crate) fn put_page(buffer: &mut [u8], pages: u32, page: Option<&[u8; 4096]>) -> u32
-    requires room { 4096 * (pages + 1) ≤ length buffer.old }
-    ensures bytes { take (4096 * (pages + result)) buffer.new ≡ take (4096 * pages) buffer.old ++ unwrap_or (option_copied page.entry) [] }
+/// Puts the page, if there is one, to the front of the buffer; answers how many came: 1 or 0.
+pub(crate) fn put_page(buffer: &mut [u8], page: Option<&[u8; 4096]>) -> u32
+    requires room { 4096 ≤ length buffer.old }
+    ensures bytes { take (4096 * result) buffer.new ≡ unwrap_or (option_copied page.entry) [] }
     ensures room { length buffer.new ≡ length buffer.old }
     ensures most { result ≤ 1 }
 {
     match page {
         Some(bytes) => {
-            let at = 4096 * pages as usize;
-            buffer[at..at + 4096].copy_from_slice(bytes);
+            buffer[0..4096].copy_from_slice(bytes);
             1
         }
         None => 0,

@@ -1,4 +1,4 @@
-use Rattle.std.proofs.Common.{◌≡◌, ◌≤◌, ◌-◌, length, take, drop}
+use Rattle.std.proofs.Common.{◌≡◌, ◌≤◌, ◌-◌, true, length, take, drop}
 use Rattle.std.specs.Io.KnownBytes.{Appends}
 use Rattle.mig_records_pages.specs.PageData.{pages_of}
 use Rattle.mig_records_pages.proofs.pages.write_pages.Given as goal
@@ -6,9 +6,9 @@ use Rattle.mig_records_pages.proofs.pages.write_pages.Given as goal
 abbrev pub invariant-loop-done : goal.invariant-loop-done
 invariant-loop-done g l = record {
   at : g.F.FrameSequence.frames_from l.frames l.place ≡ drop l.done (g.F.FrameSequence.frames_from l.frames l.start);
-  bytes : Appends (g.K.Sink.written l.fn.sink) (g.K.Sink.written l.sink) (pages_of (take l.done (g.F.FrameSequence.frames_from l.frames l.start)));
+  bytes : g.F.FrameSequence.told l.frames ≡ true → Appends (g.K.Sink.written l.fn.sink) (g.K.Sink.written l.sink) (pages_of (take l.done (g.F.FrameSequence.frames_from l.frames l.start)));
   within : l.done ≤ l.count;
-  room : length l.buffer ≡ 16384;
+  room : length l.buffer ≡ length l.fn.buffer;
   quiet : g.K.Sink.faults l.sink ≡ g.K.Sink.faults l.fn.sink;
 }
 
