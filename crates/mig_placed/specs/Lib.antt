@@ -1,2 +1,3 @@
 mod Common
 pub mod InFile
+pub mod Runs

@@ -3,15 +3,17 @@ ghost use Rattle.std.specs.declared.option.Option.{Option};
 ghost use Rattle.std.specs.FinMap as maps;
 ghost use Rattle.mig_placed.specs.Common.{type_has_data, PageType, ValueMap, framed};
 ghost use Rattle.mig_placed.specs.InFile.{place_limit, place_for, with_place, page_in_file, frames_in_file};
+ghost use Rattle.mig_placed.specs.Runs.{frames_after};
 
 /// With any file places read as frames: no places as none; places with one set as the frames with that one set, and its page
-/// is the one at this place; and there are as many.
-#[tactic(auto, using(crate::proofs::Seen::none_placed, crate::proofs::Seen::set_placed, crate::proofs::Seen::len_placed))]
+/// is the one at this place; there are as many; and from number 0 on they are all frames.
+#[tactic(auto, using(crate::proofs::Seen::none_placed, crate::proofs::Seen::set_placed, crate::proofs::Seen::len_placed, crate::proofs::Seen::all_placed))]
 pub fn places_read_as_frames()
     ensures none { (file : Option (List ℕ)) → frames_in_file file maps.empty ≡ maps.empty }
     ensures set { (file : Option (List ℕ)) (cells : ValueMap) (pfn : ℕ) (type : PageType) (at : ℕ) → at < place_limit
         → frames_in_file file (with_place cells pfn type at) ≡ framed (frames_in_file file cells) pfn type (page_in_file file (place_for (type_has_data type) at)) }
     ensures count { (file : Option (List ℕ)) (cells : ValueMap) → maps.len (frames_in_file file cells) ≡ maps.len cells }
+    ensures all { (file : Option (List ℕ)) (cells : ValueMap) → frames_after file cells 0 ≡ maps.entries (frames_in_file file cells) }
 {}
 
 /// Behind so many bytes of a file stands as a page what stands there, where it is a whole page. At place 0 stands none.

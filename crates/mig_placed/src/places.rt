@@ -2,6 +2,7 @@ ghost use Rattle.std.specs.Prelude.{◌≡◌, ◌≢◌, ℕ, ◌+◌, ◌<◌,
 ghost use Rattle.std.specs.FinMap as maps;
 ghost use Rattle.mig_placed.specs.Common.{type_has_data, pfn_limit, Xtab, cell_type, cell_place, IsCell};
 ghost use Rattle.mig_placed.specs.InFile.{place_limit, place_for, cell_for, with_place};
+ghost use Rattle.mig_placed.specs.Runs.{IsFirstCell};
 
 use mig_bytes::Memory;
 use mig_pagestore_index::Index;
@@ -100,8 +101,7 @@ impl Places {
     /// page, counted from 1; 0 is none.
     pub fn next(&self, from: u64) -> Option<(u64, FrameWord)>
         ensures none { IfNone result ((k : ℕ) → from ≤ k → maps.get self.now k ≡ None) }
-        ensures there { IfSome result (λ e. (c : ℕ) × IsCell c × (maps.get self.now e.0 ≡ Some c) × (cell_type c ≡ e.1.kind) × (cell_place c ≡ e.1.pfn)) }
-        ensures least { IfSome result (λ e. (from ≤ e.0) × ((k : ℕ) → from ≤ k → k < e.0 → maps.get self.now k ≡ None)) }
+        ensures first { IfSome result (λ e. IsFirstCell self.now from e) }
         ensures small { IfSome result (λ e. (e.0 < pfn_limit) × (e.1.pfn ≤ place_limit)) }
     {
         match self.index.next(from) {
