@@ -2,3 +2,5 @@ mod Common
 pub mod Cells
 pub mod Seen
 pub mod RunSteps
+pub mod Patches
+pub mod JoinedBytes

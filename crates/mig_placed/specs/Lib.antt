@@ -1,3 +1,4 @@
 mod Common
 pub mod InFile
+pub mod Joined
 pub mod Runs

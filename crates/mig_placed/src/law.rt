@@ -3,6 +3,7 @@ ghost use Rattle.std.specs.declared.option.Option.{Option};
 ghost use Rattle.std.specs.FinMap as maps;
 ghost use Rattle.mig_placed.specs.Common.{type_has_data, PageType, ValueMap, framed};
 ghost use Rattle.mig_placed.specs.InFile.{place_limit, place_for, with_place, page_in_file, frames_in_file};
+ghost use Rattle.mig_placed.specs.Joined.{EndAllWithin};
 ghost use Rattle.mig_placed.specs.Runs.{frames_after};
 
 /// With any file places read as frames: no places as none; places with one set as the frames with that one set, and its page
@@ -21,4 +22,12 @@ pub fn places_read_as_frames()
 pub fn page_is_where_it_stands()
     ensures there { (front page rest : List ℕ) → length page ≡ 4096 → page_in_file (Some (front ++ (page ++ rest))) (length front + 1) ≡ Some page }
     ensures none { (file : Option (List ℕ)) → page_in_file file 0 ≡ None }
+{}
+
+/// Places that end within a file read the same where more bytes stand behind it, and a place behind them as the page among
+/// those bytes.
+#[tactic(auto, using(crate::proofs::Patches::same_frames, crate::proofs::Patches::page_behind))]
+pub fn places_stay_where_more_is_behind()
+    ensures within { (all more : List ℕ) (cells : ValueMap) → EndAllWithin (length all) cells → frames_in_file (Some (all ++ more)) cells ≡ frames_in_file (Some all) cells }
+    ensures behind { (all more : List ℕ) (at : ℕ) → page_in_file (Some (all ++ more)) ((length all + at) + 1) ≡ page_in_file (Some more) (at + 1) }
 {}

@@ -1,14 +1,18 @@
-ghost use Rattle.std.specs.Prelude.{◌≡◌, ◌≢◌, ℕ, ◌+◌, ◌<◌, ◌≤◌, ◌^◌, OnOk, OnErr, IfSome, IfNone, Some, None};
+ghost use Rattle.std.specs.Prelude.{◌≡◌, ◌≢◌, ℕ, ◌+◌, ◌<◌, ◌≤◌, ◌^◌, OnOk, OnErr, IfSome, IfNone, Some, None, true};
 ghost use Rattle.std.specs.FinMap as maps;
 ghost use Rattle.mig_placed.specs.Common.{type_has_data, pfn_limit, Xtab, cell_type, cell_place, IsCell};
 ghost use Rattle.mig_placed.specs.InFile.{place_limit, place_for, cell_for, with_place};
 ghost use Rattle.mig_placed.specs.Runs.{IsFirstCell};
+ghost use Rattle.mig_placed.specs.Joined.{EndAllWithin};
 
 use mig_bytes::Memory;
 use mig_pagestore_index::Index;
 use mig_pagetypes::{FrameWord, PageType, decode_word, encode_word};
 use std::alloc::Global;
 use std::marker::Model;
+
+/// How many bytes a page has.
+pub(crate) const PAGE: u64 = 4096;
 
 /// The cells of frames, by frame number (PFN): the type of each, and where in a file its page stands.
 #[derive(Drop)]
@@ -108,5 +112,19 @@ impl Places {
             Some((pfn, cell)) => Some((pfn, read_cell(cell))),
             None => None,
         }
+    }
+
+    /// Whether the pages of all frames end within so many bytes.
+    pub fn end_within(&self, size: u64) -> bool
+        ensures { result ≡ true → EndAllWithin size self.now }
+    {
+        let mut from = 0;
+        while let Some((pfn, cell)) = self.next(from) {
+            if cell.pfn > 0 && cell.pfn - 1 + PAGE > size {
+                return false;
+            }
+            from = pfn + 1;
+        }
+        true
     }
 }

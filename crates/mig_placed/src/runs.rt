@@ -5,13 +5,10 @@ ghost use Rattle.mig_placed.specs.InFile.{place_limit};
 ghost use Rattle.mig_placed.specs.Runs.{frames_after, IsFirstCell, IsRunFrom, IsSmallRun};
 ghost use Rattle.mig_file.specs.Bytes.{IsThere};
 
-use crate::places::Places;
+use crate::places::{PAGE, Places};
 use mig_bytes::Failed;
 use mig_file::PageFile;
 use mig_pagetypes::FrameWord;
-
-/// How many bytes a page has.
-const PAGE: u64 = 4096;
 
 /// Pages that stand one behind another in a file: where the first one stands, how many pages they are, of how many frames
 /// they are all pages, and the number behind these frames.
