@@ -17,7 +17,10 @@ fn a_file_is_read_on(rt: HostRuntime) -> Result<(), Fail> {
     assert_eq!(rt; (buf, src.at()), ([15, 16], 7));
     assert_eq!(rt; skip(&mut again, 5), Ok(true));
     assert_eq!(rt; take_exact(&mut again, &mut buf), Ok(Got::Short(1)));
-    assert_eq!(rt; (again.read(&mut buf), again.pass(3), again.at()), (Ok(0), Ok(0), 9));
+    assert_eq!(rt;
+        (again.read(&mut buf), again.pass(3), again.at()),
+        (Ok(0), Ok(0), 9)
+    );
     Ok(())
 }
 
@@ -41,8 +44,14 @@ fn a_file_ends(rt: HostRuntime) -> Result<(), Fail> {
     let file = MemFile::new(vec![in rt.alloc(); 10, 11, 12]?, vec![in rt.alloc(); 7]?);
     file.has_bytes();
     let mut buf = [0; 2];
-    assert_eq!(rt; (file.size(), file.read_at(1, &mut buf), buf), (3, Ok(()), [11, 12]));
-    assert_eq!(rt; (file.read_at(2, &mut buf), file.read_at(u64::MAX, &mut buf)), (Err(Failed), Err(Failed)));
+    assert_eq!(rt;
+        (file.size(), file.read_at(1, &mut buf), buf),
+        (3, Ok(()), [11, 12])
+    );
+    assert_eq!(rt;
+        (file.read_at(2, &mut buf), file.read_at(u64::MAX, &mut buf)),
+        (Err(Failed), Err(Failed))
+    );
     assert_eq!(rt; file.read_at(3, &mut buf[..0]), Ok(()));
     let mut beyond = FileSource::new(&file, 9);
     assert_eq!(rt; (beyond.read(&mut buf), beyond.pass(1)), (Ok(0), Ok(0)));

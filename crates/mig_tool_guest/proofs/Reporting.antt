@@ -1,6 +1,6 @@
 -- What a command answers.
-use Rattle.mig_tool_guest.proofs.Common.{inl, inr, Appends, AppendsPart, Passes, AcceptedLegacy, StreamOf, ReadsStream, Outcome, Status, Reading, ◌⊎◌, ◌≡◌, ℕ, ◌++◌, List, length, arith, Option, Some, None, Result, Ok, Err, refl, sym, ap, subst, ◌∙◌, GuestOf, AcceptedStream, Kind, Hvm, Pv, Accepting, Normalised, PartWritten, IsCarried, IsFew, IsBase, restored_text, InputRises, IsUnwritten, ComesTo, Effects, restore_promise, text_written, unwritten, status_of, summary_of, mean_kind, Puts, accepted_is_stream, canon_any, stream_at, IsStreamReading, ok_line, OutputRises}
-use Rattle.mig_tool_guest.proofs.Says.{ConvertComes, NormaliseComes, RestoreComes, VerifySays}
+use Rattle.mig_tool_guest.proofs.Common.{inl, inr, Appends, AppendsPart, Passes, AcceptedLegacy, StreamOf, ReadsStream, Outcome, Status, Reading, ◌⊎◌, ◌≡◌, ℕ, ◌++◌, List, arith, Option, Some, None, Result, Ok, Err, refl, sym, subst, GuestOf, AcceptedStream, Kind, Hvm, Pv, Accepting, Normalised, PartWritten, IsCarried, IsFew, IsBase, restored_text, InputRises, IsUnwritten, ComesTo, Effects, restore_promise, text_written, unwritten, status_of, accepted_is_stream, canon_any, stream_at, IsStreamReading, OutputRises}
+use Rattle.mig_tool_guest.proofs.Says.{ConvertComes, NormaliseComes, RestoreComes}
 use Rattle.mig_bytes.specs.declared.failure.WriteFailed.{WriteFailed}
 use Rattle.mig_host.proofs.HostedGuests.{whole_valid, whole_sound, whole_seen}
 use Rattle.mig_host.specs.Hosted.{hosted, IsBaseOutside}
@@ -13,10 +13,6 @@ use Rattle.mig_libxl.proofs.AnyCanons.{canon_is_accepted, canon_is_one_to_one}
 use Rattle.mig_pvtables.proofs.HvmGuests.{hvm_complete}
 use Rattle.mig_pvtables.proofs.PvGuests.{pv_complete}
 use Rattle.mig_pvtables.specs.Whole.{IsWhole}
-use Rattle.mig_tool_report.specs.declared.outcome.Summary.{Summary}
-use Rattle.mig_restore_form.specs.Mean.{differs_of}
-use Rattle.mig_restore_form.specs.Stream.{ImageOf}
-use Rattle.std.specs.FinMap as maps
 use Rattle.mig_tool_report.specs.declared.outcome.Outcome.TheVariants as outcomes
 use Rattle.mig_tool_report.specs.declared.status.Status.TheVariants as statuses
 

@@ -1,8 +1,8 @@
 -- What is said of a stream that was read, or judged.
-use Rattle.mig_tool_guest.proofs.Common.{Appends, AppendsPart, Passes, StreamOf, Status, ◌≡◌, ◌∙◌, ℕ, List, length, Option, Some, None, Result, Ok, Err, refl, sym, ap, subst, GuestOf, AcceptedStream, Reading, mean_kind, Puts, accepted_is_stream, stream_at, IsStreamReading, ok_line, summary_of}
+use Rattle.mig_tool_guest.proofs.Common.{Passes, StreamOf, Status, ◌≡◌, ◌∙◌, ℕ, List, length, Option, Some, None, Result, Ok, Err, refl, sym, ap, subst, CarriedOut, GuestOf, SinkEffect, effects, AcceptedStream, Reading, mean_kind, Puts, accepted_is_stream, stream_at, IsStreamReading, ok_line, summary_of, verify_promise}
 use Rattle.mig_tool_guest.proofs.Reporting.{reported}
 use Rattle.mig_tool_guest.proofs.Says.{VerifySays}
-use Rattle.mig_tool_guest.specs.Fronts.{IsSummary, summary_in}
+use Rattle.mig_tool_guest.specs.Fronts.{IsSummary, input_with}
 use Rattle.mig_bytes.specs.Judged.{AgreesWithJudging}
 use Rattle.mig_bytes.specs.declared.failure.WriteFailed.{WriteFailed}
 use Rattle.mig_libxl.specs.Reads.{IsStreamTally}
@@ -56,3 +56,21 @@ verified (Some input) left old new s r status (stream, rest, accepts, left_is, i
     by : (r : Result (Unit {0}) WriteFailed) → Puts (ok_line (summary_of (told_as input rest stream s accepts is_summary))) old new r → VerifySays (Some input) left old new (reported r)
     by (Ok u) put = record { guest = guest_of is_summary.image stream; rest = rest; accepted = told_as input rest stream s accepts is_summary; left_is = left_is; reported = put }
     by (Err e) put = record { guest = guest_of is_summary.image stream; rest = rest; accepted = told_as input rest stream s accepts is_summary; left_is = left_is; reported = put }
+
+-- ---- an input of a source
+
+-- what is promised of a line hangs on the input's bytes and its failed reads alone
+pub of_source : (unread : Type 0) (told left : Option (List ℕ)) (failed failed_now : ℕ) (out report : SinkEffect) (status : Status) → CarriedOut verify_promise (effects (input_with told left failed failed_now) out report) status
+    → CarriedOut verify_promise (effects (record { told = told; left = left; failed = failed; failed_now = failed_now; Unread = unread }) out report) status
+of_source unread told left failed failed_now out report status c = record {
+  said = c.said;
+  known = c.known;
+  kept = c.kept;
+  read = c.read;
+  write = c.write;
+  line = c.line;
+  own_line = c.own_line;
+  out_faults = c.out_faults;
+  report_faults = c.report_faults;
+  besides = c.besides;
+}

@@ -1,5 +1,5 @@
 -- What a check answers.
-use Rattle.mig_tool_guest.proofs.Common.{Appends, AppendsPart, Passes, StreamOf, Status, StatusSays, ◌≡◌, ◌∙◌, ℕ, List, length, Option, Some, None, Result, Ok, Err, refl, sym, subst, GuestOf, AcceptedStream, HasStreamRefusal, HasLegacyRefusal, summary_of, Puts, accepted_is_stream, stream_at}
+use Rattle.mig_tool_guest.proofs.Common.{Appends, AppendsPart, Passes, StreamOf, Status, StatusSays, ◌≡◌, ◌∙◌, ℕ, List, length, Option, Some, None, Result, Ok, Err, refl, sym, subst, AcceptedStream, HasStreamRefusal, HasLegacyRefusal, summary_of, Puts, accepted_is_stream, stream_at}
 use Rattle.mig_tool_guest.proofs.Reporting.{accepted_legacy, reported}
 use Rattle.mig_bytes.specs.declared.failure.WriteFailed.{WriteFailed}
 use Rattle.mig_legacy.specs.Legacy.{mean_legacy}

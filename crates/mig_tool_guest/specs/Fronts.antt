@@ -1,5 +1,5 @@
 -- An accepted front of the input, and what was written or reported of its guest.
-use Rattle.std.specs.Prelude.{◌≡◌, ◌↔◌, ◌≤◌, ℕ, List, ◌++◌, length, Some, Option}
+use Rattle.std.specs.Prelude.{◌≡◌, ◌↔◌, ◌≤◌, ℕ, List, ◌++◌, length, ⊤, Some, Option}
 use Rattle.std.specs.FinMap as maps
 use Rattle.mig_tool_guest.specs.Common.{Appends, AppendsPart, Passes, GuestOf, IsValid, host_at, IsSound, view, canon_any, AcceptedStream, ok_line}
 use Rattle.mig_host.specs.Hosted.{hosted}
@@ -10,6 +10,7 @@ use Rattle.mig_legacy.specs.Spelled.{AcceptedLegacy}
 use Rattle.mig_libxl_form.specs.Stream.{StreamOf, guest_of, image_of_stream}
 use Rattle.mig_restore_form.specs.Mean.{differs_of}
 use Rattle.mig_restore_form.specs.Stream.{ImageOf}
+use Rattle.mig_tool_report.specs.Promises.{InputEffect}
 use Rattle.mig_tool_report.specs.Report.{checked_legacy_line, checked_line, uncompared}
 use Rattle.mig_tool_report.specs.declared.outcome.Summary.{Summary}
 
@@ -93,3 +94,7 @@ pub record LegacyChecked (Reported : List ℕ → Type 0) (input : List ℕ) (le
   pub accepted : AcceptedLegacy input guest rest
   pub left_is : left ≡ Some rest
   pub reported : Reported (checked_legacy_line (maps.len guest.frames))
+
+-- what a call did to an input, by its bytes and its failed reads alone
+abbrev pub input_with : (told left : Option (List ℕ)) → (failed failed_now : ℕ) → InputEffect
+input_with told left failed failed_now = record { told = told; left = left; failed = failed; failed_now = failed_now; Unread = ⊤ }

@@ -1,14 +1,13 @@
-ghost use Rattle.std.specs.Prelude.{◌≡◌, ◌⊎◌};
+ghost use Rattle.std.specs.Prelude.{◌≡◌, ◌⊎◌, ℕ, List, Option};
 ghost use Rattle.mig_tool_guest.specs.Common.{Appends, AppendsPart, canon_any, OutputRises, CarriedOut, ComesTo, effects, input_effect, sink_effect, unreached, status_of};
 ghost use Rattle.mig_pvtables.specs.Whole.{IsWhole};
 ghost use Rattle.mig_bytes.specs.Answers.{or_stop};
 ghost use Rattle.mig_bytes.specs.Faults.{RisesOnReadFault};
 ghost use Rattle.mig_bytes.specs.Judged.{AgreesWithJudging};
 ghost use Rattle.mig_libxl_form.specs.Stream.{stream_at};
-ghost use Rattle.mig_tool_guest.specs.Fronts.{IsSummary, restored_text};
+ghost use Rattle.mig_tool_guest.specs.Fronts.{IsSummary, input_with, restored_text};
 ghost use Rattle.mig_tool_guest.specs.Outcomes.{outcome_of};
 ghost use Rattle.mig_tool_guest.specs.Promises.{normalise_promise, convert_promise, restore_promise, verify_promise};
-ghost use Rattle.mig_tool_report.specs.Promises.{InputEffect};
 ghost use Rattle.mig_tool_report.specs.Words.{IsBase};
 ghost use Rattle.mig_tool_report.specs.declared.outcome.Outcome.TheVariants as outcomes;
 ghost use Rattle.mig_tool_report.specs.declared.outcome.Refusal.TheVariants as refusals;
@@ -173,12 +172,9 @@ pub(crate) fn summarised<S: Source>(alloc: Global, input: &mut S) -> Result<Summ
 }
 
 /// Puts on the report what is said of a stream, or why it isn't read.
-pub(crate) fn tell_summary<R: Sink>(
-    report: &mut R,
-    said: Result<Summary, StreamAnswer>,
-) -> Status
-    ensures { (input : InputEffect) → AgreesWithJudging IsSummary input.told input.left stream_at (or_stop said) → RisesOnReadFault input.failed input.failed_now (or_stop said)
-        → CarriedOut verify_promise (effects input unreached (sink_effect R.written R.faults report.old report.new)) result }
+pub(crate) fn tell_summary<R: Sink>(report: &mut R, said: Result<Summary, StreamAnswer>) -> Status
+    ensures { (told left : Option (List ℕ)) (failed failed_now : ℕ) → AgreesWithJudging IsSummary told left stream_at (or_stop said) → RisesOnReadFault failed failed_now (or_stop said)
+        → CarriedOut verify_promise (effects (input_with told left failed failed_now) unreached (sink_effect R.written R.faults report.old report.new)) result }
 {
     match said {
         Ok(summary) => match put_ok(report, summary) {
