@@ -1,7 +1,7 @@
 -- The canonical image of a guest with other frames, in parts.
 use Rattle.mig_canon.proofs.Common.{◌≡◌, ◌++◌, ◌∙◌, [], append_assoc, ap, refl, sym, FrameMap, GuestOf, Kind, Pv, Hvm, spelled, headers, info_records, static_bodies, p2m_records, last_records, frame_bodies, batches, frames_in, text_of, records_in_order, pv_last_codes}
 use Rattle.mig_canon.specs.Canon.{all_vcpus, canon}
-use Rattle.mig_canon.specs.Elsewhere.{with_frames, before_frames, behind_frames}
+use Rattle.mig_canon.specs.Elsewhere.{with_frames, before_the_frames, behind_the_frames}
 use Rattle.mig_canon.proofs.Spelling.{canon_is}
 
 p2m_with : (kind : Kind) (g : GuestOf) (fs : FrameMap) → p2m_records kind (with_frames g fs) ≡ p2m_records kind g
@@ -16,8 +16,8 @@ last_with : (kind : Kind) (g : GuestOf) (fs : FrameMap) → last_records kind (w
 last_with Pv g fs = ap (λ l. records_in_order pv_last_codes g ++ l) (vcpus_with g fs)
 last_with Hvm g fs = refl
 
-pub image_parts : (g : GuestOf) (fs : FrameMap) → canon (with_frames g fs) ≡ before_frames g ++ (text_of (frame_bodies (frames_in (with_frames g fs)) (batches (frames_in (with_frames g fs)))) ++ behind_frames g)
-unfolding before_frames behind_frames
+pub image_parts : (g : GuestOf) (fs : FrameMap) → canon (with_frames g fs) ≡ before_the_frames g ++ (text_of (frame_bodies (frames_in (with_frames g fs)) (batches (frames_in (with_frames g fs)))) ++ behind_the_frames g)
+unfolding before_the_frames behind_the_frames
 image_parts g fs =
     let h = with_frames g fs in
     let head = headers g.kind in let info = text_of (info_records g.kind) in let static = text_of (static_bodies g) in let p2m = text_of (p2m_records g.kind g) in

@@ -10,8 +10,8 @@ with_frames g frames = record { kind = g.kind; top = g.top; frames = frames; par
 
 -- ---- what stands around the frames
 
-unfoldable pub before_frames : GuestOf → List ℕ
-before_frames g = headers g.kind ++ (text_of (info_records g.kind) ++ (text_of (static_bodies g) ++ text_of (p2m_records g.kind g)))
+unfoldable pub before_the_frames : GuestOf → List ℕ
+before_the_frames g = headers g.kind ++ (text_of (info_records g.kind) ++ (text_of (static_bodies g) ++ text_of (p2m_records g.kind g)))
 
-unfoldable pub behind_frames : GuestOf → List ℕ
-behind_frames g = text_of (last_records g.kind g) ++ spelled 0 []
+unfoldable pub behind_the_frames : GuestOf → List ℕ
+behind_the_frames g = text_of (last_records g.kind g) ++ spelled 0 []

@@ -5,7 +5,7 @@ ghost use Rattle.mig_canon.specs.Common.{Puts, FaultHasCause, IsFormed, IsWhole,
 ghost use Rattle.std.specs.List.{flat_map};
 ghost use Rattle.mig_records_pages.specs.Copied.{IsPageBuffer, Copies, CopyHasCause};
 ghost use Rattle.mig_canon.specs.Canon.{headers, records_of, static_bodies, last_records, canon};
-ghost use Rattle.mig_canon.specs.Elsewhere.{with_frames, before_frames, behind_frames};
+ghost use Rattle.mig_canon.specs.Elsewhere.{with_frames, before_the_frames, behind_the_frames};
 
 use crate::frames::write_frames;
 use crate::parts::write_parts;
@@ -90,7 +90,7 @@ fn write_last<K: Sink>(sink: &mut K, guest: &Guest) -> Result<(), WriteFailed>
 #[tactic(auto, using(mig_bytes::proofs::Texts::puts_then, mig_bytes::proofs::Texts::puts_stop, mig_bytes::proofs::Texts::puts_same))]
 fn write_before<K: Sink>(sink: &mut K, guest: &Guest) -> Result<(), WriteFailed>
     requires { IsFormed guest.now }
-    ensures bytes { Puts (before_frames guest.now) (K.written sink.old) (K.written sink.new) result }
+    ensures bytes { Puts (before_the_frames guest.now) (K.written sink.old) (K.written sink.new) result }
     ensures cause { FaultHasCause (K.faults sink.old) (K.faults sink.new) result }
 {
     write_opening(sink, guest)?;
@@ -103,7 +103,7 @@ fn write_before<K: Sink>(sink: &mut K, guest: &Guest) -> Result<(), WriteFailed>
 #[tactic(auto, using(mig_bytes::proofs::Texts::puts_then, mig_bytes::proofs::Texts::puts_stop, mig_bytes::proofs::Texts::puts_same))]
 fn write_behind<K: Sink>(sink: &mut K, guest: &Guest) -> Result<(), WriteFailed>
     requires { IsFormed guest.now }
-    ensures bytes { Puts (behind_frames guest.now) (K.written sink.old) (K.written sink.new) result }
+    ensures bytes { Puts (behind_the_frames guest.now) (K.written sink.old) (K.written sink.new) result }
     ensures cause { FaultHasCause (K.faults sink.old) (K.faults sink.new) result }
 {
     write_last(sink, guest)?;

@@ -20,5 +20,6 @@ pub trait PageFile {
 
     /// Fills the buffer with the bytes from this place on. It fails where there are too few, too.
     fn read_at(&self, at: u64, buf: &mut [u8]) -> Result<(), Failed>
-        ensures bytes { OnOk result (IfSome (bytes self.now) (λ all. IsThere all at buf.new)) };
+        ensures bytes { OnOk result (IfSome (bytes self.now) (λ all. IsThere all at buf.new)) }
+        ensures room { length buf.new ≡ length buf.old };
 }

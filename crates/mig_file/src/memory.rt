@@ -49,6 +49,7 @@ impl PageFile for MemFile {
 
     fn read_at(&self, at: u64, buf: &mut [u8]) -> Result<(), Failed>
         ensures bytes { OnOk result (IsThere self.now.bytes at buf.new) }
+        ensures room { length buf.new ≡ length buf.old }
 
         // It fails exactly where there are too few bytes, or a bad one among them.
         ensures failed { IsErr result ↔ ((length self.now.bytes < at + length buf.old) ⊎ MeetsBad self.now.bad at (length buf.old)) }

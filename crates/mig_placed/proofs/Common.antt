@@ -25,4 +25,4 @@ pub use Rattle.mig_records_pages.proofs.ListSteps.{drop_next, flat_next, entries
 pub use Rattle.mig_records_pages.proofs.PageTexts.{pages_next}
 pub use Rattle.mig_records_pages.specs.PageData.{Frame, page_in, pages_of}
 pub use Rattle.mig_records_pages.specs.Copied.{IsFirstFrame}
-pub use Rattle.mig_file.specs.Bytes.{IsThere}
+pub use Rattle.mig_file.specs.Files.{IsThere}

@@ -25,6 +25,11 @@ impl<P: PageFile, Q: PageFile> PageFile for JoinedFiles<'_, P, Q> {
 
     ghost bytes = { λ s. joined_bytes (P.bytes s.first.now) (Q.bytes s.second.now) };
 
+    fn has_bytes(&self) {
+        self.first.has_bytes();
+        self.second.has_bytes();
+    }
+
     fn size(&self) -> u64 {
         self.first.size().saturating_add(self.second.size())
     }

@@ -4,7 +4,7 @@
 //! as; that they read as frames do which are set one after another; these frames as a writer of PAGE_DATA records takes
 //! them, where pages that stand one behind another in the file are read at once; and pages that are written in place of
 //! some in the file, which stand in another behind it. Left to others: what a file is (mig_file), where a page was
-//! found (a reader of streams), and which records are written of frames (mig_records_pages, mig_canon).
+//! found (a reader of streams), and which records are written of frames (mig_records_pages).
 //!
 //! What the layers above rely on: places are a finite map from frame number to a cell, and each call says what it does
 //! to the whole map; a call that finds no memory leaves it as it was; with any file the places read as the frames that

@@ -3,7 +3,7 @@ ghost use Rattle.std.specs.declared.option.Option.{Option};
 ghost use Rattle.mig_placed.specs.Common.{pfn_limit, ValueMap};
 ghost use Rattle.mig_placed.specs.InFile.{place_limit};
 ghost use Rattle.mig_placed.specs.Runs.{frames_after, IsFirstCell, IsRunFrom, IsSmallRun};
-ghost use Rattle.mig_file.specs.Bytes.{IsThere};
+ghost use Rattle.mig_file.specs.Files.{IsThere};
 
 use crate::places::{PAGE, Places};
 use mig_bytes::Failed;
