@@ -1,7 +1,7 @@
 -- The cells that are written.
-use Rattle.mig_placed.proofs.Common.{◌≡◌, ◌≢◌, ℕ, suc, ◌+◌, ◌<◌, ◌^◌, Some, None, Bool, true, false, refl, sym, ap, subst, ◌∙◌, arith, inl, inr, cases_eq, nat_cmp, get-empty, inserted, inserted_other, removed, removed_other, type_of_cell, place_of_cell, ValueMap, PageType, Xtab, type_has_data, is_place, IsCell, AreCells, place_for, place_limit, cell_for}
+use Rattle.mig_placed.proofs.Common.{◌≡◌, ◌≢◌, ℕ, suc, ◌+◌, ◌<◌, ◌^◌, Some, None, Bool, true, false, refl, sym, ap, subst, ◌∙◌, arith, inl, inr, cases_eq, nat_cmp, get-empty, inserted, inserted_other, removed, removed_other, type_of_cell, mark_of_cell, ValueMap, PageType, Xtab, type_has_data, is_place, IsCell, AreCells, place_for, place_limit, cell_for}
 use Rattle.std.specs.FinMap as maps
-use Rattle.mig_pagestore.specs.FrameView.{cell_place}
+use Rattle.mig_pagestore.specs.FrameView.{cell_mark}
 
 pub place_small : (b : Bool) (at : ℕ) → at < place_limit → place_for b at < 2 ^ 52
 place_small true at lt = omega (arith, lt)
@@ -17,11 +17,11 @@ cell_is type at there small =
     let is = type_of_cell type place lt in
     record {
       there = λ e. there (sym is ∙ e);
-      in_step = ap is_place (place_of_cell type place lt) ∙ step_in (type_has_data type) at ∙ ap type_has_data (sym is);
+      in_step = ap is_place (mark_of_cell type place lt) ∙ step_in (type_has_data type) at ∙ ap type_has_data (sym is);
     }
 
-pub place_below : (c : ℕ) → cell_place c < 2 ^ 52
-unfolding cell_place
+pub place_below : (c : ℕ) → cell_mark c < 2 ^ 52
+unfolding cell_mark
 place_below c = omega arith
 
 -- ---- cells one beside another

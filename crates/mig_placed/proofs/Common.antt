@@ -7,7 +7,7 @@ pub use Rattle.std.specs.FinMap.{get-empty}
 pub use Rattle.std.specs.Option.{option_map, unwrap_or}
 pub use Rattle.std.specs.Ordering.{nat_cmp}
 pub use Rattle.mig_bytes.proofs.NumberMaps.{inserted, inserted_other, removed, removed_other}
-pub use Rattle.mig_pagestore.proofs.FrameCells.{cell_some, place_of_cell, type_of_cell}
+pub use Rattle.mig_pagestore.proofs.FrameCells.{cell_some, mark_of_cell, type_of_cell}
 pub use Rattle.mig_pagestore.proofs.Mapping.{get-mapped, len-mapped, mapped-empty, mapped-insert, mapped-remove}
 pub use Rattle.mig_pagestore.proofs.Places.{length_whole, whole_is}
 pub use Rattle.mig_guest.proofs.NextEntries.{from_zero, next_entry}

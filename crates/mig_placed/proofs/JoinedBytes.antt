@@ -4,6 +4,8 @@ use Rattle.std.proofs.Common.{min, cond, nat_lt, length-append}
 use Rattle.std.proofs.lemmas.Bool.{ltb-true}
 use Rattle.std.proofs.Math.Seq.{drop-append-add, take-append-add}
 use Rattle.std.proofs.lemmas.List.{drop-append-le}
+use Rattle.std.proofs.lemmas.List.Elements.{All-append}
+use Rattle.mig_bytes.specs.Bytes.{AreBytes}
 use Rattle.mig_placed.specs.Joined.{joined_bytes}
 
 module _ (all more : List ℕ) where
@@ -75,3 +77,6 @@ filled f a b buf size =
     let front : take f whole ≡ a = take-append-le f a (drop f buf) (omega (arith, size)) ∙ take_all f a (omega (arith, size)) in
     let behind : drop (length whole - f) (drop f whole) ≡ [] = none_left (drop f whole) (length whole - f) (omega (arith, length-drop f whole)) in
     (λ i. front i ++ (b ++ behind i)) ∙ ap (λ l. a ++ l) (append-nil b)
+
+pub both_bytes : (o p : Option (List ℕ)) → IfSome o AreBytes → IfSome p AreBytes → IfSome (joined_bytes o p) AreBytes
+both_bytes o p first second = told o p AreBytes (λ all more some too small. All-append (λ b. b < 256) all more (of o all AreBytes some first) (of p more AreBytes too second))

@@ -5,7 +5,7 @@ use Rattle.std.specs.FinMap.{nat_cmp-IsAntisymmetric, same_map}
 use Rattle.std.specs.Cmp.{nat_cmp_total}
 use Rattle.std.proofs.Math.Seq.{drop-append-add}
 use Rattle.std.proofs.lemmas.List.{drop-append-le}
-use Rattle.mig_pagestore.specs.FrameView.{cell_place}
+use Rattle.mig_pagestore.specs.FrameView.{cell_mark}
 use Rattle.mig_placed.specs.InFile.{page_in_file}
 use Rattle.mig_placed.specs.Joined.{EndsWithin, EndAllWithin}
 
@@ -26,7 +26,7 @@ module _ (all more : List ℕ) where
   module _ (cells : ValueMap) (within : EndAllWithin (length all) cells) where
     at_cell : (q : ℕ) (o : Option ℕ) → maps.get cells q ≡ o → option_map (frame_in_file (Some (all ++ more))) o ≡ option_map (frame_in_file (Some all)) o
     at_cell q None is = refl
-    at_cell q (Some c) is = λ i. Some (record { type = cell_type c; page = page_same (cell_place c) (within q c is) i })
+    at_cell q (Some c) is = λ i. Some (record { type = cell_type c; page = page_same (cell_mark c) (within q c is) i })
 
     pub same_frames : frames_in_file (Some (all ++ more)) cells ≡ frames_in_file (Some all) cells
     same_frames = same_map nat_cmp_total nat_cmp-IsAntisymmetric _ _

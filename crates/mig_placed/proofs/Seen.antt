@@ -1,7 +1,7 @@
 -- What cells tell of frames.
-use Rattle.mig_placed.proofs.Common.{◌≡◌, ℕ, zero, suc, ◌+◌, ◌-◌, ◌*◌, ◌<◌, ◌≤◌, List, [], ◌∷◌, ◌++◌, length, take, drop, Option, Some, None, refl, sym, ap, ◌∙◌, arith, length-take, length-drop, take-append-le, take_all, option_map, unwrap_or, whole_is, length_whole, get-mapped, len-mapped, mapped-empty, mapped-insert, mapped-remove, type_of_cell, place_of_cell, ValueMap, FrameOf, FrameWord, PageType, Xtab, type_has_data, cell_type, whole_page, framed, place_for, place_limit, cell_for, with_place, page_bytes_at, frame_in_file, frames_in_file, frames_after, next_entry, from_zero, entries_counted, IsFirstCell, IsFirstFrame}
+use Rattle.mig_placed.proofs.Common.{◌≡◌, ℕ, zero, suc, ◌+◌, ◌-◌, ◌*◌, ◌<◌, ◌≤◌, List, [], ◌∷◌, ◌++◌, length, take, drop, Option, Some, None, refl, sym, ap, ◌∙◌, arith, length-take, length-drop, take-append-le, take_all, option_map, unwrap_or, whole_is, length_whole, get-mapped, len-mapped, mapped-empty, mapped-insert, mapped-remove, type_of_cell, mark_of_cell, ValueMap, FrameOf, FrameWord, PageType, Xtab, type_has_data, cell_type, whole_page, framed, place_for, place_limit, cell_for, with_place, page_bytes_at, frame_in_file, frames_in_file, frames_after, next_entry, from_zero, entries_counted, IsFirstCell, IsFirstFrame}
 use Rattle.std.specs.FinMap as maps
-use Rattle.mig_pagestore.specs.FrameView.{cell_place}
+use Rattle.mig_pagestore.specs.FrameView.{cell_mark}
 use Rattle.mig_placed.specs.InFile.{page_in_file}
 use Rattle.mig_placed.proofs.Cells.{place_small}
 
@@ -15,7 +15,7 @@ len_placed file cells = len-mapped (frame_in_file file) cells
 cell_told : (file : Option (List ℕ)) (t : PageType) (at : ℕ) → at < place_limit → frame_in_file file (cell_for t at) ≡ record { type = t; page = page_in_file file (place_for (type_has_data t) at) }
 cell_told file t at small =
     let place = place_for (type_has_data t) at in let lt = place_small (type_has_data t) at small in
-    (λ i. record { type = type_of_cell t place lt i; page = page_in_file file (place_of_cell t place lt i) })
+    (λ i. record { type = type_of_cell t place lt i; page = page_in_file file (mark_of_cell t place lt i) })
 
 -- a frame whose place is set is set
 pub set_placed : (file : Option (List ℕ)) (cells : ValueMap) (pfn : ℕ) (t : PageType) (at : ℕ) → at < place_limit
@@ -50,7 +50,7 @@ frame_told file word = record { type = word.kind; page = page_in_file file word.
 none_here : (file : Option (List ℕ)) (cells : ValueMap) (q : ℕ) → maps.get cells q ≡ None → maps.get (frames_in_file file cells) q ≡ None
 none_here file cells q e = get-mapped (frame_in_file file) cells q ∙ ap (option_map (frame_in_file file)) e
 
-told_here : (file : Option (List ℕ)) (cells : ValueMap) (e : ℕ × FrameWord) (c : ℕ) → maps.get cells e.0 ≡ Some c → cell_type c ≡ e.1.kind → cell_place c ≡ e.1.pfn → maps.get (frames_in_file file cells) e.0 ≡ Some (frame_told file e.1)
+told_here : (file : Option (List ℕ)) (cells : ValueMap) (e : ℕ × FrameWord) (c : ℕ) → maps.get cells e.0 ≡ Some c → cell_type c ≡ e.1.kind → cell_mark c ≡ e.1.pfn → maps.get (frames_in_file file cells) e.0 ≡ Some (frame_told file e.1)
 told_here file cells e c got kind place =
     get-mapped (frame_in_file file) cells e.0 ∙ ap (option_map (frame_in_file file)) got ∙ (λ i. Some (record { type = kind i; page = page_in_file file (place i) }))
 

@@ -1,7 +1,7 @@
 -- Frames whose pages stand in a file: for each frame number a cell, which says the frame's type and where in the file its page is.
 use Rattle.std.specs.Prelude.{ℕ, zero, suc, ◌+◌, ◌-◌, ◌^◌, Bool, true, false, List, [], take, drop, Option, Some, None}
 use Rattle.std.specs.FinMap as maps
-use Rattle.mig_placed.specs.Common.{FrameMap, FrameOf, PageType, ValueMap, Xtab, cell_place, cell_type, mapped, type_has_data, whole_page, word_of}
+use Rattle.mig_placed.specs.Common.{FrameMap, FrameOf, PageType, ValueMap, Xtab, cell_mark, cell_type, mapped, type_has_data, whole_page, word_of}
 
 -- the bytes of a page at a place; none of a file that doesn't tell them
 abbrev pub page_bytes_at : Option (List ℕ) → ℕ → List ℕ
@@ -15,7 +15,7 @@ page_in_file file (suc at) = Some (whole_page (page_bytes_at file at))
 
 -- the frame that a cell tells
 abbrev pub frame_in_file : Option (List ℕ) → ℕ → FrameOf
-frame_in_file file c = record { type = cell_type c; page = page_in_file file (cell_place c) }
+frame_in_file file c = record { type = cell_type c; page = page_in_file file (cell_mark c) }
 
 -- the frames that cells tell
 abbrev pub frames_in_file : Option (List ℕ) → ValueMap → FrameMap

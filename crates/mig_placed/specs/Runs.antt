@@ -1,7 +1,7 @@
 -- Pages of frames that stand one behind another in a file.
 use Rattle.std.specs.Prelude.{◌≡◌, ◌<◌, ◌≤◌, ℕ, ◌+◌, ◌*◌, List, length, take, drop, Option, Some, None}
 use Rattle.std.specs.FinMap as maps
-use Rattle.mig_placed.specs.Common.{Frame, FrameWord, IsCell, ValueMap, cell_place, cell_type, entries_from, pages_of}
+use Rattle.mig_placed.specs.Common.{Frame, FrameWord, IsCell, ValueMap, cell_mark, cell_type, entries_from, pages_of}
 use Rattle.mig_placed.specs.InFile.{frames_in_file, place_limit}
 use Rattle.mig_placed.specs.declared.runs.Run.{Run}
 
@@ -11,7 +11,7 @@ frames_after file cells from = entries_from from (maps.entries (frames_in_file f
 
 -- the first cell from a number on: its frame number, and what it says
 pub record IsFirstCell (cells : ValueMap) (from : ℕ) (e : ℕ × FrameWord) : Type 0 where
-  pub there : (c : ℕ) × IsCell c × (maps.get cells e.0 ≡ Some c) × (cell_type c ≡ e.1.kind) × (cell_place c ≡ e.1.pfn)
+  pub there : (c : ℕ) × IsCell c × (maps.get cells e.0 ≡ Some c) × (cell_type c ≡ e.1.kind) × (cell_mark c ≡ e.1.pfn)
   pub least : (from ≤ e.0) × ((k : ℕ) → from ≤ k → k < e.0 → maps.get cells k ≡ None)
 
 -- the pages of so many frames from a number on are so many, and stand one behind another in any file that has so many bytes

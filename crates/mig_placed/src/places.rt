@@ -1,6 +1,6 @@
 ghost use Rattle.std.specs.Prelude.{◌≡◌, ◌≢◌, ℕ, ◌+◌, ◌<◌, ◌≤◌, ◌^◌, OnOk, OnErr, IfSome, IfNone, Some, None, true};
 ghost use Rattle.std.specs.FinMap as maps;
-ghost use Rattle.mig_placed.specs.Common.{type_has_data, pfn_limit, Xtab, cell_type, cell_place, IsCell};
+ghost use Rattle.mig_placed.specs.Common.{type_has_data, pfn_limit, Xtab, cell_type, cell_mark, IsCell};
 ghost use Rattle.mig_placed.specs.InFile.{place_limit, place_for, cell_for, with_place};
 ghost use Rattle.mig_placed.specs.Runs.{IsFirstCell};
 ghost use Rattle.mig_placed.specs.Joined.{EndAllWithin};
@@ -35,11 +35,11 @@ impl Model for Places {
 }
 
 /// What a cell says.
-#[tactic(auto, unfolding(mig_pagestore::specs::FrameView::cell_type, mig_pagestore::specs::FrameView::cell_place))]
+#[tactic(auto, unfolding(mig_pagestore::specs::FrameView::cell_type, mig_pagestore::specs::FrameView::cell_mark))]
 fn read_cell(cell: u64) -> FrameWord
     requires { IsCell cell }
     ensures kind { result.kind ≡ cell_type cell }
-    ensures place { result.pfn ≡ cell_place cell }
+    ensures place { result.pfn ≡ cell_mark cell }
 {
     decode_word(cell).unwrap()
 }

@@ -1,13 +1,13 @@
 use Rattle.std.proofs.Common.{◌≡◌, ◌≤◌, ◌<◌, ◌-◌, ◌^◌, ℕ, Some}
 use Rattle.std.specs.FinMap as maps
-use Rattle.mig_pagestore.specs.FrameView.{cell_place}
+use Rattle.mig_pagestore.specs.FrameView.{cell_mark}
 use Rattle.mig_placed.specs.Joined.{EndsWithin}
 use Rattle.mig_placed.proofs.places.Places.end_within.Given as goal
 
 abbrev pub invariant-loop-pfn : goal.invariant-loop-pfn
 invariant-loop-pfn l = record {
   small : l.from ≤ 2 ^ 52;
-  below : (k c : ℕ) → k < l.from → maps.get l.self k ≡ Some c → EndsWithin l.size (cell_place c);
+  below : (k c : ℕ) → k < l.from → maps.get l.self k ≡ Some c → EndsWithin l.size (cell_mark c);
 }
 
 abbrev pub decreases-loop-pfn : goal.decreases-loop-pfn
