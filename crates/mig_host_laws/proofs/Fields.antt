@@ -1,5 +1,5 @@
 -- The four laws of fields: what a row says of values, row by row, and of fields in a context.
-use Rattle.mig_host_laws.proofs.Common.{recursion_from_All, AreBytes, Bytes, long_below, ◌≡◌, ℕ, ◌+◌, ◌-◌, ◌*◌, ◌/◌, ◌%◌, ◌^◌, ◌<◌, ◌≤◌, Bool, true, false, cond, not, List, length, Some, refl, sym, ap, subst, ◌∙◌, inl, inr, arith, nat_lt, ◌==◌, cases_lt, eqb-true, eq-eqb, long_at, long_of_longs, length_longs, field_at, is_used, Field, field_row, IsField, field_numbered, said_by, with_frame_in, longs, longs_bytes, field_there, IsNumbered, ◌≢◌, nat_le, cases_eq, ne_eqb, le-leb, put_long}
+use Rattle.mig_host_laws.proofs.Common.{recursion_from_All, AreBytes, Bytes, long_below, ◌≡◌, ℕ, ◌+◌, ◌-◌, ◌*◌, ◌/◌, ◌%◌, ◌^◌, ◌<◌, ◌≤◌, Bool, true, false, cond, not, List, length, Some, refl, sym, ap, subst, ◌∙◌, inl, inr, arith, nat_lt, ◌==◌, cases_lt, eqb-true, eq-eqb, long_at, long_of_longs, field_at, is_used, Field, field_row, IsField, field_numbered, said_by, with_frame_in, longs, field_there, IsNumbered, ◌≢◌, nat_le, cases_eq, ne_eqb, le-leb, put_long}
 use Rattle.byteorder.specs.Endian.{little_bytes}
 use Rattle.mig_bytes.specs.Fields.{with_field}
 use Rattle.mig_guest.proofs.Longs.{longs_back, same_longs}
@@ -159,12 +159,6 @@ module _ (n i : ℕ) (lt : i < n) (bytes : List ℕ) (are : AreLongs n bytes) wh
       let back : bytes ≡ longs n (long_at bytes) = sym (longs_back n bytes are.all are.size) in
       let here : x ≡ told x i = sym (told_here x) in
       (λ k. with_field (back k) (8 * i) (little_bytes 8 (here k))) ∙ put_long n (long_at bytes) (told x) i lt (λ j less ne. sym (told_there x j ne))
-
-  pub put_are : (x : ℕ) → AreLongs n (put x)
-  put_are x = record {
-    all = subst Bytes (sym (put_is x)) (recursion_from_All (λ b. b < 256) (longs n (told x)) (longs_bytes n (told x)));
-    size = ap length (put_is x) ∙ length_longs n (told x);
-  }
 
   pub put_here : (x : ℕ) → x < 2 ^ 64 → long_at (put x) i ≡ x
   put_here x small = ap (λ l. long_at l i) (put_is x) ∙ long_of_longs n (told x) i lt (subst (λ e. e < 2 ^ 64) (sym (told_here x)) small) ∙ told_here x

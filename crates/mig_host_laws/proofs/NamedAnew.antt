@@ -58,9 +58,6 @@ module _ (usage : Usage) (used : FieldRow → UsedWhere) (same : IsUseOf usage u
       number_at p (place_inside f is) ∙ ap (λ o. value_renamed usage names id ents o (long_at context p) % 2 ^ 64) (at_its_place f is)
       ∙ ap (λ v. v % 2 ^ 64) (value_is (field_row f).number (number_small f is) (long_at context p)) ∙ ap (λ g. told g (long_at context p) % 2 ^ 64) (numbered f is)
 
-  pub of_ents : gdt_ents new ≡ gdt_ents context % 2 ^ 64
-  of_ents = number_at 620 (omega arith)
-
   module _ (small : AreNamesSmall names) (all : Bytes context) where
     fits : (i : ℕ) → long_at context i < 2 ^ 64
     fits i = long_below (8 * i) context all

@@ -23,13 +23,7 @@ pub told_twice : {A B C : Type 0} (g : B → C) (f : A → B) (o : Option A) →
 told_twice g f None = refl
 told_twice g f (Some a) = refl
 
-pub first_same : {A C : Type 0} (f g : A → Option C) → ((x : A) → f x ≡ g x) → (xs : List A) → first_some f xs ≡ first_some g xs
-first_same f g same xs = λ i. first_some (λ x. same x i) xs
-
 module _ {C : Type 0} (number : C → ℕ) where
-  abbrev Stands : Type 1
-  Stands = ℕ → C → Type 0
-
   abbrev Before : ℕ → C → ℕ → C → Type 0
   Before = IsNamedBefore number
 

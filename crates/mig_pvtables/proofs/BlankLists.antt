@@ -1,5 +1,5 @@
 -- The frames that a list names, one after another, from the end of the list.
-use Rattle.mig_pvtables.proofs.Common.{◌≡◌, ℕ, ◌+◌, ◌-◌, ◌/◌, ◌<◌, ◌≤◌, suc, cond, List, length, find, range_with_len, ◌==◌, Option, Some, None, is_some, refl, sym, ap, ◌∙◌, arith, nat_cmp, nat_cmp_total, nat_cmp-IsAntisymmetric, ne_eqb, eq-eqb, lt-ltb, FrameOf, FrameMap, GuestOf, PartMap, p2m_key, long_at, each_value, only, zero_page, with_zero_page, with_other_page, where_listed, written_at, written_from, written_where_listed, count_in, listed, listed_in, place_of}
+use Rattle.mig_pvtables.proofs.Common.{◌≡◌, ℕ, ◌+◌, ◌-◌, ◌/◌, ◌<◌, ◌≤◌, suc, cond, List, length, find, range_with_len, ◌==◌, Option, Some, None, refl, sym, ap, ◌∙◌, arith, nat_cmp, nat_cmp_total, nat_cmp-IsAntisymmetric, ne_eqb, eq-eqb, lt-ltb, FrameOf, FrameMap, GuestOf, PartMap, p2m_key, long_at, each_value, only, with_other_page, written_at, written_from, written_where_listed, count_in, listed, listed_in}
 use Rattle.mig_pvtables.specs.BlankSteps.{place_from_in}
 use Rattle.mig_pvtables.specs.P2mFrames.{place_in}
 use Rattle.mig_pvtables.proofs.BlankFrames.{WithFrames}
@@ -71,11 +71,3 @@ module _ {f : ℕ → List ℕ} {g : GuestOf} where
     listed_end zero =
         is.done ∙ ap (WithFrames g) (same_each nat_cmp_total nat_cmp-IsAntisymmetric (written_from g.parts index f) (written_where_listed g.parts f) g.frames (λ q x _.
         ap (λ k. written_from g.parts k f q x) zero ∙ ap (λ o. written_at f o x) (place_start (maps.get g.parts p2m_key) q)))
-
--- each P2M frame with a page of zeros
-listed_zeroed : (place : Option ℕ) (frame : FrameOf) → written_at (λ _. zero_page) place frame ≡ cond (is_some place) (with_zero_page frame) frame
-listed_zeroed None frame = refl
-listed_zeroed (Some k) frame = refl
-
-pub all_zeroed : (g : GuestOf) → WithFrames g (each_value (written_where_listed g.parts (λ _. zero_page)) g.frames) ≡ WithFrames g (each_value (where_listed g.parts with_zero_page) g.frames)
-all_zeroed g = λ i. WithFrames g (each_value (λ pfn frame. listed_zeroed (place_of g.parts pfn) frame i) g.frames)

@@ -49,7 +49,7 @@ pub use Rattle.mig_pagetypes.specs.declared.page_type.PageType.{PageType}
 pub use Rattle.mig_pagetypes.specs.declared.page_type.PageType.TheVariants.{L1Tab, L2Tab, L3Tab, L4Pinned, Notab}
 pub use Rattle.mig_pvtables.specs.BadEntries.{HasSuperpage, HasUnknown, IsFirstSlot, NamesKnown, bad_entry, first_unknown, is_unknown}
 pub use Rattle.mig_pvtables.specs.Blank.{IsOfBytes, blank, blank_of, blanked_frame, blanked_page, blanked_part, each_value, table_changed, zero_page}
-pub use Rattle.mig_pvtables.specs.BlankSteps.{blanked_below, blanked_code, blanked_up_to, is_listed_before, is_reached, only, where_listed, with_other_page, with_table_changed, with_zero_page, written_at, written_from, written_where_listed}
+pub use Rattle.mig_pvtables.specs.BlankSteps.{blanked_below, blanked_code, blanked_up_to, is_reached, only, where_listed, with_other_page, with_table_changed, with_zero_page, written_at, written_from, written_where_listed}
 pub use Rattle.mig_pvtables.specs.Faults.{fault_of_guest, faults_for, field_numbers, find_entry, find_p2m, find_slot, first_cause, first_some, fits_field, is_absent, find_misplaced, is_misplaced, is_needed, is_notab, is_this, misses, type_at}
 pub use Rattle.mig_pvtables.specs.P2mFrames.{count_in, listed, listed_in, place_of}
 pub use Rattle.mig_pvtables.specs.Renaming.{name_for, named_anew, normalised_table, with_name}

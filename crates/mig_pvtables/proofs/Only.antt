@@ -1,5 +1,5 @@
 -- Maps of which one value is changed, by its key.
-use Rattle.mig_pvtables.proofs.Common.{◌≡◌, Bool, true, false, cond, Option, Some, None, refl, sym, ap, subst, ◌∙◌, Ordering, eq_by_cmp, FinMap, IsAntisymmetric, same_map, get-insert, option_map, IsTotalOrder, false_from_ne_true, tied, each_value, only}
+use Rattle.mig_pvtables.proofs.Common.{◌≡◌, Bool, true, false, cond, Option, Some, None, refl, sym, ap, subst, ◌∙◌, Ordering, eq_by_cmp, FinMap, IsAntisymmetric, same_map, get-insert, option_map, IsTotalOrder, tied, each_value, only}
 use Rattle.std.proofs.lemmas.Cmp.{eq_by_cmp_equiv}
 use Rattle.mig_pvtables.proofs.EachValue.{get_each, each_each, each_same, same_each}
 use Rattle.std.specs.FinMap as maps
@@ -7,9 +7,6 @@ use Rattle.std.specs.FinMap as maps
 module _ {K : Type 0} {R : K → K → Ordering} (o : IsTotalOrder R) (exact : IsAntisymmetric R) where
   pub alike : (k : K) → eq_by_cmp R k k ≡ true
   alike k = (eq_by_cmp_equiv o).refl k
-
-  pub unlike : (q k : K) → (q ≡ k → ⊥) → eq_by_cmp R q k ≡ false
-  unlike q k ne = false_from_ne_true (eq_by_cmp R q k) (λ t. ne (exact q k (tied _ t)))
 
   -- what is to be shown of a key: of the one that changes, and of all others
   pub by_key : (P : Bool → Type 0) (q k : K) → (q ≡ k → P true) → (eq_by_cmp R q k ≡ false → P false) → P (eq_by_cmp R q k)

@@ -1,9 +1,8 @@
 -- A table renamed, slot by slot.
-use Rattle.mig_pvtables.proofs.Common.{◌≡◌, ℕ, ◌+◌, ◌*◌, ◌<◌, Bool, true, false, cond, List, Option, Some, None, refl, sym, ap, ◌∙◌, nat_le, ◌&&◌, long_at, each_long, Entry, Blank, NotPresent, Superpage, Frame, entry, is_blank_slot, little_bytes, with_field, long_below, is_present, is_large, named_frame, with_frame, with_name, named_anew, name_for, normalised_table}
+use Rattle.mig_pvtables.proofs.Common.{◌≡◌, ℕ, ◌+◌, ◌*◌, ◌<◌, Bool, true, false, cond, List, Option, Some, None, refl, sym, ap, ◌∙◌, nat_le, ◌&&◌, long_at, Entry, Blank, NotPresent, Superpage, Frame, entry, is_blank_slot, little_bytes, with_field, is_present, is_large, named_frame, with_frame, with_name, named_anew, name_for}
 use Rattle.mig_guest.specs.Tables.{entry_of, blanked_entry}
-use Rattle.mig_pvtables.proofs.BlankSays.{blank_says}
-use Rattle.mig_pvtables.proofs.LongSteps.{each_twice, ChangedBelow, next_below, still, one_changed, one_stays, walk_end}
-use Rattle.mig_pvtables.proofs.Renamed.{says, blanked_small, renamed_long, by_frames, renamed_case}
+use Rattle.mig_pvtables.proofs.LongSteps.{ChangedBelow, next_below, still, one_changed, one_stays}
+use Rattle.mig_pvtables.proofs.Renamed.{says, renamed_long, renamed_case}
 
 module _ (f : ℕ → Option ℕ) (level : ℕ) {page now : List ℕ} (slot : ℕ) (lt : slot < 512) (is : ChangedBelow 512 (renamed_long f level) page slot now) where
   same_long : long_at now slot ≡ long_at page slot

@@ -11,18 +11,6 @@ use Rattle.std.specs.FinMap as maps
 pub taken : (part : List ℕ) (n : ℕ) {o : Option (Bor (List ℕ))} {array : Bor (List ℕ)} → o ≡ Some array → MatchOption o (length part ≢ n) (λ y. IsWholeChunk part y.now n) → array.now ≡ part
 taken part n is cases = (subst (λ (o : Option (Bor (List ℕ))). MatchOption o (length part ≢ n) (λ y. IsWholeChunk part y.now n)) is cases).same
 
--- ---- an answer that those behind give, too
-
-module _ {A C : Type 0} (f : A → Option C) (now rest : List A) (answer : Option C) (same : first_some f now ≡ answer) where
-  first_here : (e : A) (c : C) → now ≡ e ∷ rest → f e ≡ Some c → Some c ≡ answer
-  first_here e c is here = sym (ap (first_some f) is ∙ ap (λ o. option_or o (first_some f rest)) here) ∙ same
-
-  first_later : (e : A) → now ≡ e ∷ rest → f e ≡ None → first_some f rest ≡ answer
-  first_later e is nothing = sym (ap (first_some f) is ∙ ap (λ o. option_or o (first_some f rest)) nothing) ∙ same
-
-  first_never : now ≡ [] → None ≡ answer
-  first_never is = sym (ap (first_some f) is) ∙ same
-
 -- ---- frames
 
 pub frames_counted : (frames : FrameMap) → maps.len frames ≡ length (maps.entries frames)
@@ -39,20 +27,6 @@ module _ (bad : Entry → Bool) (frames : FrameMap) where
 
   pub frames_start : IsSoFrom 0
   frames_start = ap (first_some in_frame) (from_zero (maps.entries frames))
-
-  module _ (from : ℕ) (so : IsSoFrom from) where
-    pub frames_end : entries_from from (maps.entries frames) ≡ [] → None ≡ find_entry bad frames
-    frames_end none = first_never in_frame (entries_from from (maps.entries frames)) [] (find_entry bad frames) so none
-
-    module _ (e : ℕ × FrameOf) (next : entries_from from (maps.entries frames) ≡ e ∷ entries_from (e.0 + 1) (maps.entries frames)) where
-      pub frames_found : (slot : ℕ) → Some slot ≡ find_slot bad (level_of e.1.type) e.1.page → Some (e.0, slot) ≡ find_entry bad frames
-      frames_found slot is = first_here in_frame _ _ (find_entry bad frames) so e (e.0, slot) next (ap (option_map (λ (s : ℕ). (e.0, s))) (sym is))
-
-      pub frames_next : None ≡ find_slot bad (level_of e.1.type) e.1.page → IsSoFrom (e.0 + 1)
-      frames_next is = first_later in_frame _ _ (find_entry bad frames) so e next (ap (option_map (λ (s : ℕ). (e.0, s))) (sym is))
-
-      pub frames_fewer : length (entries_from (e.0 + 1) (maps.entries frames)) < length (entries_from from (maps.entries frames))
-      frames_fewer = omega (arith, ap length next)
 
 -- ---- contexts of vCPUs
 
@@ -114,17 +88,6 @@ module _ {C : Type 0} (in_context : Part → Option C) where
 
     pub contexts_start : IsSoBehind None
     contexts_start = contexts_alone (maps.entries parts)
-
-    module _ (after : Option PartKey) (so : IsSoBehind after) where
-      pub contexts_end : parts_after 4 after (maps.entries parts) ≡ [] → None ≡ in_contexts
-      contexts_end none = first_never in_context (parts_after 4 after (maps.entries parts)) [] in_contexts so none
-
-      module _ (e : Part) (next : parts_after 4 after (maps.entries parts) ≡ e ∷ parts_after 4 (Some e.0) (maps.entries parts)) where
-        pub contexts_found : (c : C) → Some c ≡ in_context e → Some c ≡ in_contexts
-        contexts_found c is = first_here in_context _ _ in_contexts so e c next (sym is)
-
-        pub contexts_next : None ≡ in_context e → IsSoBehind (Some e.0)
-        contexts_next is = first_later in_context _ _ in_contexts so e next (sym is)
 
 -- the first field of a context that passes a test
 abbrev pub in_fields : (ℕ → List ℕ → ℕ → Bool) → Part → Option (ℕ × ℕ)

@@ -1,10 +1,9 @@
 -- The steps of a walk over a guest: one frame or part after another.
 use Rattle.std.specs.Prelude.{ℕ, ◌-◌, ◌/◌, Bool, false, List, length, Option, None, Some, ◌==◌, ◌&&◌, not, nat_lt, is_some, find, if◌then◌else◌}
-use Rattle.mig_pvtables.specs.Common.{list_any, range_with_len, eq_by_cmp, is_lt, option_map, Ordering, level_of, PartKey, FrameOf, long_at, part_cmp, PartMap, p2m_key}
+use Rattle.mig_pvtables.specs.Common.{range_with_len, eq_by_cmp, is_lt, option_map, Ordering, level_of, PartKey, FrameOf, long_at, part_cmp, PartMap, p2m_key}
 use Rattle.std.specs.FinMap as maps
 use Rattle.mig_pvtables.specs.Blank.{zero_page, table_changed}
-use Rattle.mig_pvtables.specs.Faults.{is_this}
-use Rattle.mig_pvtables.specs.P2mFrames.{listed, place_of}
+use Rattle.mig_pvtables.specs.P2mFrames.{place_of}
 
 -- the value of one key changed
 abbrev pub only : {K X : Type 0} → (K → K → Ordering) → K → (X → X) → K → X → X
@@ -25,10 +24,6 @@ with_table_changed f frame = record { type = frame.type; page = table_changed f 
 -- the frames of the numbers that are listed changed
 abbrev pub where_listed : PartMap → (FrameOf → FrameOf) → ℕ → FrameOf → FrameOf
 where_listed parts f pfn frame = if is_some (place_of parts pfn) then f frame else frame
-
--- whether one of the first k numbers listed is this one
-abbrev pub is_listed_before : PartMap → ℕ → ℕ → Bool
-is_listed_before parts k pfn = list_any (λ j. is_this pfn (listed parts j)) (range_with_len 0 k)
 
 -- the parts of a code changed
 abbrev pub blanked_code : ℕ → (PartKey → List ℕ → List ℕ) → PartKey → List ℕ → List ℕ
