@@ -6,11 +6,11 @@ use Rattle.std.proofs.Math.ListN.{get_or-append}
 use Rattle.std.proofs.lemmas.List.{get_or-drop}
 use Rattle.byteorder.specs.Endian.{little_number}
 use Rattle.std.proofs.lemmas.Grind.{common_steps}
-use Rattle.std.proofs.lemmas.Bool.{not-false}
+use Rattle.std.proofs.lemmas.Bool.{and_right, not-false}
 use Rattle.mig_bytes.specs.Fields.{le16, le32}
 use Rattle.mig_bytes.specs.Walk.Reaches.{here, next}
 use Rattle.mig_headers.specs.Contexts.{ChainTo, cut_at, scan, fault_at, is_last, entry_end, after_entry, ContextEntry, IsEntryHead, AreContextEntries, BeginsWithHeader, IsContext, ContextsAreSpelled}
-use Rattle.mig_headers.proofs.Chains.{Sound, sound_of, fine_of, chain_more, scan_is, scan_found, end_fits, gone, none_of, not_last, not_first, at_zero, when_zero, and_false, le_false, lt_false}
+use Rattle.mig_headers.proofs.Chains.{Sound, sound_of, fine_of, chain_more, scan_is, scan_found, end_fits, gone, none_of, not_last, not_first, at_zero, when_zero, le_false, lt_false}
 
 -- ---- fields of bytes that stand between others
 
@@ -94,7 +94,7 @@ module _ (bytes front head content rest : List ℕ) (e : ContextEntry) (is : byt
     r3 = lt_false (length bytes) (length front + 8) (omega (arith, size));
     r4 = when_equal (length front) (le16 bytes 0) 1 (λ none. at_start none ∙ (header none).0);
     r5 = when_equal (length front) (le32 bytes 4) 24 (λ none. len_at_start none ∙ ap length same ∙ (header none).1);
-    r6 = and_false _ _ (lt_false (length bytes) (entry_end bytes (length front)) (omega (arith, size, field32)));
+    r6 = and_right _ _ (lt_false (length bytes) (entry_end bytes (length front)) (omega (arith, size, field32)));
   }
 
 joined : (a b c d e : List ℕ) → a ++ ((b ++ (c ++ d)) ++ e) ≡ (a ++ (b ++ c)) ++ (d ++ e)
@@ -131,7 +131,7 @@ found bytes es c =
     ∙ past16 c.before (c.end ++ c.behind) 0 ∙ in16 c.end c.behind 0 (omega (arith, c.end_size)) ∙ c.end_typecode in
     let last : is_last bytes (length c.before) ≡ true = ap (λ n. nat_eq n 0) ends in
     let now : Sound bytes (length c.before) = record {
-      r1 = and_false _ _ first;
+      r1 = and_right _ _ first;
       r2 = le_false (length bytes) (length c.before) (omega (arith, size));
       r3 = lt_false (length bytes) (length c.before + 8) (omega (arith, size));
       r4 = rw first refl;

@@ -81,10 +81,6 @@ module _ {C : Type 0} (number place : C → ℕ) where
     | inl before ↦ elim (n.1 d p.holds.0) [ inr e ↦ ap Some e | inl after ↦ absurd (never_after d c before after) ]
   ]
 
-  pub none_is : (Has : C → Type 0) (f : Option C) → Named Has f → ((c : C) → Has c → ⊥) → f ≡ None
-  none_is Has None p never = refl
-  none_is Has (Some d) p never = absurd (never d p.holds.0)
-
   pub is_named : (Has : List ℕ → C → Type 0) (f : List ℕ → Option C) → ((bytes : List ℕ) → Named (Has bytes) (f bytes)) → Names (λ bytes. IsTriedFirst number place (Has bytes)) f
   is_named Has f named = record {
     computed = λ bytes c is. (subst (Named (Has bytes)) is (named bytes)).holds;

@@ -1,5 +1,5 @@
 -- The libxl headers without a fault are those that are spelled, and what is written of a header is spelled so.
-use Rattle.std.proofs.Common.{◌≡◌, ◌↔◌, ℕ, ◌+◌, ◌%◌, List, [], ◌∷◌, ◌++◌, length, drop, take, Bool, true, false, Result, Ok, not, ◌==◌, refl, sym, ap, ◌∙◌, arith, length-append, subst}
+use Rattle.std.proofs.Common.{◌≡◌, ◌↔◌, ℕ, ◌%◌, List, [], ◌∷◌, ◌++◌, length, drop, take, Bool, true, false, Result, Ok, not, ◌==◌, refl, sym, ap, ◌∙◌, arith, length-append, subst}
 use Rattle.std.proofs.lemmas.Bool.{eqb-true}
 use Rattle.byteorder.specs.Endian.{big_bytes}
 use Rattle.mig_bytes.specs.Fields.{be32, be64}

@@ -1,11 +1,10 @@
 -- Pairs in canonical form are the texts between zeros, by twos.
 use Rattle.std.proofs.Common.{◌≡◌, ◌<◌, ℕ, zero, suc, Bool, true, false, List, [], ◌∷◌, ◌++◌, length, map, nat_eq, Ordering, Less, Equal, Greater, refl, sym, ap, subst, ◌∙◌, arith, append_assoc, eqb-true}
-use Rattle.std.specs.Prelude.{◌&&◌}
 use Rattle.std.specs.List.{AllByRecursion, flat_map, list_all, slice_split, onto_first, join_with_byte}
 use Rattle.std.specs.List.Sorted.{IsStrictlySortedBy}
 use Rattle.std.specs.Cmp.Lexicographic.{slice_cmp}
 use Rattle.std.specs.Ordering.{nat_cmp, is_lt}
-use Rattle.std.proofs.lemmas.Bool.{and_parts}
+use Rattle.std.proofs.lemmas.Bool.{and_from, and_parts}
 use Rattle.std.proofs.lemmas.Grind.{common_steps}
 use Rattle.std.proofs.lemmas.Cmp.{nat_list_cmp_total}
 use Rattle.std.proofs.lemmas.List.Splits.{slice_split_at, slice_split-cons_yes, slice_split-cons_no, join_with_byte-slice_split}
@@ -112,9 +111,6 @@ pairs_of last (key ∷ value ∷ t ∷ ts) are h =
 
 -- ---- pairs make texts
 
-are_both : (a b : Bool) → a ≡ true → b ≡ true → (a && b) ≡ true
-are_both a b h k = rw (h, k) refl
-
 cut : (p : Pair) (rest : List ℕ) → IsPair p → slice_split is_zero (text_of_pair p ++ rest) ≡ p.key ∷ p.value ∷ slice_split is_zero rest
 cut p rest is =
     ap (slice_split is_zero) (joined p.key p.value rest)
@@ -126,9 +122,9 @@ texts_of : (last : List ℕ) (pairs : List Pair) → AllByRecursion IsPair pairs
 unfolding IsStrictlySortedBy
 texts_of last [] each rising = refl
 texts_of last (p ∷ ps) each rising =
-    let next = are_both (list_all is_key_byte p.key) (is_lt (key_cmp last p.key)) (list_all-from_AllPass is_key_byte p.key each.0.key) (ap is_lt rising.0.0) in
+    let next = and_from (list_all is_key_byte p.key) (is_lt (key_cmp last p.key)) (list_all-from_AllPass is_key_byte p.key each.0.key) (ap is_lt rising.0.0) in
     let more = texts_of p.key ps each.1 rising.1 in
-    ap (are_rising_texts last) (cut p (flat_map text_of_pair ps) each.0) ∙ are_both (is_next_key last p.key) (are_rising_texts p.key (slice_split is_zero (flat_map text_of_pair ps))) next more
+    ap (are_rising_texts last) (cut p (flat_map text_of_pair ps) each.0) ∙ and_from (is_next_key last p.key) (are_rising_texts p.key (slice_split is_zero (flat_map text_of_pair ps))) next more
 
 canonical : (bytes : List ℕ) → PairsAbove [] bytes → AreCanonicalPairs bytes
 unfolding IsStrictlySortedBy
