@@ -90,18 +90,6 @@ module _ {C X Y : Type 0} (f : FormOf C X) (g : X → FormOf C Y) where
   paired_begins i mid x y rest first then =
       then_begins f (λ x. g x >>> λ y. Gives (x, y)) i mid x (x, y) rest first (then_begins (g x) (λ y. Gives (x, y)) mid rest y (x, y) rest then (gives_begins (x, y) rest))
 
-  pub refused_paired : (i : List ℕ) (c : C) (rest : List ℕ) → RefusedAs (paired f g) i c rest → RefusedAs f i c rest ⊎ ((x : X) × (mid : List ℕ) × BeginsAs f i x mid × RefusedAs (g x) mid c rest)
-  refused_paired i c rest refused = elim (refused_then f (λ x. g x >>> λ y. Gives (x, y)) i c rest refused) [
-    | inl first ↦ inl first
-    | inr a ↦ elim (refused_then (g a.0) (λ y. Gives (a.0, y)) a.1 c rest a.3) [
-      | inl then ↦ inr (a.0, a.1, a.2, then)
-      | inr b ↦ absurd (never_both (Gives (a.0, b.0)) b.1 (a.0, b.0) b.1 c rest (gives_begins (a.0, b.0) b.1) b.3)
-    ]
-  ]
-
-  pub paired_refused : (i mid : List ℕ) (x : X) (c : C) (rest : List ℕ) → BeginsAs f i x mid → RefusedAs (g x) mid c rest → RefusedAs (paired f g) i c rest
-  paired_refused i mid x c rest first refused = then_refused f (λ x. g x >>> λ y. Gives (x, y)) i mid x c rest first (first_refused (g x) (λ y. Gives (x, y)) mid c rest refused)
-
 -- ---- causes told in another way
 
 module _ {C D X : Type 0} (turn : C → D) where

@@ -66,12 +66,6 @@ module _ (at : ℕ → Cell) (g : IsGrown at) where
 
   -- on the way to a machine frame, from a cell that doesn't have it
   module _ (i machine : ℕ) (used : (at i).used ≡ true) (same : Agree (at i).depth (at i).machine machine) where
-    pub agrees_next : 0 < next_cell (at i) machine → Agree (at (next_cell (at i) machine)).depth (at (next_cell (at i) machine)).machine machine
-    agrees_next some =
-        let next : IsNext (at i) machine (at (next_cell (at i) machine)) = g.down i machine used some in
-        let e = at (next_cell (at i) machine) in
-        subst (λ d. Agree d e.machine machine) (sym next.depth) (agree_more (at i).depth e.machine machine (λ k lt. next.agrees k lt ∙ same k lt) next.side)
-
     module _ (other : (at i).machine ≢ machine) where
       pub deeper : (j : ℕ) → (at j).used ≡ true → (at j).machine ≡ machine → (at i).depth ≤ (at j).depth → (at i).depth < (at j).depth
       deeper j used_j is le = by (cases_lt (at i).depth (at j).depth)
