@@ -5,7 +5,6 @@ pub use Rattle.mig_bytes.proofs.Texts.{puts_same, puts_stop, puts_then}
 pub use Rattle.mig_tool_report.specs.Outcome.{IsUnwritten, line_of, status_of}
 pub use Rattle.mig_tool_report.specs.Words.{IsBase, IsFrameNumber, NamePlace, Names, hex_behind}
 pub use Rattle.mig_tool_report.specs.declared.command.Command.{Command}
-pub use Rattle.mig_tool_report.specs.declared.command.Command.TheVariants.{Convert, Exercise, Normalise, Restore, Save, Verify, Walk, WalkImage, Relay, Show}
 pub use Rattle.mig_bytes.specs.Bytes.{AppendsPart, Puts}
 pub use Rattle.mig_bytes.specs.Faults.{FaultHasCause, Rose}
 pub use Rattle.mig_tool_report.specs.Report.{Reports, text_of_walk_end}

@@ -1,6 +1,7 @@
 -- Words name one command at most.
-use Rattle.mig_tool_report.proofs.Common.{◌≡◌, ◌+◌, ◌*◌, Some, ℕ, ◌<◌, ◌^◌, List, [], length, get_or, sym, ap, ◌∙◌, refl, arith, IsBase, IsFrameNumber, Names, Command, Convert, Exercise, Normalise, Restore, Save, Verify, Walk, WalkImage, Relay, Show, inl, inr, decimal_injective, hex_behind, NamePlace}
+use Rattle.mig_tool_report.proofs.Common.{◌≡◌, ◌+◌, ◌*◌, Some, ℕ, ◌<◌, ◌^◌, List, [], length, get_or, sym, ap, ◌∙◌, refl, arith, IsBase, IsFrameNumber, Names, Command, inl, inr, decimal_injective, hex_behind, NamePlace}
 use Rattle.mig_headers.specs.RecordTypes.{vcpu_limit}
+use Rattle.mig_tool_report.specs.declared.command.Command.TheVariants.{Normalise, Restore, Verify, Convert, Save, Exercise, Walk, WalkImage, Relay, Show}
 
 -- the third letter of the first word, and how long that is
 abbrev initial : List (List ℕ) → ℕ

@@ -19,13 +19,6 @@ pub record Rejected (Has : Refusing) (input : List ℕ) (left : Option (List ℕ
   pub refused : Has input refusal rest
   pub left_is : left ≡ Some rest
 
--- what stands on the output and on the report, before the call and after it
-pub record Written : Type 0 where
-  pub out_old : Option (List ℕ)
-  pub out_new : Option (List ℕ)
-  pub report_old : Option (List ℕ)
-  pub report_new : Option (List ℕ)
-
 -- Of an input that tells its bytes: it is done, or a part of it where a write failed, or it has a refusal of these and was
 -- taken up to the end of the faulty part. A read fault and want of memory say nothing, and status 2 is that of no command.
 abbrev pub StatusSays : (Done Part : List ℕ → Type 0) → Refusing → Option (List ℕ) → Option (List ℕ) → Status → Type 0

@@ -21,28 +21,28 @@ const MOST_EXERCISE_FRAMES: u64 = 65536;
 /// An address has at most so many digits.
 const MOST_DIGITS: usize = 16;
 
-/// What the program is to do.
+/// What the program is to do. It takes its input, writes on the output, and says on the report.
 #[derive(Clone, Copy, Debug, PartialEq, Eq)]
 pub enum Command {
-    /// Write the stream in its canonical form.
+    /// Take a stream, and write it in its canonical form.
     Normalise,
-    /// Write the image of the restored guest, machine frames counted up from this base.
+    /// Take a stream, and write the image of its guest's host, with machine frames counted up from this base.
     Restore(u64),
-    /// Say what the stream is.
+    /// Take a stream, and say what it is.
     Verify,
-    /// Write the guest of the legacy stream as a canonical stream.
+    /// Take a legacy stream, and write the canonical stream of its guest.
     Convert,
-    /// Save a host live, while the lines of a script run on it, and write it as a stream.
+    /// Take the image of a host and a script, write the host as a stream while the script runs, and say how it was saved.
     Save,
-    /// Save a host of so many frames live, whose contents and script follow from the seed, and say how.
+    /// Take nothing, and say what a save came to of a host of so many frames, whose contents and script follow from the seed.
     Exercise { seed: u64, frames: u64 },
-    /// Say which frame of the stream's guest an address means to a vCPU.
+    /// Take a stream, and say which frame of its guest the address means to the vCPU.
     Walk { vcpu: u32, address: u64 },
-    /// Say which machine frame of the image's host an address means to a vCPU.
+    /// Take the image of a host, and say which machine frame the address means to the vCPU there.
     WalkImage { vcpu: u32, address: u64 },
-    /// Pass the stream on while it is judged.
+    /// Take a stream, write what was taken once that is judged, and say how much that was.
     Relay,
-    /// Show the stream's records as JSON.
+    /// Take a stream, and write a JSON text of the records in front of its end, or of the part that is refused.
     Show,
 }
 
