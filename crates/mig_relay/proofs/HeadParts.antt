@@ -1,7 +1,8 @@
 -- What comes next behind a record's head.
-use Rattle.mig_relay.proofs.Common.{◌≡◌, ◌≢◌, ℕ, ◌+◌, ◌<◌, ◌≤◌, not, nat_eq, nat_le, min, Bool, true, false, cond, List, [], ◌∷◌, ◌++◌, length, Option, Some, None, refl, sym, ap, subst, ◌∙◌, arith, length-append, leb-true, eqb-true, eqb-false, eq-eqb, ne_eqb, common_steps, option_or, padding_len, Judged, ◌>>=◌, part, tried, placed, Passes, Faulty, LibxlRecord, parts_of_body, PartCode, numbers_are_inverse, type_of_number, is_optional, first_fault, RecordType, X86PvInfo, X86PvP2mFrames, Cause, Truncated, BadLength, Place, Record, is_libxl_ended, image_among, AreBehind, kind_of_image, Bare, RecordsBehind, emulator_more, among_first, IsBegunBody, piece_len, fault_of_record_body, record_content, typed_content, coded_content, bodies_are_parts, fault_of_length, head_in, RecordHead, Opening, before, body_at, code_of_type, fault_of_head, fault_of_fields, Nothing, Sets, Lists, StreamRecord, Content, types_of, is_ended, IsSeen, RecordsSeen, Kind, ImageOf, image_of, ComesBehind, ComesNext, image_next, Keeps, KeepsGoing, KeepsHead, KeepsRecords, KeepsOuter, HasNumber, fault_of_empty, AtHead, AtBody, AtFront, judged_next, record_with, with_body, BeginsWithPart, Outer, Alone, Behind, Spot, AtLibxlHead, InImage, AtEnd, spot, carry, image_record, Relay, most_body, has_emulator, IfSome, image_begins, pages_begin, image_whole, image_end, inner_end}
+use Rattle.mig_relay.proofs.Common.{◌≡◌, ◌≢◌, ℕ, ◌+◌, ◌<◌, ◌≤◌, not, nat_eq, nat_le, Bool, true, false, cond, List, [], ◌∷◌, ◌++◌, length, Option, Some, None, refl, sym, ap, subst, ◌∙◌, arith, length-append, leb-true, eqb-true, eqb-false, eq-eqb, ne_eqb, common_steps, option_or, padding_len, Judged, ◌>>=◌, part, tried, placed, Passes, Faulty, LibxlRecord, parts_of_body, PartCode, numbers_are_inverse, type_of_number, is_optional, first_fault, RecordType, X86PvInfo, X86PvP2mFrames, Cause, Truncated, BadLength, Place, Record, is_libxl_ended, image_among, AreBehind, kind_of_image, Bare, RecordsBehind, emulator_more, among_first, fault_of_record_body, record_content, typed_content, coded_content, bodies_are_parts, fault_of_length, head_in, RecordHead, Opening, before, body_at, code_of_type, fault_of_head, fault_of_fields, Nothing, Sets, Lists, StreamRecord, Content, types_of, is_ended, IsSeen, RecordsSeen, Kind, ImageOf, image_of, ComesBehind, ComesNext, image_next, Keeps, KeepsGoing, KeepsHead, KeepsRecords, KeepsOuter, HasNumber, fault_of_empty, AtHead, AtBody, AtFront, judged_next, record_with, with_body, BeginsWithPart, Outer, Alone, Behind, Spot, AtLibxlHead, InImage, AtEnd, spot, carry, image_record, Relay, most_body, has_emulator, IfSome, image_begins, pages_begin, image_whole, image_end, inner_end}
 use Rattle.std.proofs.Common.{◌&&◌}
 use Rattle.std.proofs.Math.Bool.{or-false}
+use Rattle.mig_relay.specs.Keeping.{HasBegun}
 use Rattle.mig_relay.proofs.Kept.{ListsNone, number_is, seen_more, ending, top_same, outer_same, records_more, libxl_going_on}
 use Rattle.mig_relay.proofs.Unrolls.{head_is, empty_is, no_padding}
 use Rattle.mig_relay.proofs.SpotParts.{alone_ended, wrapped_ended}
@@ -129,20 +130,6 @@ pub record Begun (t : Relay) (outer : Outer) (o : Opening) (records : List Strea
   pub same : (more : List ℕ) → spot (InImage outer (AtBody o records head)) more ≡ spot next more
   pub keeps : Keeps t next []
   pub follows : (piece : List ℕ) → length piece ≡ 8 → head_in piece ≡ head → ComesNext (InImage outer (AtHead o records)) [] piece next []
-
--- what a relay has behind a head
-pub record HasBegun (r t : Relay) (head : RecordHead) : Type 0 where
-  pub seen : t.seen ≡ r.seen
-  pub top : t.top ≡ r.top
-  pub pages : head.kind ≡ 1 → t.coming ≡ comes.Front head
-  pub body : head.kind ≢ 1 → 0 < head.len → t.coming ≡ comes.Body head
-  pub begun : head.kind ≢ 1 → 0 < head.len → IsBegunBody t.body (fault_of_record_body head.kind) []
-  pub len : head.kind ≢ 1 → 0 < head.len → t.body.len ≡ head.len
-  pub p2m : head.kind ≡ 3 → 0 < head.len → piece_len t.body ≡ min head.len 4096
-  pub mark : head.kind ≢ 1 → head.len ≡ 0 → head.kind ≢ 0 → t.coming ≡ comes.Head
-  pub wrapper : (head.kind ≡ 0 → 0 < head.len) → t.wrapper ≡ r.wrapper
-  pub alone : head.kind ≡ 0 → head.len ≡ 0 → r.wrapper ≡ None → (t.coming ≡ comes.End) × (t.wrapper ≡ None)
-  pub wrapped : head.kind ≡ 0 → head.len ≡ 0 → IfSome r.wrapper (λ behind. (t.coming ≡ comes.LibxlHead) × (t.wrapper ≡ Some (record { records = behind.records + 1; emulated = behind.emulated; image = Some r.seen.kind })))
 
 -- a head of an image's record that was judged: what the relay knows of the records, and of it
 pub record IsJudged (r : Relay) (o : Opening) (records : List StreamRecord) (head : RecordHead) : Type 0 where

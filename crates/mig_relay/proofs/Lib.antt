@@ -9,7 +9,6 @@ pub mod Streams
 pub mod Tells
 pub mod KeptCauses
 pub mod StreamsKept
-pub mod Binds
 pub mod Moves
 pub mod Unrolls
 pub mod PageParts

@@ -1,10 +1,10 @@
 -- What comes next behind the head of a libxl record.
-use Rattle.mig_relay.proofs.Common.{◌≡◌, ◌≢◌, ℕ, ◌<◌, nat_eq, nat_le, Bool, true, false, List, [], length, Option, Some, None, refl, sym, ap, subst, ◌∙◌, arith, leb-true, eqb-true, eqb-false, common_steps, LibxlRecord, Kind, image_among, AreBehind, kind_of_image, RecordsSeen, Wrapped, RecordsBehind, IsBegunBody, fault_of_libxl_body, head_in, RecordHead, ImageOf, ComesBehind, ComesNext, libxl_next, Keeps, KeepsGoing, KeepsWrapper, HasNumber, with_one, AtMarker, Behind, Spot, AtLibxlHead, AtLibxlBody, InImage, AtEnd, spot, Relay, IsSome, MayFollow, allows_length, most_records, libxl_begins, libxl_whole, libxl_context, libxl_end}
+use Rattle.mig_relay.proofs.Common.{◌≡◌, ◌≢◌, ℕ, ◌<◌, nat_eq, nat_le, Bool, true, false, List, [], length, Option, Some, None, refl, sym, ap, subst, ◌∙◌, arith, leb-true, eqb-true, eqb-false, common_steps, LibxlRecord, Kind, image_among, AreBehind, kind_of_image, RecordsSeen, Wrapped, RecordsBehind, fault_of_libxl_body, head_in, RecordHead, ImageOf, ComesBehind, ComesNext, libxl_next, Keeps, KeepsGoing, KeepsWrapper, HasNumber, AtMarker, Behind, Spot, AtLibxlHead, AtLibxlBody, InImage, AtEnd, spot, Relay, IsSome, MayFollow, allows_length, most_records, libxl_begins, libxl_whole, libxl_context, libxl_end}
 use Rattle.std.proofs.Common.{◌⊎◌, inl, inr}
 use Rattle.mig_relay.proofs.BehindBodies.{no_image as no_image_said}
+use Rattle.mig_relay.specs.Keeping.{HasBegunLibxl}
 use Rattle.mig_relay.proofs.Kept.{among_same, wrapped_more, wrapper_same, libxl_ending}
 use Rattle.mig_relay.proofs.SpotParts.{behind_libxl_head, libxl_content, libxl_image, libxl_bodied, libxl_empty, libxl_ended, with_libxl}
-use Rattle.mig_relay.specs.declared.state.Coming.TheVariants as comes
 
 -- a relay that keeps what comes next, which is judged as what follows this head is
 pub record BegunLibxl (t : Relay) (records : List LibxlRecord) (head : RecordHead) : Type 0 where
@@ -12,16 +12,6 @@ pub record BegunLibxl (t : Relay) (records : List LibxlRecord) (head : RecordHea
   pub same : (more : List ℕ) → behind_libxl_head records head more ≡ spot next more
   pub keeps : Keeps t next []
   pub follows : (piece : List ℕ) → length piece ≡ 8 → head_in piece ≡ head → ComesNext (AtLibxlHead records) [] piece next []
-
--- what a relay has behind such a head
-pub record HasBegunLibxl (r t : Relay) (behind : RecordsBehind) (head : RecordHead) : Type 0 where
-  pub seen : t.seen ≡ r.seen
-  pub image : head.kind ≡ 1 → (t.coming ≡ comes.Marker) × (t.wrapper ≡ r.wrapper)
-  pub end : head.kind ≡ 0 → t.coming ≡ comes.End
-  pub body : head.kind ≢ 0 → head.kind ≢ 1 → 0 < head.len → (t.coming ≡ comes.LibxlBody head) × (t.wrapper ≡ r.wrapper)
-  pub begun : head.kind ≢ 0 → head.kind ≢ 1 → 0 < head.len → IsBegunBody t.body (fault_of_libxl_body head.kind) []
-  pub len : head.kind ≢ 0 → head.kind ≢ 1 → 0 < head.len → t.body.len ≡ head.len
-  pub empty : head.kind ≢ 0 → head.kind ≢ 1 → head.len ≡ 0 → (t.coming ≡ comes.LibxlHead) × (t.wrapper ≡ Some (with_one head.kind behind))
 
 -- what is known of the records behind a relay is what its wrapper has
 pub same_behind : (r : Relay) (records : List LibxlRecord) (w : KeepsWrapper r records) (behind : RecordsBehind) → r.wrapper ≡ Some behind → behind ≡ w.behind

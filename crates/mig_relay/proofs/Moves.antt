@@ -1,5 +1,6 @@
 -- What a step over one part does, whatever the part is.
 use Rattle.mig_relay.proofs.Common.{◌≡◌, ℕ, ◌+◌, ◌<◌, ◌≤◌, List, [], ◌++◌, length, take, drop, Bool, true, false, cond, nat_lt, Option, Some, None, Result, Ok, Err, refl, sym, ap, subst, ◌∙◌, arith, append_assoc, append-nil, length-append, length-take-le, length-drop, take-append-drop, lt-ltb, ltb-true, Consumes, Appends, AppendsPart, TakesFew, Judged, ◌>>=◌, part, tried, placed, AgreesWithJudging, Passes, Faulty, Stop, part_passes, part_whole, same_faulty, Cause, Truncated, Place, StreamOf, ComesNext, place_of_spot, Keeps, BeginsWithPart, Spot, spot, held, is_judged_first, counted, FrontsAreCut, PassedPiece, IsUnfinished, Refuses, Stops, StepMoved, MovedBy, answer_of, RelayAnswer, Refused, WriteFault, Memory, Step, Relay, unless_faulty, IsStep, KeepsWordsInHand}
+use Rattle.std.proofs.KnownBytes.{Appends-nil}
 use Rattle.std.proofs.lemmas.Bool.{true≢false}
 use Rattle.mig_bytes.specs.declared.stop.Stop.TheVariants as stops
 
@@ -23,10 +24,6 @@ short_is n left c rest h = by (nat_lt (length left) n) refl h
     by : (b : Bool) → nat_lt (length left) n ≡ b → ◌≡◌ {A = Judged Cause (List ℕ)} (cond b (Faulty Truncated []) (Passes (take n left) (drop n left))) (Faulty c rest) → Short n left c rest
     by true is e = let same = same_faulty Truncated c [] rest e in record { less = ltb-true _ _ is; truncated = sym same.0; nothing_left = sym same.1 }
     by false is e = let no : ◌≡◌ {A = Judged Cause (List ℕ)} (Passes (take n left) (drop n left)) (Faulty c rest) = e in absurd (cc)
-
-pub nothing : (o : Option (List ℕ)) → Appends o o []
-nothing None = tt
-nothing (Some xs) = sym (append-nil xs)
 
 module _ (here : Spot) (place : Place) (size : ℕ) (fault : List ℕ → Option Cause) (follows : List ℕ → List ℕ → Judged (Place × Cause) StreamOf) (is : BeginsWithPart (spot here) place size fault follows) where
   -- fewer bytes than the part has
@@ -66,7 +63,7 @@ module _ (here : Spot) (place : Place) (size : ℕ) (fault : List ℕ → Option
     stopped buf e answer is_answer room some kept h small gone at = subst (λ (a : RelayAnswer). StepMoved here begun r t old new before now (Err a)) (sym is_answer) (record { is = by e h })
       where
         written : Appends before now []
-        written = subst (λ o. Appends before o []) kept (nothing before)
+        written = subst (λ o. Appends before o []) kept (Appends-nil before)
 
         less : length begun < size
         less = omega (arith, room, some)
@@ -131,7 +128,7 @@ module _ {here : Spot} {place : Place} {size : ℕ} {fault : List ℕ → Option
 
   pub not_allowed : (u : Unit {0}) (c : Cause) (answer : RelayAnswer) → answer ≡ Refused place c → Some c ≡ fault buf → before ≡ now → AgreesWithJudging (Buffered buf) old new (part Truncated (length buf)) (Ok u) → place_of_spot here ≡ Some place → StepMoved here [] r t old new before now (Err answer)
   not_allowed u c answer is_answer stands kept h at =
-      refused here place size fault follows is [] r t old new before now buf [] buf u c answer is_answer whole (sym stands) h refl small (subst (λ o. Appends before o []) kept (nothing before)) (λ _. refl)
+      refused here place size fault follows is [] r t old new before now buf [] buf u c answer is_answer whole (sym stands) h refl small (subst (λ o. Appends before o []) kept (Appends-nil before)) (λ _. refl)
       ((place, Truncated), [], cut here place size fault follows is [] is.some) at
 
   pub not_written : (u : Unit {0}) → AgreesWithJudging (Buffered buf) old new (part Truncated (length buf)) (Ok u) → AppendsPart before now buf → StepMoved here [] r t old new before now (Err WriteFault)
@@ -141,7 +138,7 @@ module _ {here : Spot} {place : Place} {size : ℕ} {fault : List ℕ → Option
   pub gave_up : (u : Unit {0}) → before ≡ now → AgreesWithJudging (Buffered buf) old new (part Truncated (length buf)) (Ok u) → StepMoved here [] r t old new before now (Err Memory)
   gave_up u kept h = record {
     is =
-        ([], record { others = buf; few = omega (arith, small); taken = consumed (length buf) buf u old new h; written = subst (λ o. Appends before o []) kept (nothing before) }, (place, cut here place size fault follows is [] is.some), fronts_cut here place size fault follows is [] r t old new before now [] (omega (arith, is.some)));
+        ([], record { others = buf; few = omega (arith, small); taken = consumed (length buf) buf u old new h; written = subst (λ o. Appends before o []) kept (Appends-nil before) }, (place, cut here place size fault follows is [] is.some), fronts_cut here place size fault follows is [] r t old new before now [] (omega (arith, is.some)));
   }
 
   pub went : (u : Unit {0}) (next : Spot) (front : List ℕ) (step : Step) → None ≡ fault buf → AgreesWithJudging (Buffered buf) old new (part Truncated (length buf)) (Ok u) → Appends before now buf → ((more : List ℕ) → follows buf more ≡ spot next (front ++ more)) → Keeps t next front

@@ -1,12 +1,11 @@
 -- What comes next in a stream is a part of so many bytes, and what is judged behind it.
 use Rattle.mig_relay.proofs.Common.{◌≡◌, ◌≢◌, ℕ, ◌<◌, nat_le, nat_lt, ◌==◌, Bool, cond, List, [], ◌∷◌, ◌++◌, length, take, drop, true, false, Option, Some, None, refl, sym, ap, ◌∙◌, arith, length-append, length-take-le, take-append-drop, lt-ltb, ltb-true, ltb-false, le-leb, ne_eqb, eq-eqb, padding_len, le32, be64, Judged, ◌>>=◌, part, tried, placed, said_at, plain_at, Passes, Faulty, onward, said_part, no_bytes, part_whole, over, goes_on, LibxlRecord, LibxlContent, Image, Pairs, Context, marker_of, fault_of_marker, fault_of_libxl, Cause, Truncated, Place, ImageHeader, LibxlHeader, is_libxl_ended, emulator_key, fault_of_libxl_head, libxl_head_at, StreamOf, Bare, Wrapped, open_image_at, open_bare, open_content, open_inner, open_body, fault_of_libxl_body, pairs_in, head_in, RecordHead, Opening, StreamRecord, is_ended, ImageOf, image_of, AtMarker, AtVersion, AtHead, BeginsWithPart, Alone, Behind, AtLibxlHeader, AtLibxlHead, AtLibxlBody, AtLibxlPadding, AtStart, InImage, AtEnd, spot, carry, image_record, is_ident, fault_of_first, lt-leb, libxl_padded}
 use Rattle.std.proofs.Common.{drop_at}
-use Rattle.mig_relay.proofs.Binds.{bind_assoc}
 use Rattle.mig_libxl_form.specs.Content.LibxlContent.{Nothing}
 use Rattle.mig_headers.specs.declared.fault.Place.TheVariants.{LibxlRecord as AtRecord}
 use Rattle.mig_relay.specs.Streams.{open_stream_at, open_wrapped, open_libxl_records, open_libxl_record}
 use Rattle.mig_relay.proofs.Records.{libxl_shrinks}
-use Rattle.mig_relay.proofs.Unrolls.{marker_is, ended}
+use Rattle.mig_relay.proofs.Unrolls.{bind_assoc, marker_is, ended}
 
 -- a part of an image is one of the stream around it, too
 pub lifted : {X Y : Type 0} {judged_here : List ℕ → Judged (Place × Cause) X} {place : Place} {size : ℕ} {fault : List ℕ → Option Cause} {follows : List ℕ → List ℕ → Judged (Place × Cause) X} (k : X × List ℕ → Judged (Place × Cause) Y) → BeginsWithPart judged_here place size fault follows

@@ -1,5 +1,6 @@
 -- From what a relay keeps to the bytes that it stands for.
 use Rattle.mig_relay.proofs.Common.{◌≡◌, ◌≢◌, ℕ, ◌≤◌, Bool, true, false, List, [], ◌∷◌, ◌++◌, length, take, drop, min, ◌+◌, ◌-◌, ◌^◌, ◌<◌, Option, Some, None, Result, Ok, Err, refl, sym, ap, subst, ◌∙◌, arith, append_assoc, append-nil, length-append, length-drop, take-append-drop, Consumes, Appends, AppendsPart, Judged, Passes, passes_not, Cause, Truncated, Place, StreamOf, IsPassable, fault_of_record_body, record_content, bodies_are_parts, before, with_places, in_hand, place_of_spot, Keeps, KeepsNext, HasRecords, Next, AtMarker, AtVersion, AtKind, AtHead, AtBody, AtFront, AtWords, AtPages, AtPadding, BeginsWithPart, HasPassed, IsRelayed, Turned, RisesOnAnswer, WritesOnReadFault, Outer, Spot, AtStart, AtLibxlHeader, AtLibxlHead, AtLibxlBody, AtLibxlPadding, InImage, AtEnd, spot, held, carry, FrontsAreCut, PassedPiece, IsUnfinished, is_judged_first, Refuses, Stops, StepMoved, MovedBy, counted, Fits, RelayAnswer, Refused, WriteFault, Memory, Relayed, Step, Coming, Relay, is_some, places_len, Stands, RisesOnFault, EndsInside, WritesSome, may_wait, most_waiting, ReadFault}
+use Rattle.std.proofs.KnownBytes.{Appends-nil, Appends-trans, Consumes-trans}
 use Rattle.std.proofs.lemmas.Bool.{true≢false}
 use mathlib.Core.Logic.{inl, inr}
 use Rattle.std.specs.Io.KnownBytes.{Keeps as Stays}
@@ -8,7 +9,7 @@ use Rattle.mig_relay.specs.Streams.{open_stream_at}
 use Rattle.mig_relay.proofs.Streams.{unfinished_is_not_accepted}
 use Rattle.mig_relay.specs.Relaying.{RelayedBy, PassedPart as IsWritten, RefusedPart, NoneIsAccepted, NoneWaits, IsCutPart, IsWrittenPart, TurnedBy, held_answer, unwritten}
 use Rattle.mig_relay.specs.Standing.{StandsForBytes, StepSays, PassesOn, IsRefusedBehind, WritesSomeBehind, StopsInside, is_at_end, is_within, goes_on}
-use Rattle.mig_relay.proofs.Moves.{cut, nothing}
+use Rattle.mig_relay.proofs.Moves.{cut}
 use Rattle.mig_relay.proofs.Paging.{front_is, words_is, page_is}
 use Rattle.mig_relay.proofs.Places.{Told, told}
 use Rattle.mig_relay.proofs.SpotParts.{lifted, start_is, header_is, libxl_head_is, libxl_body_is, libxl_padding_is}
@@ -206,20 +207,6 @@ module _ (r t : Relay) (old new before now : Option (List ℕ)) (result : Result
 
 -- ---- what was taken and written so far
 
--- what was taken, and what was taken behind it
-pub consumed_on : (a b c : Option (List ℕ)) (xs ys : List ℕ) → Consumes a b xs → Consumes b c ys → Consumes a c (xs ++ ys)
-consumed_on None b c xs ys p q = tt
-consumed_on (Some l) None c xs ys p q = absurd p
-consumed_on (Some l) (Some m) None xs ys p q = absurd q
-consumed_on (Some l) (Some m) (Some n) xs ys p q = p ∙ ap (λ k. xs ++ k) q ∙ sym (append_assoc xs ys n)
-
--- what was written, and what was written behind it
-appended_on : (a b c : Option (List ℕ)) (xs ys : List ℕ) → Appends a b xs → Appends b c ys → Appends a c (xs ++ ys)
-appended_on None b c xs ys p q = tt
-appended_on (Some l) None c xs ys p q = absurd p
-appended_on (Some l) (Some m) None xs ys p q = absurd q
-appended_on (Some l) (Some m) (Some n) xs ys p q = q ∙ ap (λ k. k ++ ys) p ∙ append_assoc l xs ys
-
 -- nothing was written or taken
 kept : (a b : Option (List ℕ)) → Stays a b → Appends a b []
 kept None b p = tt
@@ -258,7 +245,7 @@ module _ (old new before now later : Option (List ℕ)) (waiting : List ℕ) (g 
           wrote = g.wrote ++ take k waiting;
           others = drop k waiting ++ g.rest;
           taken = subst (Consumes old new) (sym (ap (λ l. l ++ g.rest) whole) ∙ append_assoc (g.wrote ++ take k waiting) (drop k waiting) g.rest) g.taken;
-          written = appended_on before now later g.wrote (take k waiting) g.written put;
+          written = Appends-trans before now later g.wrote (take k waiting) g.written put;
           held = record {
             waiting = drop k waiting;
             rest = g.rest;
@@ -284,7 +271,7 @@ module _ (old new before now later : Option (List ℕ)) (waiting : List ℕ) (g 
       wrote = g.wrote ++ waiting;
       others = g.rest;
       taken = g.taken;
-      written = appended_on before now later g.wrote waiting g.written put;
+      written = Appends-trans before now later g.wrote waiting g.written put;
       held = record {
         waiting = [];
         rest = g.rest;
@@ -387,7 +374,7 @@ none_shorter here begun front more split some = absurd (omega (arith, ap length 
 -- the first bytes
 pub passed_none : (r : Relay) (old before : Option (List ℕ)) (waiting : List ℕ) → waiting ≡ [] → StandsForBytes r [] → HasPassed r waiting old old before before
 passed_none r old before waiting none s =
-    subst (λ l. HasPassed r l old old before before) (sym none) (record { wrote = []; stands = s; cuts = none_shorter AtStart []; taken = left_alone old old (stays old); written = nothing before })
+    subst (λ l. HasPassed r l old old before before) (sym none) (record { wrote = []; stands = s; cuts = none_shorter AtStart []; taken = left_alone old old (stays old); written = Appends-nil before })
 
 -- nothing waits in front of the first part
 pub fits_none : (r : Relay) (waiting : List ℕ) → waiting ≡ [] → Fits r waiting
@@ -406,7 +393,7 @@ flushed r waiting old new before now later h put =
       stands = subst (StandsForBytes r) same h.stands;
       cuts = subst (FrontsAreCut AtStart []) same h.cuts;
       taken = subst (Consumes old new) same h.taken;
-      written = appended_on before now later h.wrote waiting h.written put;
+      written = Appends-trans before now later h.wrote waiting h.written put;
     }
 
 module _ (r t : Relay) (waiting waits : List ℕ) (old mid new before now : Option (List ℕ)) (h : HasPassed r waiting old mid before now) (fits : Fits r waiting) where
@@ -429,7 +416,7 @@ module _ (r t : Relay) (waiting waits : List ℕ) (old mid new before now : Opti
     begun = s.begun ++ piece;
     same = λ more. ap (λ l. open_stream_at (l ++ more)) (sym (longer piece is)) ∙ ap open_stream_at (append_assoc (h.wrote ++ waiting) piece more) ∙ s.same (piece ++ more) ∙ ap (spot s.here) (sym (append_assoc s.begun piece more));
     cuts = cuts_on piece is cuts;
-    taken = subst (Consumes old new) (sym (append_assoc (h.wrote ++ waiting) piece rest) ∙ ap (λ l. l ++ rest) (longer piece is)) (consumed_on old mid new (h.wrote ++ waiting) (piece ++ rest) h.taken taken);
+    taken = subst (Consumes old new) (sym (append_assoc (h.wrote ++ waiting) piece rest) ∙ ap (λ l. l ++ rest) (longer piece is)) (Consumes-trans old mid new (h.wrote ++ waiting) (piece ++ rest) h.taken taken);
     written = h.written;
     few = omega (arith, few, fits, (is_at r s.here s.begun s.keeps).room, ap length is, length-append waiting piece);
     rest_few = omega (arith, few);
@@ -484,7 +471,7 @@ module _ (r t : Relay) (waiting waits : List ℕ) (old mid new before now : Opti
     wrote = h.wrote;
     stands = subst (StandsForBytes t) (longer g.piece g.written) (stands_on s g);
     cuts = cuts_on g.piece g.written g.cuts;
-    taken = subst (Consumes old new) (longer g.piece g.written) (consumed_on old mid new (h.wrote ++ waiting) g.piece h.taken g.taken);
+    taken = subst (Consumes old new) (longer g.piece g.written) (Consumes-trans old mid new (h.wrote ++ waiting) g.piece h.taken g.taken);
     written = h.written;
   }
 
@@ -494,7 +481,7 @@ module _ (r t : Relay) (waiting waits : List ℕ) (old mid new before now : Opti
       let same = stays_there (done_at_end s.here s.begun r t mid new (Some waiting) (Some waits) s.keeps m) in
       subst (λ (x : Relay). HasPassed x waits old new before now) (sym same)
       (subst (λ l. HasPassed r l old new before now) (sym m.is.3)
-      (record { wrote = h.wrote; stands = s; cuts = h.cuts; taken = subst (Consumes old new) (append-nil (h.wrote ++ waiting)) (consumed_on old mid new (h.wrote ++ waiting) [] h.taken (left_alone mid new m.is.2)); written = h.written }))
+      (record { wrote = h.wrote; stands = s; cuts = h.cuts; taken = subst (Consumes old new) (append-nil (h.wrote ++ waiting)) (Consumes-trans old mid new (h.wrote ++ waiting) [] h.taken (left_alone mid new m.is.2)); written = h.written }))
   passes_on step stays_there m = more_passed step m.is
 
   -- where the relay goes on, no more waits than may
@@ -607,4 +594,4 @@ rest_broke_off r waiting old new before now later h fits put = record { is = bro
 pub gave_up_on : (r : Relay) (old new before now : Option (List ℕ)) → HasPassed r [] old new before now → is_at_end r.coming ≡ false → IsRelayed old new before now (Err Memory)
 unfolding at_rest gather
 gave_up_on r old new before now h going =
-    record { is = cut_written old new before now now [] (nothing now) (record { g = at_rest r [] old new before now h (omega arith); cut = is_front h.stands going }) }
+    record { is = cut_written old new before now now [] (Appends-nil now) (record { g = at_rest r [] old new before now h (omega arith); cut = is_front h.stands going }) }

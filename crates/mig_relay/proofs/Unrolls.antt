@@ -1,10 +1,19 @@
 -- What comes next in an image is a part of so many bytes, and what is judged behind it.
 use Rattle.mig_relay.proofs.Common.{◌≡◌, ℕ, ◌<◌, List, [], ◌∷◌, ◌++◌, length, true, false, Option, None, refl, ap, ◌∙◌, arith, padding_len, le32, be32, Judged, ◌>>=◌, part, tried, placed, said_at, Passes, Faulty, onward, said_part, no_bytes, over, goes_on, fault_of_marker, fault_of_image, fault_of_domain, kind_of_number, Cause, Truncated, Place, ImageHeader, DomainHeader, Record, open_next, head_in, RecordHead, Opening, opening_of, before, fault_of_head, head_at, record_at, body_at, StreamRecord, Content, is_ended, image_of, opening_behind, marker_at, version_at, kind_at, begins, AtMarker, AtVersion, AtKind, AtHead, AtBody, AtPadding, judged_next, record_with, with_body, BeginsWithPart, plain_part, with_record, padded}
-use Rattle.mig_relay.proofs.Binds.{bind_assoc, placed_bind}
 use Rattle.mig_relay.specs.Images.{open_records, open_image_at}
 use Rattle.mig_relay.proofs.Images.{open_shrinks}
 use Rattle.mig_restore_form.specs.Stream.{opening_at}
 use Rattle.mig_restore_form.proofs.Parts.{behind_head, behind_body}
+
+-- ---- judgements one after another, regrouped
+
+pub bind_assoc : {C X Y Z : Type 0} (j : Judged C X) (f : X × List ℕ → Judged C Y) (k : Y × List ℕ → Judged C Z) → ((j >>= f) >>= k) ≡ (j >>= λ a. f a >>= k)
+bind_assoc (Passes x rest) f k = refl
+bind_assoc (Faulty c rest) f k = refl
+
+placed_bind : {P C X Y Z : Type 0} (place : P) (j : Judged C X) (f : X × List ℕ → Judged C Y) (k : Y × List ℕ → Judged (P × C) Z) → (placed place (j >>= f) >>= k) ≡ (placed place j >>= λ a. placed place (f a) >>= k)
+placed_bind place (Passes x rest) f k = refl
+placed_bind place (Faulty c rest) f k = refl
 
 -- ---- headers
 

@@ -1,5 +1,5 @@
 -- What a relay keeps of the front that it has behind it. It keeps no pages and no bodies.
-use Rattle.std.specs.Prelude.{◌≡◌, ◌≢◌, ◌<◌, ◌≤◌, ◌+◌, ◌*◌, ◌^◌, ◌==◌, ◌||◌, ◌&&◌, not, ℕ, true, false, List, [], ◌∷◌, ◌++◌, length, drop, slice_index, Option, Some, None, ⊤, if◌then◌else◌}
+use Rattle.std.specs.Prelude.{◌≡◌, ◌≢◌, ◌<◌, ◌≤◌, ◌+◌, ◌*◌, ◌^◌, ◌==◌, ◌||◌, ◌&&◌, not, ℕ, true, false, List, [], ◌∷◌, ◌++◌, length, drop, slice_index, min, IfSome, Option, Some, None, ⊤, if◌then◌else◌}
 use Rattle.mig_records.specs.PvBodies.{greater}
 use Rattle.mig_relay.specs.Common.{padding_len, le32, LibxlRecord, most_body, type_number, End, PageData, X86PvP2mFrames, is_emulator_type, libxc_context_type, libxl_end_type, Cause, is_libxl_ended, image_in, image_among, StreamOf, image_of_stream, word_has_data, IsBegunBody, piece_len, fault_of_record_body, fault_of_libxl_body, RecordHead, Opening, before, fault_of_fields, most_records, with_places, StreamRecord, FrameEntry, types_of, is_ended, ImageOf}
 use Rattle.mig_libxl_form.specs.Behind.{AreBehind}
@@ -128,3 +128,30 @@ Keeps r (AtEnd s) begun = (r.coming ≡ comes.End) × HasRecords r.seen.records 
 -- a relay that stands somewhere: nothing was refused yet and nothing failed
 abbrev pub Stands : Relay → Type 0
 Stands r = (here : Spot) × (begun : List ℕ) × Keeps r here begun
+
+-- ---- what the head of a record leaves
+
+-- of an image: r became t, which waits for what follows the head
+pub record HasBegun (r t : Relay) (head : RecordHead) : Type 0 where
+  pub seen : t.seen ≡ r.seen
+  pub top : t.top ≡ r.top
+  pub pages : head.kind ≡ type_number PageData → t.coming ≡ comes.Front head
+  pub body : head.kind ≢ type_number PageData → 0 < head.len → t.coming ≡ comes.Body head
+  pub begun : head.kind ≢ type_number PageData → 0 < head.len → IsBegunBody t.body (fault_of_record_body head.kind) []
+  pub len : head.kind ≢ type_number PageData → 0 < head.len → t.body.len ≡ head.len
+  pub p2m : head.kind ≡ type_number X86PvP2mFrames → 0 < head.len → piece_len t.body ≡ min head.len 4096
+  pub mark : head.kind ≢ type_number PageData → head.len ≡ 0 → head.kind ≢ type_number End → t.coming ≡ comes.Head
+  pub wrapper : (head.kind ≡ type_number End → 0 < head.len) → t.wrapper ≡ r.wrapper
+  pub alone : head.kind ≡ type_number End → head.len ≡ 0 → r.wrapper ≡ None → (t.coming ≡ comes.End) × (t.wrapper ≡ None)
+  pub wrapped : head.kind ≡ type_number End → head.len ≡ 0 → IfSome r.wrapper (λ behind. (t.coming ≡ comes.LibxlHead)
+      × (t.wrapper ≡ Some (record { records = behind.records + 1; emulated = behind.emulated; image = Some r.seen.kind })))
+
+-- the same of a libxl stream, where this is known of the records before
+pub record HasBegunLibxl (r t : Relay) (behind : RecordsBehind) (head : RecordHead) : Type 0 where
+  pub seen : t.seen ≡ r.seen
+  pub image : head.kind ≡ libxc_context_type → (t.coming ≡ comes.Marker) × (t.wrapper ≡ r.wrapper)
+  pub end : head.kind ≡ libxl_end_type → t.coming ≡ comes.End
+  pub body : head.kind ≢ libxl_end_type → head.kind ≢ libxc_context_type → 0 < head.len → (t.coming ≡ comes.LibxlBody head) × (t.wrapper ≡ r.wrapper)
+  pub begun : head.kind ≢ libxl_end_type → head.kind ≢ libxc_context_type → 0 < head.len → IsBegunBody t.body (fault_of_libxl_body head.kind) []
+  pub len : head.kind ≢ libxl_end_type → head.kind ≢ libxc_context_type → 0 < head.len → t.body.len ≡ head.len
+  pub empty : head.kind ≢ libxl_end_type → head.kind ≢ libxc_context_type → head.len ≡ 0 → (t.coming ≡ comes.LibxlHead) × (t.wrapper ≡ Some (with_one head.kind behind))

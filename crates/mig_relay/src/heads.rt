@@ -2,7 +2,7 @@ ghost use Rattle.std.specs.Prelude.{min, ◌≡◌, ◌≢◌, ◌<◌, ◌≤�
 ghost use Rattle.mig_relay.specs.Common.{LibxlRecord, X86PvP2mFrames, most_body, type_number, IsBegunBody, piece_len, fault_of_record_body, fault_of_libxl_body, Opening, before, most_records, StreamRecord, types_of};
 ghost use Rattle.mig_libxl_form.specs.Judging.{allows_length as length_allowed};
 ghost use Rattle.mig_records.specs.Faults.{fault_of_length};
-ghost use Rattle.mig_relay.specs.Keeping.{KeepsOuter, KeepsGoing, KeepsRecords, fault_of_empty, with_one};
+ghost use Rattle.mig_relay.specs.Keeping.{HasBegun, HasBegunLibxl, KeepsOuter, KeepsGoing, KeepsRecords, fault_of_empty, with_one};
 ghost use Rattle.mig_relay.specs.Parts.{AtHead};
 ghost use Rattle.mig_relay.specs.Spots.{Outer, AtLibxlHead, InImage};
 ghost use Rattle.mig_relay.specs.Steps.{StepMoved, RisesOnFault};
@@ -60,19 +60,8 @@ impl Relay {
         requires small { head.len ≤ most_body }
         requires allowed { fault_of_length head.kind head.len ≡ None }
         ensures words { self.new.words.items ≡ [] }
-        ensures seen { self.new.seen ≡ self.old.seen }
-        ensures top { self.new.top ≡ self.old.top }
         ensures passed { self.new.passed ≡ self.old.passed }
-        ensures pages { head.kind ≡ PAGE_DATA → self.new.coming ≡ comes.Front head }
-        ensures body { head.kind ≢ PAGE_DATA → 0 < head.len → self.new.coming ≡ comes.Body head }
-        ensures begun { head.kind ≢ PAGE_DATA → 0 < head.len → IsBegunBody self.new.body (fault_of_record_body head.kind) [] }
-        ensures len { head.kind ≢ PAGE_DATA → 0 < head.len → self.new.body.len ≡ head.len }
-        ensures p2m { head.kind ≡ type_number X86PvP2mFrames → 0 < head.len → piece_len self.new.body ≡ min head.len 4096 }
-        ensures mark { head.kind ≢ PAGE_DATA → head.len ≡ 0 → head.kind ≢ END → self.new.coming ≡ comes.Head }
-        ensures wrapper { (head.kind ≡ END → 0 < head.len) → self.new.wrapper ≡ self.old.wrapper }
-        ensures alone { head.kind ≡ END → head.len ≡ 0 → self.old.wrapper ≡ None → (self.new.coming ≡ comes.End) × (self.new.wrapper ≡ None) }
-        ensures wrapped { head.kind ≡ END → head.len ≡ 0 → IfSome self.old.wrapper (λ behind. (self.new.coming ≡ comes.LibxlHead)
-            × (self.new.wrapper ≡ Some (record { records = behind.records + 1; emulated = behind.emulated; image = Some self.old.seen.kind }))) }
+        ensures begun { HasBegun self.old self.new head }
     {
         self.words = Vec::new(self.alloc);
         if head.kind == PAGE_DATA {
@@ -139,14 +128,8 @@ impl Relay {
         requires small { head.len ≤ most_body }
         requires allowed { length_allowed head.kind head.len ≡ true }
         ensures words { self.new.words.items ≡ [] }
-        ensures seen { self.new.seen ≡ self.old.seen }
         ensures passed { self.new.passed ≡ self.old.passed }
-        ensures image { head.kind ≡ LIBXC_CONTEXT → (self.new.coming ≡ comes.Marker) × (self.new.wrapper ≡ self.old.wrapper) }
-        ensures end { head.kind ≡ LIBXL_END → self.new.coming ≡ comes.End }
-        ensures body { head.kind ≢ LIBXL_END → head.kind ≢ LIBXC_CONTEXT → 0 < head.len → (self.new.coming ≡ comes.LibxlBody head) × (self.new.wrapper ≡ self.old.wrapper) }
-        ensures begun { head.kind ≢ LIBXL_END → head.kind ≢ LIBXC_CONTEXT → 0 < head.len → IsBegunBody self.new.body (fault_of_libxl_body head.kind) [] }
-        ensures len { head.kind ≢ LIBXL_END → head.kind ≢ LIBXC_CONTEXT → 0 < head.len → self.new.body.len ≡ head.len }
-        ensures empty { head.kind ≢ LIBXL_END → head.kind ≢ LIBXC_CONTEXT → head.len ≡ 0 → (self.new.coming ≡ comes.LibxlHead) × (self.new.wrapper ≡ Some (with_one head.kind behind)) }
+        ensures begun { HasBegunLibxl self.old self.new behind head }
     {
         self.words = Vec::new(self.alloc);
         if head.kind == LIBXC_CONTEXT {

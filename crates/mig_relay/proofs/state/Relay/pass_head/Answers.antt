@@ -1,5 +1,5 @@
 use Rattle.mig_relay.proofs.Common.{arith, refl, sym, ap, subst, ◌∙◌, [], ◌∷◌, ◌++◌, option_or, Record, le32, head_in, RecordHead, before, fault_of_fields, types_of, fault_of_empty, AtBody, InImage, carry, spot, answer_of, Refused, Relay, IsSeen, RecordsSeen}
-use Rattle.mig_relay.proofs.HeadParts.{whole_head_is, begun, HasBegun, IsJudged}
+use Rattle.mig_relay.proofs.HeadParts.{whole_head_is, begun, IsJudged}
 use Rattle.mig_relay.proofs.Kept.{number_is, outer_same}
 use Rattle.mig_relay.proofs.Moves.{not_taken, not_allowed, not_written, went, err_fault, ok_none}
 use Rattle.mig_relay.proofs.SpotParts.{lifted}
@@ -36,8 +36,6 @@ returns-clause-moved g c = λ outer o records kept k.
     let e = c.begin.ensures in
     let same = c.in_default-put.ensures.kept in
     let fine = (ok_none _ tt tt (c.in_default-judge.ensures.judged (before o records) k.seen)).0 in
-    let has : HasBegun r c.begin.new.self h =
-    record { seen = e.seen; top = e.top; pages = e.pages; body = e.body; begun = e.begun; len = e.len; p2m = e.p2m; mark = e.mark; wrapper = e.wrapper; alone = e.alone; wrapped = e.wrapped } in
     let judged : IsJudged r o records h =
     record {
       seen = subst (λ (s : RecordsSeen). IsSeen s o (types_of records ++ h.kind ∷ [])) (sym (ap (λ (x : Relay). x.seen) same)) (c.in_default-judge.ensures.seen o (types_of records) k.seen);
@@ -48,7 +46,7 @@ returns-clause-moved g c = λ outer o records kept k.
       small = c.in_default-judge.ensures.len;
       empty = sym c.in_default-empty_fault.ensures;
     } in
-    let n = begun r c.begin.new.self outer o records h has judged (outer_same c.args.self.now r outer (ap (λ (x : Relay). x.wrapper) same) kept) in
+    let n = begun r c.begin.new.self outer o records h e.begun judged (outer_same c.args.self.now r outer (ap (λ (x : Relay). x.wrapper) same) kept) in
     record {
       is =
           went (lifted (carry outer) (whole_head_is o records k.going)) _ _ _ _ _ _ b c.take_part.auto.buf (omega (arith, c.take_part.auto.buf)) _ n.next [] _

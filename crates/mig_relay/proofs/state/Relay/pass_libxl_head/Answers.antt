@@ -1,6 +1,6 @@
 use Rattle.mig_relay.proofs.Common.{arith, refl, sym, ap, ◌∙◌, [], fault_of_libxl_head, RecordHead, answer_of, Refused, Relay, KeepsGoing}
 use Rattle.mig_headers.specs.declared.fault.Place.TheVariants.{LibxlRecord as AtRecord}
-use Rattle.mig_relay.proofs.LibxlHeads.{HasBegunLibxl, begun_libxl, are_behind}
+use Rattle.mig_relay.proofs.LibxlHeads.{begun_libxl, are_behind}
 use Rattle.mig_relay.proofs.Kept.{wrapper_same}
 use Rattle.mig_relay.proofs.Moves.{not_taken, not_allowed, not_written, went}
 use Rattle.mig_relay.proofs.SpotParts.{libxl_head_is, behind_libxl_head}
@@ -27,8 +27,7 @@ returns-clause-moved g c = λ records w.
     let f = c.in_default-libxl_head_fault.ensures in
     let same = c.in_default-put.ensures.kept in
     let kept : KeepsGoing r records = (wrapper_same _ r records (ap (λ (x : Relay). x.wrapper) same) (ap (λ (x : Relay). x.seen) same) w.0, w.1) in
-    let has : HasBegunLibxl r c.begin_libxl.new.self c.in-Some.behind h = record { seen = e.seen; image = e.image; end = e.end; body = e.body; begun = e.begun; len = e.len; empty = e.empty } in
-    let n = begun_libxl r c.begin_libxl.new.self records h kept c.in-Some.behind (ap (λ (x : Relay). x.wrapper) same ∙ c.in-Some.is) has f.may in
+    let n = begun_libxl r c.begin_libxl.new.self records h kept c.in-Some.behind (ap (λ (x : Relay). x.wrapper) same ∙ c.in-Some.is) e.begun f.may in
     record {
       is =
           went (libxl_head_is records w.1) _ _ _ _ _ _ c.take_part.new.buf c.take_part.auto.buf (omega (arith, c.take_part.auto.buf)) _ n.next [] _ (f.fault records (are_behind _ records w.0 c.in-Some.behind c.in-Some.is) ∙ ap (λ (x : RecordHead). fault_of_libxl_head records x.kind x.len) c.decode-head.ensures.value)
