@@ -2,7 +2,6 @@
 pub use Rattle.std.proofs.Common.{List, Some, arith, refl, subst, sym, ℕ, ◌≡◌}
 pub use Rattle.std.specs.Prelude.{◌⊎◌}
 pub use Rattle.mig_tool_report.specs.declared.command.Command.{Command}
-pub use Rattle.mig_tool_report.specs.declared.command.Command.TheVariants.{Convert, Exercise, Normalise, Restore, Save, Verify, Walk, WalkImage, Relay, Show}
 pub use Rattle.mig_tool_report.specs.declared.outcome.Refusal.{Refusal}
 pub use Rattle.mig_tool_guest.specs.Refusals.{HasLegacyRefusal, HasOpenRefusal, HasStreamRefusal, HasWalkImageRefusal, HasWalkRefusal}
 pub use Rattle.mig_tool_report.specs.Promises.{CarriedOut, Effects, IsOfInput, effects, input_effect, sink_effect}

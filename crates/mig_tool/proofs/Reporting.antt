@@ -1,5 +1,5 @@
 -- Whoever carries out a command keeps its promise: an input that it accepts is done, and one that it refuses is refused.
-use Rattle.mig_tool.proofs.Common.{◌⊎◌, ◌≡◌, ℕ, List, Some, refl, subst, Refusal, Command, Convert, Exercise, Normalise, Restore, Save, Verify, Walk, WalkImage, Relay, Show, CarriedOut, Effects, IsOfInput, HasLegacyRefusal, HasOpenRefusal, HasStreamRefusal, HasWalkImageRefusal, HasWalkRefusal}
+use Rattle.mig_tool.proofs.Common.{◌≡◌, ℕ, List, Some, refl, subst, Refusal, Command, CarriedOut, Effects, IsOfInput, HasLegacyRefusal, HasOpenRefusal, HasStreamRefusal, HasWalkImageRefusal, HasWalkRefusal}
 use mathlib.Core.Logic.{inl, inr}
 use Rattle.mig_bytes.specs.Faults.{Rose}
 use Rattle.mig_canon.specs.CanonStream.{canon_any}
@@ -17,6 +17,7 @@ use Rattle.mig_tool_report.proofs.Settled.{IsSettled, keeps, settled_line, settl
 use Rattle.mig_tool_report.specs.Promises.{KeepsPromise, writes_text}
 use Rattle.mig_tool_report.specs.Report.{ok_line, walked_line}
 use Rattle.mig_tool_report.specs.Statuses.{Refusing}
+use Rattle.mig_tool_report.specs.declared.command.Command.TheVariants.{Convert, Exercise, Normalise, Restore, Save, Verify, Walk, WalkImage, Relay, Show}
 use Rattle.mig_tool_report.specs.declared.status.Status.{Status}
 use Rattle.mig_tool_save.proofs.SaveInputs.{not_refused, paused}
 use Rattle.mig_tool_save.specs.Promises.{save_promise}

@@ -11,20 +11,8 @@ use mig_file::{FileSource, PageFile};
 use mig_tool_report::{Command, Outcome, Status, command_in, finish};
 use std::alloc::Global;
 
-/// Does what the words say: reads `input`, writes on `out`, and puts the line of the status on `report`.
-///
-/// | words | takes | writes on `out` | says on `report` |
-/// |---|---|---|---|
-/// | `normalise` | a stream | its canonical form | |
-/// | `convert` | a legacy stream | the canonical stream of its guest | |
-/// | `restore`, `restore BASE` | a stream | the image of its guest's host, with machine frames counted up from BASE | |
-/// | `verify` | a stream | | what it is |
-/// | `save` | the image of a host, and a script | the host as a stream, while the script runs | how it was saved |
-/// | `exercise SEED FRAMES` | nothing | | what a save of a host of its own came to |
-/// | `walk VCPU ADDRESS` | a stream | | the frame of its guest that the address means |
-/// | `walkimage VCPU ADDRESS` | the image of a host | | the machine frame that the address means |
-/// | `relay` | a stream | what it took, once that is judged | how much that was |
-/// | `show` | a stream | a JSON text of the records in front of its end, or of the part that is refused | |
+/// Does what the words say: reads `input`, writes on `out`, and puts the line of the status on `report`. The variants of
+/// `Command` tell what each command takes, writes and says.
 ///
 /// A status says the same however the input is cut, and whatever failed before. Want of memory may come at any time.
 pub fn run<S: Source, K: Sink, R: Sink>(

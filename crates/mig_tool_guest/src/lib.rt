@@ -1,5 +1,4 @@
-//! The commands that save nothing live: `normalise`, `convert`, `restore`, `verify`, `walk`, `walkimage`, `relay` and
-//! `show`; and what `mig_check` does, which judges and keeps no page that no judgement needs.
+//! The commands that save nothing live, and what `mig_check` does, which judges and keeps no page that no judgement needs.
 //!
 //! Responsible for: each of them as one function that answers the status, writes of its input what is its own and puts its
 //! line on the report, and what a status says of each. Left to others: which command the words name, and the lines
