@@ -29,8 +29,8 @@ static int fails(const struct chosen *it, uint64_t number) {
     return 1;
 }
 
-/* A read of standard input, from a place on or, where that is below 0, from the file's position on. */
-static ssize_t read_input(void *to, size_t length, off_t at) {
+/* A read of the input: of the file that is open as fd from a place on or, where that is below 0, of standard input. */
+static ssize_t read_input(int fd, void *to, size_t length, off_t at) {
     static ssize_t (*next)(int, void *, size_t);
     static ssize_t (*next_at)(int, void *, size_t, off_t);
     if (!next) {
@@ -45,7 +45,7 @@ static ssize_t read_input(void *to, size_t length, off_t at) {
     if (is_chosen(&shrink, number) && ftruncate(0, (off_t)shrink.what) != 0)
         abort();
     size_t most = length < read_most ? length : read_most;
-    ssize_t got = at < 0 ? next(0, to, most) : next_at(0, to, most, at);
+    ssize_t got = at < 0 ? next(fd, to, most) : next_at(fd, to, most, at);
     told->bytes_read += got > 0 ? (uint64_t)got : 0;
     return got;
 }
@@ -54,14 +54,12 @@ ssize_t read(int fd, void *to, size_t length) {
     static ssize_t (*next)(int, void *, size_t);
     if (!next)
         next = (ssize_t (*)(int, void *, size_t))dlsym(RTLD_NEXT, "read");
-    return fd == 0 ? read_input(to, length, -1) : next(fd, to, length);
+    return fd == 0 ? read_input(fd, to, length, -1) : next(fd, to, length);
 }
 
+/* By place nothing but the input is read, which the program opens once more for that. */
 ssize_t pread64(int fd, void *to, size_t length, off_t at) {
-    static ssize_t (*next)(int, void *, size_t, off_t);
-    if (!next)
-        next = (ssize_t (*)(int, void *, size_t, off_t))dlsym(RTLD_NEXT, "pread64");
-    return fd == 0 ? read_input(to, length, at) : next(fd, to, length, at);
+    return read_input(fd, to, length, at);
 }
 
 ssize_t pread(int fd, void *to, size_t length, off_t at) {

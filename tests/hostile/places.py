@@ -1,5 +1,5 @@
 """Standard input that is a file: the commands that read one by place answer what they answer of a pipe, wherever in the file their input
-begins, and leave the file where what they took ends."""
+begins; and they leave the file where it stood."""
 import os
 import tempfile
 
@@ -35,10 +35,13 @@ def as_from_a_pipe(tool):
                     yield '%s, %s, %d bytes at %d of a file: %s' % (name, program.named(words), length, place, why)
 
 
-def is_left_behind_it(tool):
-    """What stands behind the input isn't taken."""
+def is_left_where_it_stood(tool):
+    """The place of the file isn't moved, and what stands behind the input isn't taken."""
     for name, words, data in by_place(tool):
+        want = program.wanted(words, data)
         for place in 0, len(BEFORE), FAR:
             got, left = given_at(tool, words, data + b'more', place)
-            if got.status == program.DONE and left != place + len(data):
-                yield '%s, %s: the file is left at %d, and the input ends at %d' % (name, program.named(words), left, place + len(data))
+            for why in program.differences(got, want):
+                yield '%s, %s, with more behind it, at %d of a file: %s' % (name, program.named(words), place, why)
+            if left != place:
+                yield '%s, %s: the file stands at %d, and stood at %d' % (name, program.named(words), left, place)

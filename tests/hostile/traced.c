@@ -33,7 +33,7 @@ static void answer(struct user_regs_struct *at, const struct chosen *it) {
 }
 
 static void enter(struct user_regs_struct *at) {
-    call.is_read = (at->orig_rax == SYS_read || at->orig_rax == SYS_pread64) && at->rdi == 0;
+    call.is_read = (at->orig_rax == SYS_read && at->rdi == 0) || at->orig_rax == SYS_pread64; /* by place the input alone */
     int is_write = at->orig_rax == SYS_write && (at->rdi == 1 || at->rdi == 2);
     call.is_answered = 0;
     call.length = at->rdx;

@@ -37,7 +37,7 @@ fn run_as_it_comes(
     }
 }
 
-/// Checks the standard input, which is this file, from a place on, and leaves it where what was taken ends.
+/// Checks the standard input, which is this file, from a place on.
 fn run_file(
     alloc: Global,
     words: &[String],
@@ -45,10 +45,7 @@ fn run_file(
     at: u64,
     report: &mut OutSink<Stderr>,
 ) -> Status {
-    let mut input = FileSource::new(file, at);
-    let status = run(alloc, words, &mut input, report);
-    file.leave_at(input.at());
-    status
+    run(alloc, words, &mut FileSource::new(file, at), report)
 }
 
 fn main(rt: HostRuntime) -> ExitCode {
@@ -58,7 +55,7 @@ fn main(rt: HostRuntime) -> ExitCode {
         let _ = put_line(&mut report, Outcome::Memory);
         return ExitCode::from(Status::Memory.code());
     };
-    let status = match StandardFile::of(rt.stdin()) {
+    let status = match StandardFile::of(&rt) {
         Some((file, at)) => run_file(alloc, &words, &file, at, &mut report),
         None => run_as_it_comes(alloc, &words, rt.stdin(), &mut report),
     };

@@ -2,35 +2,46 @@ ghost use Rattle.std.specs.Prelude.{None};
 
 use crate::file::PageFile;
 use mig_bytes::Failed;
-use std::io::Stdin;
+use std::fs;
+use std::fs::File;
+use std::os::unix::fs::FileExt;
+
+/// The name of the standard input, and of what the system tells of it (proc(5)).
+const NAME: &str = "/dev/stdin";
+
+const TOLD: &str = "/proc/self/fdinfo/0";
+
+/// What stands before the place of a file there.
+const PLACE: &str = "pos:";
 
 /// The standard input, where it is a file of the machine: the trusted edge towards it. It tells no bytes.
 #[derive(Drop)]
 pub struct StandardFile {
-    stdin: Stdin,
+    file: File,
     size: u64,
 }
 
-/// The place that the standard input is set to, where it has places; a terminal and a pipe have none.
-fn set_place(offset: i64, whence: i32) -> Option<u64> {
-    u64::try_from(libc::lseek(libc::STDIN_FILENO, offset, whence)).ok()
+/// The place at which the standard input stands, where the system tells it.
+fn place_told(rt: &HostRuntime) -> Option<u64> {
+    let told = fs::read_to_string(rt, TOLD).ok()?;
+    let (_, behind) = told.split_once(PLACE)?;
+    behind.lines().next()?.trim().parse().ok()
 }
 
 impl StandardFile {
-    /// The standard input and the place where it is to be read, where it has places and a size.
-    pub fn of(stdin: Stdin) -> Option<(StandardFile, u64)> {
-        let at = set_place(0, libc::SEEK_CUR)?;
-        let size = set_place(0, libc::SEEK_END)?;
-        set_place(at.cast_signed(), libc::SEEK_SET)?;
+    /// The standard input and the place at which it stands, where it is a regular file with bytes that may be opened once
+    /// more. Its own place isn't moved.
+    pub fn of(rt: &HostRuntime) -> Option<(StandardFile, u64)> {
+        if !fs::metadata(rt, NAME).ok()?.is_file() {
+            return None;
+        }
+        let at = place_told(rt)?;
+        let file = File::open(rt, NAME).ok()?;
+        let size = file.metadata().ok()?.len();
         if size == 0 {
             return None;
         }
-        Some((StandardFile { stdin, size }, at))
-    }
-
-    /// Sets the place at which whoever has the standard input after this program goes on.
-    pub fn leave_at(&self, at: u64) {
-        set_place(at.cast_signed(), libc::SEEK_SET);
+        Some((StandardFile { file, size }, at))
     }
 }
 
@@ -47,11 +58,10 @@ impl PageFile for StandardFile {
         let mut filled = 0;
         while filled < buf.len() {
             let place = at.saturating_add(filled as u64);
-            let got = libc::pread(libc::STDIN_FILENO, &mut buf[filled..], place.cast_signed());
-            if got <= 0 {
-                return Err(Failed);
+            match self.file.read_at(&mut buf[filled..], place) {
+                Ok(count) if count > 0 => filled += count,
+                _ => return Err(Failed),
             }
-            filled += got as usize;
         }
         Ok(())
     }

@@ -40,7 +40,7 @@ fn run_as_it_comes(
     }
 }
 
-/// Does it of the standard input, which is this file, from a place on, and leaves the file where what was taken ends.
+/// Does it of the standard input, which is this file, from a place on.
 fn run_standard_file(
     alloc: Global,
     words: &[String],
@@ -50,9 +50,7 @@ fn run_standard_file(
     report: &mut OutSink<Stderr>,
 ) -> Status {
     let mut input = FileSource::new(file, at);
-    let status = run_file(alloc, words, &mut input, out, report);
-    file.leave_at(input.at());
-    status
+    run_file(alloc, words, &mut input, out, report)
 }
 
 fn main(rt: HostRuntime) -> ExitCode {
@@ -64,7 +62,7 @@ fn main(rt: HostRuntime) -> ExitCode {
         return ExitCode::from(Status::Memory.code());
     };
     let file = if reads_by_place(&words) {
-        StandardFile::of(rt.stdin())
+        StandardFile::of(&rt)
     } else {
         None
     };
