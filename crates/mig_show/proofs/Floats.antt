@@ -6,9 +6,6 @@ of_members : (pages : Bool) (shown : Seen1) → members_have_float (cond pages (
 of_members true shown = refl
 of_members false shown = refl
 
-pub of_record : (shown : Seen1) → has_float (record_tree shown) ≡ false
-of_record shown = of_members (is_page_data shown) shown
-
 of_records : (list : List Seen1) → items_have_float (items_of (map record_tree list)) ≡ false
 of_records [] = refl
 of_records (shown ∷ list) = rw (of_members (is_page_data shown) shown) (of_records list)

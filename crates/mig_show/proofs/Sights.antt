@@ -1,5 +1,6 @@
 -- What a viewer has seen while the relay goes on, and at its end.
 use Rattle.mig_show.proofs.Common.{◌≡◌, ◌≢◌, ℕ, Bool, true, false, List, [], ◌++◌, Option, Some, None, Ok, refl, sym, ap, subst, ◌∙◌, append_assoc, append-nil, is_some, IfOk, Consumes, Cause, Place, ImageHeader, in_hand, words_in_hand, Next, AtMarker, AtVersion, AtKind, AtHead, AtBody, AtFront, AtWords, AtPages, AtPadding, Outer, Spot, AtStart, AtLibxlHeader, AtLibxlHead, AtLibxlBody, AtLibxlPadding, InImage, AtEnd, begins_with_ident, StepSays, Step, Relay, ShownFront, StandsBefore, of_form, image_first, SeenState, with_step, with_end, Shows, RisesOnShow, front_tree, Err, RisesOnFault, Keeps, KeepsNext, StandsForBytes, PassesOn, IsRefusedBehind, IsNotRefused, is_at_end, is_at_start, ended_by, ShowsRefused}
+use Rattle.std.proofs.KnownBytes.{Consumes-nil, Consumes-trans}
 use Rattle.std.proofs.lemmas.Bool.{true≢false}
 use Rattle.std.proofs.lemmas.List.{nil_from_length}
 use Rattle.std.specs.Prelude.{◌≤◌}
@@ -8,7 +9,7 @@ use Rattle.mig_relay.specs.Streams.{open_stream_at}
 use Rattle.mig_relay.proofs.Streams.{fronts_pass}
 use Rattle.mig_relay.specs.declared.answer.RelayAnswer.{RelayAnswer}
 use Rattle.mig_relay.specs.declared.answer.RelayAnswer.TheVariants.{Refused, ReadFault, WriteFault, Memory}
-use Rattle.mig_relay.proofs.Steps.{consumed_on, left_alone, over_there}
+use Rattle.mig_relay.proofs.Steps.{left_alone, over_there}
 use Rattle.mig_show.proofs.Passing.{form_on, seen_on}
 use Rattle.mig_show.proofs.Stages.{Has}
 use Rattle.mig_relay.specs.declared.answer.Step.TheVariants as steps
@@ -19,10 +20,6 @@ pub record Looks (r : Relay) (seen : SeenState) (old now : Option (List ℕ)) : 
   pub stands : StandsForBytes r bytes
   pub has : Has stands.here stands.begun bytes seen
   pub taken : Consumes old now bytes
-
-none_taken : (old : Option (List ℕ)) → Consumes old old []
-none_taken None = tt
-none_taken (Some l) = refl
 
 -- nothing yet
 pub looks_first : (r : Relay) (seen : SeenState) (old : Option (List ℕ)) → Keeps r AtStart [] → StandsForBytes r [] → seen.front ≡ of_form false → seen.hand ≡ None → Looks r seen old old
@@ -40,7 +37,7 @@ looks_first r seen old keeps stands front hand = record {
     long = λ never. absurd (true≢false never);
     none = λ _. refl;
   };
-  taken = none_taken old;
+  taken = Consumes-nil old;
 }
 
 -- behind a step
@@ -59,7 +56,7 @@ looks_on r t seen taken_seen later old mid new before now step ws within other l
       bytes = l.bytes ++ p.piece;
       stands = n;
       has = subst (Has n.here n.begun (l.bytes ++ p.piece)) (sym same) (seen_on p.follows l.bytes seen t step p.is l.has);
-      taken = consumed_on old mid new l.bytes p.piece l.taken p.taken;
+      taken = Consumes-trans old mid new l.bytes p.piece l.taken p.taken;
     }
 
 -- ---- the end
@@ -91,7 +88,7 @@ shows_whole r t seen old mid new before now l (s, passable, stays, quiet, has) =
   bytes = l.bytes;
   s = s;
   passes = λ more. fronts_pass l.bytes more s passable;
-  taken = subst (Consumes old new) (append-nil l.bytes) (consumed_on old mid new l.bytes [] l.taken (left_alone mid new stays));
+  taken = subst (Consumes old new) (append-nil l.bytes) (Consumes-trans old mid new l.bytes [] l.taken (left_alone mid new stays));
   front = seen.front;
   stands = whole_seen r l.stands.here l.stands.begun l.bytes seen l.stands.keeps (over_there l.stands s passable) l.has;
   form = l.has.form;

@@ -3,9 +3,10 @@
 use Rattle.std.specs.Prelude.{◌≡◌, ◌≢◌, ◌+◌, ◌*◌, ℕ, Bool, true, false, List, [], ◌∷◌, ◌++◌, length, count_by, Option, Some, None, if◌then◌else◌}
 use Rattle.mig_bytes.specs.Fields.{le32, be32}
 use Rattle.mig_headers.specs.Headers.{kind_of_number}
-use Rattle.mig_show.specs.Common.{Place, word_has_data}
+use Rattle.mig_show.specs.Common.{End, Place, type_number, word_has_data}
 use Rattle.mig_headers.specs.declared.fault.Place.TheVariants.{ImageHeader, DomainHeader, LibxlHeader, LibxlRecord, Record}
 use Rattle.mig_headers.specs.declared.kind.Kind.{Kind}
+use Rattle.mig_libxl_form.specs.LibxlTypes.{libxc_context_type, libxl_end_type}
 use Rattle.mig_records.specs.Records.{IsRecord}
 use Rattle.mig_records.specs.Words.{words}
 use Rattle.mig_show.specs.Tree.{is_page_data}
@@ -69,16 +70,16 @@ pub data StandsBefore : List ℕ → ShownFront → Option Place → Type 0 wher
   header_first : StandsBefore [] (of_form true) (Some LibxlHeader)
   libxl_header : (bytes text : List ℕ) (front : ShownFront) → StandsBefore bytes front (Some LibxlHeader) → length text ≡ 16 → StandsBefore (bytes ++ text) front (Some (LibxlRecord 0))
   libxl_record : (bytes text : List ℕ) (front : ShownFront) (shown : Seen1) (n : ℕ) → StandsBefore bytes front (Some (LibxlRecord n))
-      → StandsWhole true text shown → shown.kind ≢ 0 → shown.kind ≢ 1 → StandsBefore (bytes ++ text) (with_shown front shown) (Some (LibxlRecord (n + 1)))
+      → StandsWhole true text shown → shown.kind ≢ libxl_end_type → shown.kind ≢ libxc_context_type → StandsBefore (bytes ++ text) (with_shown front shown) (Some (LibxlRecord (n + 1)))
   libxl_context : (bytes text : List ℕ) (front : ShownFront) (shown : Seen1) (n : ℕ) → StandsBefore bytes front (Some (LibxlRecord n))
-      → StandsWhole true text shown → shown.kind ≡ 1 → front.version ≡ None → StandsBefore (bytes ++ text) (with_shown front shown) (Some ImageHeader)
+      → StandsWhole true text shown → shown.kind ≡ libxc_context_type → front.version ≡ None → StandsBefore (bytes ++ text) (with_shown front shown) (Some ImageHeader)
   libxl_end : (bytes text : List ℕ) (front : ShownFront) (shown : Seen1) (n : ℕ) → StandsBefore bytes front (Some (LibxlRecord n))
-      → StandsWhole true text shown → shown.kind ≡ 0 → StandsBefore (bytes ++ text) (with_shown front shown) None
+      → StandsWhole true text shown → shown.kind ≡ libxl_end_type → StandsBefore (bytes ++ text) (with_shown front shown) None
   image_header : (bytes text : List ℕ) (front : ShownFront) → StandsBefore bytes front (Some ImageHeader)
       → length text ≡ 24 → StandsBefore (bytes ++ text) (record front { version = Some (be32 text 12) }) (Some DomainHeader)
   domain_header : (bytes text : List ℕ) (front : ShownFront) → StandsBefore bytes front (Some DomainHeader)
       → length text ≡ 16 → StandsBefore (bytes ++ text) (record front { kind = Some (kind_of_number (le32 text 0)) }) (Some (Record 0))
   image_record : (bytes text : List ℕ) (front : ShownFront) (shown : Seen1) (n : ℕ) → StandsBefore bytes front (Some (Record n))
-      → StandsWhole false text shown → shown.kind ≢ 0 → StandsBefore (bytes ++ text) (with_shown front shown) (Some (Record (n + 1)))
+      → StandsWhole false text shown → shown.kind ≢ type_number End → StandsBefore (bytes ++ text) (with_shown front shown) (Some (Record (n + 1)))
   image_end : (bytes text : List ℕ) (front : ShownFront) (shown : Seen1) (n : ℕ) → StandsBefore bytes front (Some (Record n))
-      → StandsWhole false text shown → shown.kind ≡ 0 → StandsBefore (bytes ++ text) (with_shown front shown) (behind_image front)
+      → StandsWhole false text shown → shown.kind ≡ type_number End → StandsBefore (bytes ++ text) (with_shown front shown) (behind_image front)
