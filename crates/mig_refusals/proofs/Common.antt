@@ -42,7 +42,7 @@ pub use Rattle.mig_headers.specs.CauseNumbers.{number_of_cause, number_of_legacy
 pub use Rattle.mig_headers.specs.RecordTypes.{is_optional, pv, record_row_of, type_number, type_of_number, vcpu_limit, most_body}
 pub use Rattle.mig_headers.specs.Rows.{first_fault}
 pub use Rattle.mig_headers.specs.declared.fault.Cause.{Cause}
-pub use Rattle.mig_headers.specs.declared.fault.Cause.TheVariants.{BadContext, BadEmulator, BadKey, BadLength, BadPageType, BadPairs, BadPvInfo, BodyTooLong, EmulatorIndex, GdtEnts, Missing, OutOfOrder, P2mFrame, P2mStart, ParamIndex, PfnOutside, Pv32, TargetAbsent, TooManyFrames, TooManyPairs, TooManyRecords, Truncated, UnknownMandatory, Unsupported, VcpuFrame, VcpuId, WrongKind}
+pub use Rattle.mig_headers.specs.declared.fault.Cause.TheVariants.{BadContext, BadEmulator, BadLength, BadPageType, BadPvInfo, BodyTooLong, EmulatorIndex, GdtEnts, Missing, OutOfOrder, P2mFrame, P2mStart, ParamIndex, PfnOutside, Pv32, TargetAbsent, TooManyFrames, TooManyPairs, TooManyRecords, Truncated, UnknownMandatory, Unsupported, VcpuFrame, VcpuId, WrongKind}
 pub use Rattle.mig_headers.specs.declared.fault.ContextFault.{ContextFault}
 pub use Rattle.mig_headers.specs.declared.fault.ContextFault.TheVariants.{HeaderSize, NoEnd, NoHeader, ShortEntry}
 pub use Rattle.mig_headers.specs.declared.fault.Place.{Place}
@@ -91,8 +91,6 @@ pub use Rattle.mig_records.specs.Shapes.{fault_by_shape, fault_of_body, fault_of
 pub use Rattle.mig_records.specs.declared.layout.Layout.{Layout}
 pub use Rattle.mig_records.specs.declared.shape.Shape.{Shape}
 pub use Rattle.mig_records.specs.declared.shape.Shape.TheVariants.{Other, Single, Table}
-pub use Rattle.mig_policy.proofs.KeyLaws.{first_fault_is_computed}
-pub use Rattle.mig_policy.specs.PairFaults.{IsFirstFault, pairs_fault}
 pub use Rattle.mig_policy.specs.PairMaps.{PairMap, pairs_in, put_pairs, text_of_map}
 pub use Rattle.mig_pvtables.proofs.HvmGuests.{hvm_fault}
 pub use Rattle.mig_pvtables.proofs.PvGuests.{counted}

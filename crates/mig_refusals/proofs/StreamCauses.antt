@@ -1,8 +1,9 @@
 -- The tables of causes of a libxl stream around its image: they are what is judged, and in order; and how long a store becomes.
-use Rattle.mig_refusals.proofs.Common.{◌<◌, ◌⊎◌, inl, inr, Bool, false, cond, nat_eq, nat_le, ◌||◌, eqb-false, leb-false, lt-leb, ne_eqb, false≢true, Kind, Pv, Hvm, ◌≡◌, ℕ, List, [], ◌∷◌, ◌++◌, drop, true, Option, Some, None, refl, sym, ap, ◌∙◌, Cause, LibxlRecord, join, fault_of_libxl_head, fault_of_libxl_fields, fault_of_order, fault_of_pairs, fault_of_context, emulators_of, spelled_with, emulator_key, pairs_in, pairs_fault, le32, most_pairs, BadEmulator, TooManyPairs, EmulatorIndex, BadPairs, BadKey, IsFirstFault, first_fault_is_computed, option_or, number_of_cause, allows_length, is_pv, is_pv_kind, ImageOf, length, flat_map, Test, computed, first_named, is_ascending, append_named, computed_is, field_rows, order_rows, PairMap, put_pairs, text_of_map, store_at, head_causes, pairs_causes, context_causes, AreMerged, pairs_with, StoresAreMerged, WrapperCausesAscend, WrapperTestsSay}
+use Rattle.mig_refusals.proofs.Common.{◌<◌, ◌⊎◌, inl, inr, Bool, false, cond, nat_eq, nat_le, ◌||◌, eqb-false, leb-false, lt-leb, ne_eqb, false≢true, Kind, Pv, Hvm, ◌≡◌, ℕ, List, [], ◌∷◌, ◌++◌, drop, true, Option, Some, None, refl, sym, ap, ◌∙◌, Cause, LibxlRecord, join, fault_of_libxl_head, fault_of_libxl_fields, fault_of_order, fault_of_pairs, fault_of_context, emulators_of, spelled_with, emulator_key, pairs_in, le32, most_pairs, BadEmulator, TooManyPairs, EmulatorIndex, option_or, number_of_cause, allows_length, is_pv, is_pv_kind, ImageOf, length, flat_map, Test, computed, first_named, is_ascending, append_named, computed_is, field_rows, order_rows, PairMap, put_pairs, text_of_map, store_at, head_causes, pairs_causes, context_causes, AreMerged, pairs_with, StoresAreMerged, WrapperCausesAscend, WrapperTestsSay}
 use Rattle.mig_refusals.proofs.Tests.{is_one, one_of}
 use Rattle.mig_bytes_form.specs.Tests.Test.{Less, AtMost}
-use Rattle.mig_headers.specs.Pairs.{Pair, text_of_pair}
+use Rattle.mig_headers.specs.Pairs.{Pair, text_of_pair, texts_in}
+use Rattle.mig_policy.specs.PairFaults.{bad_key_at, first_of, pairs_fault, torn_at}
 use Rattle.mig_policy.proofs.LastValues.{map_pairs, map_pairs_rise, map_pairs_values, one_text}
 use Rattle.mig_libxl_form.proofs.EmulatorMeaning.{last_value_with}
 
@@ -27,13 +28,13 @@ context_named body = refl
 -- ---- the order of the tables
 
 pub ascend : WrapperCausesAscend
-ascend = record { in_header = λ _. refl; in_head = λ _ _ _. refl; in_pairs = λ records body. by records body (pairs_fault (drop 8 body)) ((first_fault_is_computed (drop 8 body) (pairs_fault (drop 8 body))).0 refl); in_context = λ _. refl }
+unfolding pairs_fault
+ascend = record { in_header = λ _. refl; in_head = λ _ _ _. refl; in_pairs = λ records body. by records body (torn_at false 0 (texts_in (drop 8 body))) (bad_key_at 0 (texts_in (drop 8 body))); in_context = λ _. refl }
   where
-    by : (records : List LibxlRecord) (body : List ℕ) (f : Option Cause) → IsFirstFault (drop 8 body) f → is_ascending number_of_cause (computed f ++ others records body) ≡ true
-    by records body None is = refl
-    by records body (Some (BadPairs place)) is = refl
-    by records body (Some (BadKey place)) is = refl
-    by records body (Some other) is = elim is [ ]
+    by : (records : List LibxlRecord) (body : List ℕ) (torn bad_key : Option ℕ) → is_ascending number_of_cause (computed (first_of torn bad_key) ++ others records body) ≡ true
+    by records body (Some place) bad_key = refl
+    by records body None (Some place) = refl
+    by records body None None = refl
 
 -- ---- how long a store becomes
 

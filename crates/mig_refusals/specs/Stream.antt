@@ -4,6 +4,8 @@ use Rattle.std.specs.Prelude.{◌<◌, ◌≡◌, ◌≤◌, ◌%◌, ◌^◌, �
 use Rattle.mig_refusals.specs.Common.{flat_map, padding_len, le32, be32, be64, Spells, Gives, Test, computed, is_ascending, most_body, number_of_cause, Pair, AreRising, text_of_pair, Cause, Place, most_records, ImageOf, Pv, emulators_of, pairs_said, spelled_with, FollowsLibxl, most_pairs}
 use Rattle.mig_bytes_form.specs.Form.{FormOf, ◌>>>◌, bytes_form, said_form, SpelledAs, RefusedAs}
 use Rattle.mig_bytes_form.specs.Tests.Test.{Less, AtMost, Equal, Is, Not, Both, Either}
+use Rattle.mig_guest.specs.PartCodes.{code_number}
+use Rattle.mig_guest.specs.declared.part_code.PartCode.TheVariants.{EmulatorContext, EmulatorPairs}
 use Rattle.mig_headers.specs.Headers.{libxl_ident, IsLibxlHeader}
 use Rattle.mig_headers.specs.declared.fault.Cause.TheVariants.{Truncated, BadVersion, BigEndian, BodyTooLong, Unsupported, UnknownMandatory, BadLength, TooManyRecords, BadEmulator, EmulatorForPv, ContextCount, TooManyPairs, EmulatorIndex}
 use Rattle.mig_headers.specs.declared.fault.Place.TheVariants as places
@@ -14,6 +16,7 @@ use Rattle.mig_libxl_form.specs.Content.{LibxlRecord, LibxlContent}
 use Rattle.mig_libxl_form.specs.Content.LibxlContent.{Nothing, Pairs, Context}
 use Rattle.mig_libxl_form.specs.Among.{is_libxl_ended, has_emulator, image_among}
 use Rattle.mig_libxl_form.specs.Judging.{allows_length, emulator_key, is_pv}
+use Rattle.mig_libxl_form.specs.LibxlTypes.{checkpoint_end_type, checkpoint_state_type, emulator_context_type, emulator_pairs_type, libxc_context_type, libxl_end_type}
 
 -- ---- conditions and their causes
 
@@ -25,12 +28,12 @@ header_causes bytes = (Not (Equal (be32 bytes 0) 2), BadVersion (be32 bytes 0)) 
 abbrev pub head_causes : List LibxlRecord → ℕ → ℕ → List (Test × Cause)
 head_causes records type len =
     (Less most_body len, BodyTooLong len)
-    ∷ (Either (Equal type 4) (Equal type 5), Unsupported type)
-    ∷ (Both (Less 5 type) (Not (AtMost (2 ^ 31) type)), UnknownMandatory type)
+    ∷ (Either (Equal type checkpoint_end_type) (Equal type checkpoint_state_type), Unsupported type)
+    ∷ (Both (Less checkpoint_state_type type) (Not (AtMost (2 ^ 31) type)), UnknownMandatory type)
     ∷ (Not (Is (allows_length type len)), BadLength len)
     ∷ (AtMost most_records (length records), TooManyRecords)
-    ∷ (Both (Equal type 0) (Both (Is (is_pv (image_among records))) (Is (has_emulator records))), EmulatorForPv)
-    ∷ (Either (Both (Equal type 1) (Is (is_some (image_among records)))) (Both (Equal type 0) (Is (is_none (image_among records)))), ContextCount)
+    ∷ (Both (Equal type libxl_end_type) (Both (Is (is_pv (image_among records))) (Is (has_emulator records))), EmulatorForPv)
+    ∷ (Either (Both (Equal type libxc_context_type) (Is (is_some (image_among records)))) (Both (Equal type libxl_end_type) (Is (is_none (image_among records)))), ContextCount)
     ∷ []
 
 -- the pairs of an emulator: what is wrong with their text; the emulator's id, how long its store becomes, and its index
@@ -39,7 +42,7 @@ abbrev pub pairs_causes : List LibxlRecord → List ℕ → List (Test × Cause)
 pairs_causes records body =
     computed (pairs_fault (drop 8 body))
     ++ ((AtMost 3 (le32 body 0), BadEmulator (le32 body 0))
-    ∷ (Less most_pairs (spelled_with (emulators_of records) (emulator_key 258 body) (pairs_in (drop 8 body))), TooManyPairs)
+    ∷ (Less most_pairs (spelled_with (emulators_of records) (emulator_key (code_number EmulatorPairs) body) (pairs_in (drop 8 body))), TooManyPairs)
     ∷ (AtMost 256 (le32 body 4), EmulatorIndex (le32 body 4))
     ∷ [])
 
@@ -58,7 +61,7 @@ pub record WrapperCausesAscend : Type 0 where
 
 -- END and LIBXC_CONTEXT have no body, and a body of an emulator has at least its id and its index; the image is that of a PV guest
 pub record WrapperTestsSay : Type 0 where
-  pub length_is : (type len : ℕ) → (allows_length type len ≡ false) ↔ ((((type ≡ 0) ⊎ (type ≡ 1)) × (len ≡ 0 → ⊥)) ⊎ (((type ≡ 2) ⊎ (type ≡ 3)) × (len < 8)))
+  pub length_is : (type len : ℕ) → (allows_length type len ≡ false) ↔ ((((type ≡ libxl_end_type) ⊎ (type ≡ libxc_context_type)) × (len ≡ 0 → ⊥)) ⊎ (((type ≡ emulator_pairs_type) ⊎ (type ≡ emulator_context_type)) × (len < 8)))
   pub of_pv : (image : Option ImageOf) → (is_pv image ≡ true) ↔ ((i : ImageOf) × (image ≡ Some i) × (i.opening.kind ≡ Pv))
 
 -- ---- how long a store becomes, in words
@@ -70,11 +73,11 @@ pub record AreMerged (all pairs : List Pair) : Type 0 where
 
 -- all pairs for the emulator that a body names: those that these records say, and those of the body behind them
 abbrev pub pairs_with : List LibxlRecord → List ℕ → List Pair
-pairs_with records body = pairs_said (emulator_key 258 body) records ++ pairs_in (drop 8 body)
+pairs_with records body = pairs_said (emulator_key (code_number EmulatorPairs) body) records ++ pairs_in (drop 8 body)
 
 -- a store becomes as long as what all pairs come to
 pub record StoresAreMerged : Type 0 where
-  pub length_is : (records : List LibxlRecord) (body : List ℕ) (pairs : List Pair) → AreMerged (pairs_with records body) pairs → length (flat_map text_of_pair pairs) ≡ spelled_with (emulators_of records) (emulator_key 258 body) (pairs_in (drop 8 body))
+  pub length_is : (records : List LibxlRecord) (body : List ℕ) (pairs : List Pair) → AreMerged (pairs_with records body) pairs → length (flat_map text_of_pair pairs) ≡ spelled_with (emulators_of records) (emulator_key (code_number EmulatorPairs) body) (pairs_in (drop 8 body))
   pub some : (records : List LibxlRecord) (body : List ℕ) → (pairs : List Pair) × AreMerged (pairs_with records body) pairs
 
 -- ---- the forms
@@ -88,14 +91,14 @@ record_head_form records = bytes_form Truncated 8 (λ head. head_causes records 
 -- the body of a record of this type, which isn't LIBXC_CONTEXT
 abbrev pub record_body_form : List LibxlRecord → ℕ → ℕ → FormOf Cause LibxlContent
 record_body_form records type len =
-    if type == 2 then said_form Truncated len (pairs_causes records) (λ body. Pairs (emulator_key 258 body) (pairs_in (drop 8 body)))
-    else if type == 3 then said_form Truncated len context_causes (λ body. Context (emulator_key 259 body) (drop 8 body))
+    if type == emulator_pairs_type then said_form Truncated len (pairs_causes records) (λ body. Pairs (emulator_key (code_number EmulatorPairs) body) (pairs_in (drop 8 body)))
+    else if type == emulator_context_type then said_form Truncated len context_causes (λ body. Context (emulator_key (code_number EmulatorContext) body) (drop 8 body))
     else said_form Truncated len (λ _. []) (λ _. Nothing)
 
 -- what stands behind a head: a body and its padding; behind LIBXC_CONTEXT the image, which is no part of this form
 abbrev pub behind_record_head : List LibxlRecord → List ℕ → FormOf Cause LibxlRecord
 behind_record_head records head =
-    if le32 head 0 == 1 then Gives (record { type = le32 head 0; content = Nothing })
+    if le32 head 0 == libxc_context_type then Gives (record { type = le32 head 0; content = Nothing })
     else (record_body_form records (le32 head 0) (le32 head 4) >>> λ content. bytes_form Truncated (padding_len (le32 head 4)) (λ _. []) >>> λ _. Gives (record { type = le32 head 0; content = content }))
 
 -- a record behind these records
