@@ -1,5 +1,5 @@
 -- What stands around an image.
-use Rattle.mig_libxl.proofs.Common.{◌≡◌, true, false, cond, List, [], ◌++◌, ℕ, Option, Some, None, refl, sym, ap, append-nil, GuestOf, PartMap, has_emulators, is_of_converter, text_of_emulators, Appends, spelled, canon, emulators_in_order, opening_text}
+use Rattle.mig_libxl.proofs.Common.{◌≡◌, true, false, cond, [], ◌++◌, refl, ap, GuestOf, PartMap, has_emulators, is_of_converter, text_of_emulators, spelled, canon, emulators_in_order, opening_text}
 use Rattle.mig_canon.specs.CanonStream.{canon_any, wrapper_opening, wrapper_closing}
 
 module _ (parts : PartMap) where
@@ -18,11 +18,6 @@ module _ (parts : PartMap) where
   pub closing_none : has_emulators parts ≡ false → wrapper_closing parts ≡ []
   unfolding wrapper_closing
   closing_none none = ap (λ b. cond b (text_of_emulators (emulators_in_order parts) ++ spelled 0 []) []) none
-
--- no bytes were appended
-pub nothing_more : (old : Option (List ℕ)) → Appends old old []
-nothing_more None = tt
-nothing_more (Some text) = sym (append-nil text)
 
 pub canon_any_is : (g : GuestOf) → canon_any g ≡ wrapper_opening g.parts ++ (canon g ++ wrapper_closing g.parts)
 unfolding canon_any

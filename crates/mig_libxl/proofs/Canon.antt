@@ -1,11 +1,11 @@
 -- The image in a canonical stream: it says the guest without the parts of its emulators.
-use Rattle.mig_libxl.proofs.Common.{and_parts, ◌≡◌, ℕ, Bool, true, false, cond, not, List, [], ◌∷◌, ◌++◌, map, Option, Some, None, refl, sym, ap, subst, ◌∙◌, ◌↔◌, ◌≤◌, length, list_any, eq_by_cmp, find, Pv, IsFormed, is_emulator_code, GuestOf, part_cmp, Part, PartMap, parts_of, EmulatorPairs, PartKey, all_found, tied, part_total, part_exact, has_emulators, bare_guest, IsStreamedBare, list_any_none, same_parts, most_policy_entries, list_all, flat_map, range_with_len, Kind, Hvm, HasNoEmulators, IsWhole, text_of, or_parts, not-true, nothing, plain_policy, hvm_faultless}
+use Rattle.mig_libxl.proofs.Common.{and_parts, ◌≡◌, ℕ, Bool, true, false, cond, not, List, [], ◌∷◌, ◌++◌, map, Option, Some, None, refl, sym, ap, subst, ◌∙◌, ◌↔◌, ◌≤◌, length, list_any, eq_by_cmp, find, Pv, IsFormed, is_emulator_code, GuestOf, part_cmp, Part, PartMap, parts_of, EmulatorPairs, PartKey, all_found, tied, part_total, part_exact, has_emulators, bare_guest, list_any_none, same_parts, most_policy_entries, list_all, flat_map, range_with_len, Kind, Hvm, HasNoEmulators, IsWhole, text_of, or_parts, not-true, nothing, plain_policy, hvm_faultless}
 use Rattle.mig_canon.specs.Canon.{records_in_order, static_codes, last_codes, pv_last_codes, vcpu_codes, bodies_of, frame_bodies, frames_in, batches, headers, info_records, key_of, last_records, p2m_record, p2m_records, part_record, records_of, records_of_vcpu, static_bodies, vcpu_record, vcpus_below, all_vcpus, canon}
 use Rattle.mig_guest.specs.PartCodes.{row_of, code_number}
 use Rattle.mig_guest.specs.PartKeys.{p2m_key, context_key}
 use Rattle.mig_guest.specs.declared.part_code.PartCode.{PartCode}
 use Rattle.mig_canon.proofs.Common.{bodies_by_shape, shape_of}
-use Rattle.mig_pvtables.specs.Blank.{blank, blank_of, IsOfBytes}
+use Rattle.mig_pvtables.specs.Blank.{blank, blank_of}
 use Rattle.mig_records_pages.specs.PageData.{Frame}
 use Rattle.mig_canon.specs.Batched.{batch_records, batched}
 use Rattle.std.specs.FinMap as maps
@@ -141,12 +141,3 @@ module _ (g : GuestOf) where
   pub bare_whole : (kind : Kind) → g.kind ≡ kind → IsWhole g → blank g ≡ g → IsWhole bare × (blank bare ≡ bare)
   bare_whole Pv pv whole blanked = let is = sym (bare_is (pv_plain whole.formed pv)) in (subst IsWhole is whole, subst (λ x. blank x ≡ x) is blanked)
   bare_whole Hvm hvm whole blanked = (record { formed = bare_formed whole.formed; faultless = hvm_faultless g bare.parts hvm (get_same context_key refl) whole.faultless }, ap (λ k. blank_of k bare) hvm)
-
-  -- it is whole, in blank form, of bytes, and has no emulators
-  pub plain_bare : IsWhole g → blank g ≡ g → IsOfBytes g → IsStreamedBare bare
-  plain_bare whole blanked bytes = record {
-    whole = (bare_whole g.kind refl whole blanked).0;
-    blank = (bare_whole g.kind refl whole blanked).1;
-    bytes = record { pages = bytes.pages; parts = λ key text got. bytes.parts key text (was_there key text got) };
-    plain = bare_plain;
-  }

@@ -12,7 +12,6 @@ pub mod EmulatorMaps
 pub mod Arrivals
 pub mod Begun
 pub mod Forms
-pub mod Heads
 pub mod Recorded
 pub mod Taking
 pub mod Images

@@ -16,7 +16,7 @@ use mig_bytes::{
     Memory, ReadFailed, Source, Stop, answer_for, are_bytes, skip, stop_for, take_long, take_part,
     u32_le,
 };
-use mig_guest::PartKey;
+use mig_guest::{EMULATOR_CONTEXT as CONTEXT, EMULATOR_PAIRS as PAIRS, PartKey};
 use mig_headers::{Cause, ImageHeader, Kind, LibxlHeader, Place};
 use mig_libxl_form::{
     EMULATOR_CONTEXT, EMULATOR_IDS, EMULATOR_INDICES, EMULATOR_XENSTORE_DATA, Emulators,
@@ -27,11 +27,6 @@ use mig_policy::{PairsAnswer, pairs_fault};
 use mig_records::{RecordHead, take_head, take_padding};
 use mig_restore::{Reading, StreamAnswer};
 use std::alloc::Global;
-
-/// The codes of the parts that are an emulator's pairs, and its context.
-const PAIRS: u32 = mig_guest::EMULATOR_PAIRS;
-
-const CONTEXT: u32 = mig_guest::EMULATOR_CONTEXT;
 
 /// Takes a body of which nothing is kept.
 fn skip_body<S: Source>(src: &mut S, len: u32) -> Result<(), Stop<Cause>>

@@ -1,12 +1,11 @@
-use Rattle.mig_libxl.proofs.Common.{◌≡◌, ◌≢◌, ℕ, true, [], ◌∷◌, ◌++◌, inl, inr, refl, ap, ◌∙◌, rules, ◌==◌, eqb-true, or_cases, is_emulator_code, Part, emulator_record, emulators_in_order}
+use Rattle.mig_libxl.proofs.Common.{◌≡◌, ◌≢◌, ℕ, true, [], ◌∷◌, ◌++◌, inl, inr, refl, ap, ◌∙◌, rules, ◌==◌, eqb-true, or_cases, is_emulator_code, Part, emulator_record, emulators_in_order, Appends-nil}
 use Rattle.mig_records_pages.proofs.ListSteps.{more_done, done_on, done_stop}
-use Rattle.mig_libxl.proofs.Around.{nothing_more}
 use Rattle.mig_libxl.proofs.EmulatorParts.{behind_context, behind_pairs, met_holds, order_is}
 use Rattle.mig_libxl.proofs.EmulatorTexts.{short_emulator}
 use Rattle.mig_libxl.proofs.write.write_emulators.Goals as goal
 
 pub loop-key-init : goal.loop-key-init
-loop-key-init g c = record { pairs = tt; context = tt; bytes = ([], order_is c.args.guest.now.parts, nothing_more _); quiet = refl }
+loop-key-init g c = record { pairs = tt; context = tt; bytes = ([], order_is c.args.guest.now.parts, Appends-nil _); quiet = refl }
 
 pub write_emulator-requires-clause-code : goal.write_emulator-requires-clause-code
 write_emulator-requires-clause-code g c =
