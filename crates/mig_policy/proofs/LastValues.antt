@@ -13,7 +13,7 @@ use Rattle.mig_guest.specs.Parts.{PartMap}
 use Rattle.mig_guest.specs.declared.part_key.PartKey.{PartKey}
 use Rattle.mig_policy.specs.PairMaps.{pairs_in, part_bytes, with_pairs, last_pair_value, value_in_part, AddedPairsDecide}
 use Rattle.mig_policy.proofs.KeyLaws.{spelled_read}
-use Rattle.mig_policy.proofs.PairMapLaws.{map_entries, maps_are_of_pairs, rises, same_entries_again, text_entries, text_pairs, texts_are_canonical}
+use Rattle.mig_policy.proofs.PairMapLaws.{map_entries, maps_are_of_pairs, rises, same_entries_again, text_entries, texts_are_canonical}
 use Rattle.std.specs.FinMap as maps
 
 or_none : (o : Option (List ℕ)) → option_or o None ≡ o
@@ -100,7 +100,3 @@ module _ (m : PairMap) where
   pub map_pairs_values : (k : List ℕ) → last_pair_value k map_pairs ≡ maps.get m k
   unfolding map_pairs
   map_pairs_values k = as_map (map pair_of (maps.entries m)) (map_entries (map pair_of (maps.entries m)) (rises (maps.entries m) (entries_sorted m)) ∙ same_entries_again (maps.entries m)) k
-
-  pub map_pairs_text : flat_map text_of_pair map_pairs ≡ text_of_map m
-  unfolding map_pairs
-  map_pairs_text = text_pairs (maps.entries m)
