@@ -1,5 +1,5 @@
 -- The device model's record, of which the first byte is taken alone.
-use Rattle.mig_legacy.proofs.Common.{◌≡◌, ℕ, suc, ◌-◌, false, cond, nat_lt, List, [], ◌∷◌, ◌++◌, length, take, drop, get_or, Option, Some, None, Result, Ok, Err, refl, sym, ap, subst, ◌∙◌, arith, common_steps, Judged, ◌>>=◌, part, Matches, AgreesWithJudging, Passes, Faulty, Stop, part_passes, LegacyCause, Truncated, judged_as, first_named, signature_causes, counted_form, device_form, device_at, most_body, any_stop, passes_not, part_whole, IsErrAnd, Refused}
+use Rattle.mig_legacy.proofs.Common.{◌≡◌, ℕ, suc, ◌-◌, false, cond, nat_lt, List, [], ◌∷◌, ◌++◌, length, take, drop, get_or, Option, Some, None, Result, Ok, Err, refl, sym, ap, subst, ◌∙◌, arith, common_steps, Judged, part, Matches, AgreesWithJudging, Passes, Faulty, Stop, part_passes, LegacyCause, Truncated, judged_as, first_named, signature_causes, counted_form, device_form, device_at, most_body, any_stop, passes_not, part_whole, IsErrAnd, Refused}
 
 -- what follows the signature
 abbrev pub behind_signature : List ℕ → Judged LegacyCause (Option (List ℕ))

@@ -1,5 +1,5 @@
 -- A legacy stream as the reader takes it, part after part, and the guest that it means.
-use Rattle.mig_legacy.proofs.Common.{◌≡◌, ℕ, List, ◌++◌, Option, None, Some, Err, AgreesWithJudging, Memory, refl, sym, ap, ◌∙◌, fold-append, Judged, ◌>>=◌, placed, Passes, Hvm, LegacyCause, LegacyPlace, Start, Tail, Device, GuestOf, blank, mean, sent, put_record, empty_guest, put_libxl_content, no_emulators, emulators_of, with_emulators, IsStreamedBare, judged_as, start_form, tail_form, device_at, LegacyChunk, LegacyTail, LegacyStream, tail_records, device_records, image_records, store_records, mean_legacy, IsLegacySeen, IsLegacyTaken, FrameMap, kept_guest, put_tail, put_device, chunks_at, legacy_at, ChunksSeen}
+use Rattle.mig_legacy.proofs.Common.{◌≡◌, ℕ, List, ◌++◌, Option, refl, sym, ap, ◌∙◌, fold-append, Judged, ◌>>=◌, placed, Passes, Hvm, LegacyCause, LegacyPlace, Start, Tail, Device, GuestOf, blank, mean, sent, put_record, empty_guest, put_libxl_content, no_emulators, emulators_of, with_emulators, IsStreamedBare, judged_as, start_form, tail_form, device_at, LegacyChunk, LegacyTail, LegacyStream, tail_records, device_records, image_records, store_records, mean_legacy, IsLegacySeen, IsLegacyTaken, FrameMap, kept_guest, put_tail, put_device, chunks_at, legacy_at, ChunksSeen}
 use Rattle.std.proofs.Common.{fold}
 use Rattle.std.specs.FinMap as maps
 use Rattle.mig_outline.proofs.Outline.{frames_len}
@@ -41,8 +41,3 @@ guest_meant seen s result taken plain is =
 pub frames_meant : (seen : ChunksSeen) (s : LegacyStream) (n : ℕ) → IsLegacyTaken outline_frames seen s → n ≡ maps.len seen.guest.frames → n ≡ maps.len (mean_legacy s).frames
 unfolding mean_legacy
 frames_meant seen s n taken count = frames_len seen.guest Hvm (image_records s.chunks ++ tail_records s.tail) n taken.guest count
-
--- want of memory says nothing of what a stream is
-pub out_of_memory : {X : Type 0} (R : X → LegacyStream → Type 0) (a b : Option (List ℕ)) → AgreesWithJudging R a b legacy_at (Err Memory)
-out_of_memory R None b = tt
-out_of_memory R (Some i) b = tt

@@ -2,8 +2,12 @@
 -- same (Xen's xg_save_restore.h; libxc migration stream; libxl migration stream).
 use Rattle.std.specs.Prelude.{ℕ, Bool, true, false, List, [], ◌∷◌, ◌++◌, Option, Some, None, ◌==◌}
 use Rattle.mig_legacy.specs.Common.{flat_map, list_any, Pair, Hvm, GuestOf, context_key, PartKey, mean, FrameEntry, StreamRecord, EmulatorsOf, emulators_of, with_emulators}
-use Rattle.mig_guest.specs.declared.part_code.PartCode.TheVariants.{Tsc, HvmParam, HvmContext}
+use Rattle.mig_guest.specs.declared.part_code.PartCode.TheVariants.{Tsc, HvmParam, HvmContext, EmulatorPairs, EmulatorContext}
+use Rattle.mig_guest.specs.PartCodes.{code_number}
 use Rattle.mig_guest.specs.Parts.{Part}
+use Rattle.mig_headers.specs.RecordTypes.{type_number}
+use Rattle.mig_headers.specs.declared.record_type.RecordType.TheVariants as types
+use Rattle.mig_libxl_form.specs.LibxlTypes.{emulator_context_type, emulator_pairs_type}
 use Rattle.mig_restore_form.specs.Record.Content.{Frames as SentFrames, Sets}
 use Rattle.mig_libxl_form.specs.Content.{LibxlRecord}
 use Rattle.mig_libxl_form.specs.Content.LibxlContent.{Pairs as StorePairs, Context}
@@ -57,46 +61,43 @@ has_value index chunks = list_any (λ c. is_value_of index c.kind) chunks
 -- ---- the records that say the same
 
 abbrev pub param_key : ℕ → PartKey
-param_key index = record { code = 10; key1 = index; key2 = 0 }
+param_key index = record { code = code_number HvmParam; key1 = index; key2 = 0 }
 
 abbrev pub tsc_key : PartKey
-tsc_key = record { code = 8; key1 = 0; key2 = 0 }
+tsc_key = record { code = code_number Tsc; key1 = 0; key2 = 0 }
 
 -- the store and the context of the device model, which is the emulator of id 0 and index 0
 abbrev pub store_key : PartKey
-store_key = record { code = 258; key1 = 0; key2 = 0 }
+store_key = record { code = code_number EmulatorPairs; key1 = 0; key2 = 0 }
 
 abbrev pub device_key : PartKey
-device_key = record { code = 259; key1 = 0; key2 = 0 }
+device_key = record { code = code_number EmulatorContext; key1 = 0; key2 = 0 }
 
--- HVM_PARAMS
 abbrev pub params_record : List Part → StreamRecord
-params_record values = record { type = 10; content = Sets HvmParam values }
+params_record values = record { type = type_number types.HvmParams; content = Sets HvmParam values }
 
--- of an image: PAGE_DATA, HVM_PARAMS, X86_TSC_INFO
+-- of an image
 abbrev pub records_in : LegacyContent → List StreamRecord
 records_in Nothing = []
-records_in (Frames es) = record { type = 1; content = SentFrames es } ∷ []
+records_in (Frames es) = record { type = type_number types.PageData; content = SentFrames es } ∷ []
 records_in (Value index value) = params_record ((param_key index, value) ∷ []) ∷ []
-records_in (Clock bytes) = record { type = 8; content = Sets Tsc ((tsc_key, bytes) ∷ []) } ∷ []
+records_in (Clock bytes) = record { type = type_number types.X86TscInfo; content = Sets Tsc ((tsc_key, bytes) ∷ []) } ∷ []
 records_in (Pairs ps) = []
 
--- HVM_PARAMS and HVM_CONTEXT
 abbrev pub tail_records : LegacyTail → List StreamRecord
 tail_records t =
     params_record ((param_key 5, t.requests) ∷ (param_key 6, t.buffered) ∷ (param_key 1, t.store) ∷ [])
-    ∷ record { type = 9; content = Sets HvmContext ((context_key, t.context) ∷ []) }
+    ∷ record { type = type_number types.HvmContext; content = Sets HvmContext ((context_key, t.context) ∷ []) }
     ∷ []
 
--- of a libxl stream: EMULATOR_XENSTORE_DATA
+-- of a libxl stream
 abbrev pub pair_records : LegacyContent → List LibxlRecord
-pair_records (Pairs ps) = record { type = 2; content = StorePairs store_key ps } ∷ []
+pair_records (Pairs ps) = record { type = emulator_pairs_type; content = StorePairs store_key ps } ∷ []
 pair_records _ = []
 
--- EMULATOR_CONTEXT
 abbrev pub device_records : Option (List ℕ) → List LibxlRecord
 device_records None = []
-device_records (Some bytes) = record { type = 3; content = Context device_key bytes } ∷ []
+device_records (Some bytes) = record { type = emulator_context_type; content = Context device_key bytes } ∷ []
 
 abbrev pub image_records : List LegacyChunk → List StreamRecord
 image_records chunks = flat_map (λ c. records_in c.content) chunks
