@@ -1,0 +1,15 @@
+//! Tests of files that are read by place, and of frames whose pages stay in one.
+//!
+//! Responsible for: each public call of mig_file and mig_placed at its work; frames that are written out of a file, in any
+//! order of their places, as they are out of memory, also where a page ends with the file; and what is written where a read or
+//! a write fails. They stand in a crate of their own, since a crate with tests is proved twice.
+#![tactic(auto)]
+
+#[cfg(test)]
+mod files;
+#[cfg(test)]
+mod frames;
+#[cfg(test)]
+mod images;
+#[cfg(test)]
+mod made;
