@@ -147,8 +147,8 @@ class Work:
         self.source, self.said = source, None
         if source:
             LINE.sources.add(source)
-        fed_by = subprocess.DEVNULL if source is None else source.input_from(begins)
         try:
+            fed_by = subprocess.DEVNULL if source is None else source.input_from(begins)
             self.process = RUNNING.start(path, words, stdin=fed_by, stdout=out, env=surroundings(words))
         except OSError as fault:
             raise errors.NoProgram('%s does not start: %s' % (shown(path), fault.strerror)) from None

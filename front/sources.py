@@ -41,6 +41,14 @@ def why(fault):
     return fault.strerror or str(fault)
 
 
+def go_to(fd, place):
+    """Has what is read next begin at a place of a file."""
+    try:
+        os.lseek(fd, place, os.SEEK_SET)
+    except OSError as fault:
+        raise errors.Unreadable(why(fault)) from None
+
+
 def read_some(fd, count):
     try:
         return os.read(fd, count)
@@ -134,7 +142,7 @@ class Plain:
 
     def input_from(self, offset):
         """The file descriptor that the program gets as its standard input."""
-        os.lseek(self.fd, self.base + offset, os.SEEK_SET)
+        go_to(self.fd, self.base + offset)
         return self.fd
 
     def ended(self, accepted):
@@ -171,7 +179,7 @@ class Packed:
         self.front = self.look(0, forms.LOOK)
 
     def unpack(self):
-        os.lseek(self.fd, self.base, os.SEEK_SET)
+        go_to(self.fd, self.base)
         told = {name: value for name, value in os.environ.items() if not name.startswith(TOLD_UNPACKERS)}
         try:
             return program.RUNNING.start(self.packed, ['-dc', *self.MORE.get(self.packed, ())], program.RUNNING.memory, stdin=self.fd,

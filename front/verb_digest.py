@@ -38,7 +38,7 @@ def judged(name, path, source):
     command = 'convert' if form.kind == forms.LEGACY else 'normalise'
     made = hashlib.sha256()
     with program.Work(path, [command], source, form.begins, program.PIPE) as work:
-        for block in iter(lambda: os.read(work.out, sources.BLOCK), b''):
+        for block in iter(lambda: sources.read_some(work.out, sources.BLOCK), b''):
             made.update(block)
     found = verdict.of_answer(name, source, form, command, work.said)
     return found._replace(digest=made.hexdigest()) if found.status == errors.OK else found

@@ -193,10 +193,13 @@ def emulators(stream):
 # ---- what is asked of the programs
 
 def size_of(source):
-    """How many bytes a file has; None of a pipe."""
-    if source.packed:
+    """How many bytes a file has; None of a pipe, or where the system doesn't tell."""
+    if not source.packed:
+        return source.size
+    try:
         return os.fstat(source.fd).st_size
-    return source.size
+    except OSError:
+        return None
 
 
 def text_of(out):

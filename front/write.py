@@ -122,7 +122,7 @@ def configuration(source, form):
 
 def copy(pipe, out):
     """Passes on all that comes."""
-    for block in iter(lambda: os.read(pipe, sources.BLOCK), b''):
+    for block in iter(lambda: sources.read_some(pipe, sources.BLOCK), b''):
         put(out, block)
 
 

@@ -16,7 +16,7 @@ from front import resolve  # noqa: E402
 from front.text import shown  # noqa: E402
 from tried import check_of, program, skipped  # noqa: E402
 
-COPIED = 'bin', 'build', 'completions', 'docs', 'examples', 'front'
+COPIED = 'bin', 'build', 'completions', 'docs', 'examples', 'front', 'systemd'
 PROGRAMS = 'mig', *resolve.NAMES, 'xl-stream'
 COMPLETED = 'mig', *resolve.NAMES
 PATH = os.pathsep.join([os.path.dirname(sys.executable), '/usr/sbin', '/usr/bin', '/sbin', '/bin'])  # without the Rattle kit

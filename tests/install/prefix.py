@@ -116,6 +116,9 @@ def all_is_there():
         for name in COMPLETED:
             for path in ('share/bash-completion/completions/%s', 'share/zsh/site-functions/_%s', 'share/fish/vendor_completions.d/%s.fish'):
                 yield from wanted(found[path % name][0], 0o644)
+        for name in os.listdir(os.path.join(places.TOP, 'systemd')):
+            yield from wanted(found['lib/systemd/system/' + name][0], 0o644)
+        yield from wanted([path for path in found if '.wants' in path], [])  # none is enabled
         yield from wanted({what for what in found.values() if isinstance(what, int)}, {0o755})
         files = {path for path, what in found.items() if not isinstance(what, int)}
         yield from wanted(set(json.loads(read(prefix, LIST))['files']), files - {LIST})
