@@ -59,7 +59,8 @@ class Line:
     """The line, and what it tells of. Sources at work tell how far they are, in the order of the files."""
 
     def __init__(self):
-        self.is_terminal, self.is_there, self.ended = sys.stderr.isatty(), False, threading.Event()
+        self.is_terminal = sys.stderr is not None and sys.stderr.isatty()  # it may be closed
+        self.is_there, self.ended = False, threading.Event()
         self.sources, self.ticker = set(), None
         self.doing, self.name, self.number, self.files, self.total, self.before, self.begun = '', '', 0, 0, 0, 0, 0.0
 
