@@ -2,7 +2,7 @@
 import os
 import sys
 
-from front import errors, files, many, verdict
+from front import errors, files, many, sources, verdict
 from front.seen import host_of, name_of, objects
 from front.text import put_lines, shown, tell
 from front.words import verb
@@ -46,8 +46,12 @@ def lines_of(facts):
 
 
 def wanted(words):
-    """The files that all lists name, each once."""
-    return dict.fromkeys(path for name in words.of or () for path in files.listed(name, words.ends_with_nul))
+    """The files that all lists name, each once. A list that names none isn't well."""
+    found = dict.fromkeys(path for name in words.of or () for path in files.listed(name, words.ends_with_nul))
+    for path in found:
+        if isinstance(path, sources.EmptyFolder):
+            raise sources.unread(path, path.why)
+    return found
 
 
 def put_left(words, found, names):
