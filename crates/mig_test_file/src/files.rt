@@ -13,7 +13,7 @@ fn stands<P: PageFile>(file: &P, at: u64, value: u8) -> Result<bool, Failed> {
 
 #[test]
 fn a_file_is_read_as_far_as_it_goes(rt: HostRuntime) -> Result<(), Fail> {
-    let file = MemFile::new(bytes(rt.alloc())?);
+    let file = MemFile::new(bytes(rt.alloc())?, Vec::new(rt.alloc()));
     assert_eq!(rt; file.size(), place(PAGES));
     assert_eq!(rt; stands(&file, place(0), 1), Ok(true));
     assert_eq!(rt; stands(&file, place(3), 4), Ok(true));
@@ -26,8 +26,8 @@ fn a_file_is_read_as_far_as_it_goes(rt: HostRuntime) -> Result<(), Fail> {
 #[test]
 fn a_file_stands_behind_another(rt: HostRuntime) -> Result<(), Fail> {
     let alloc = rt.alloc();
-    let first = MemFile::new(bytes(alloc)?);
-    let second = MemFile::new(vec![in alloc; 4; 5000]?);
+    let first = MemFile::new(bytes(alloc)?, Vec::new(alloc));
+    let second = MemFile::new(vec![in alloc; 4; 5000]?, Vec::new(alloc));
     let both = JoinedFiles::new(&first, &second);
     let end = first.size();
     assert_eq!(rt; both.size(), end.wrapping_add(5000));

@@ -29,7 +29,7 @@ fn write_all<F: FrameSequence>(
 #[test]
 fn frames_come_out_of_a_file(rt: HostRuntime) -> Result<(), Fail> {
     let alloc = rt.alloc();
-    let file = MemFile::new(bytes(alloc)?);
+    let file = MemFile::new(bytes(alloc)?, Vec::new(alloc));
     let places = places(alloc)?;
     let want = record(alloc)?;
     for pages in 1..7 {
@@ -72,7 +72,7 @@ fn a_page_that_cant_be_read_is_told(rt: HostRuntime) -> Result<(), Fail> {
 #[test]
 fn a_write_that_fails_is_told(rt: HostRuntime) -> Result<(), Fail> {
     let alloc = rt.alloc();
-    let file = MemFile::new(bytes(alloc)?);
+    let file = MemFile::new(bytes(alloc)?, Vec::new(alloc));
     let places = places(alloc)?;
     let want = record(alloc)?;
     for fails in 0..9 {

@@ -61,7 +61,7 @@ fn kept(alloc: Global) -> Result<MemSink, Fail> {
 #[test]
 fn an_image_out_of_a_file_is_that_out_of_memory(rt: HostRuntime) -> Result<(), Fail> {
     let alloc = rt.alloc();
-    let file = MemFile::new(bytes(alloc)?);
+    let file = MemFile::new(bytes(alloc)?, Vec::new(alloc));
     let places = places(alloc)?;
     let mut sink = MemSink::new(alloc, Vec::new(alloc));
     let frames = PlacedFrames::new(&places, &file);

@@ -13,3 +13,5 @@ mod frames;
 mod images;
 #[cfg(test)]
 mod made;
+#[cfg(test)]
+mod sources;

@@ -48,7 +48,7 @@ pub(crate) struct FailingFile {
 
 impl FailingFile {
     pub(crate) fn new(alloc: Global, fails: u64) -> Result<FailingFile, Fail> {
-        let file = MemFile::new(bytes(alloc)?);
+        let file = MemFile::new(bytes(alloc)?, Vec::new(alloc));
         Ok(FailingFile { file, fails })
     }
 }
@@ -57,6 +57,8 @@ impl PageFile for FailingFile {
     ghost use Rattle.std.specs.Prelude.{None};
 
     ghost bytes = { λ s. None };
+
+    fn has_bytes(&self) {}
 
     fn size(&self) -> u64 {
         self.file.size()

@@ -14,8 +14,6 @@ mod body_pieces;
 #[cfg(test)]
 mod bytes;
 #[cfg(test)]
-mod files;
-#[cfg(test)]
 mod guest;
 #[cfg(test)]
 mod image;

@@ -1,4 +1,4 @@
-use mig_bytes::{Failed, Got, ReadFailed, Source, skip, take_exact};
+use mig_bytes::{Got, ReadFailed, Source, skip, take_exact};
 use mig_file::{FileSource, MemFile, PageFile};
 use std::test::Fail;
 
@@ -38,21 +38,12 @@ fn a_read_of_a_file_fails(rt: HostRuntime) -> Result<(), Fail> {
     Ok(())
 }
 
-// Of a file with too few bytes from a place on nothing is read there.
+// Behind the end of a file nothing is read, and nothing passed over.
 #[test]
-fn a_file_ends(rt: HostRuntime) -> Result<(), Fail> {
-    let file = MemFile::new(vec![in rt.alloc(); 10, 11, 12]?, vec![in rt.alloc(); 7]?);
+fn a_source_ends_with_its_file(rt: HostRuntime) -> Result<(), Fail> {
+    let file = MemFile::new(vec![in rt.alloc(); 10, 11, 12]?, Vec::new(rt.alloc()));
     file.has_bytes();
     let mut buf = [0; 2];
-    assert_eq!(rt;
-        (file.size(), file.read_at(1, &mut buf), buf),
-        (3, Ok(()), [11, 12])
-    );
-    assert_eq!(rt;
-        (file.read_at(2, &mut buf), file.read_at(u64::MAX, &mut buf)),
-        (Err(Failed), Err(Failed))
-    );
-    assert_eq!(rt; file.read_at(3, &mut buf[..0]), Ok(()));
     let mut beyond = FileSource::new(&file, 9);
     assert_eq!(rt; (beyond.read(&mut buf), beyond.pass(1)), (Ok(0), Ok(0)));
     Ok(())
