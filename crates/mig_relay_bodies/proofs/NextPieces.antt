@@ -35,12 +35,6 @@ module _ (len : ℕ) (fault : List ℕ → Option Cause) (begun piece : List ℕ
       let now : IsKnown next len fault piece = record { stands = then.stands; says = λ more whole. start.says (piece ++ more) whole ∙ then.says more whole } in
       subst (λ l. IsKnown next len fault (l ++ piece)) (sym none) now
 
-  pub entries_behind : (chain next : Chain) → IsBegunContext next len (begun ++ piece) → IsKnown (Entries chain) len fault begun → IsKnown (Entries next) len fault (begun ++ piece)
-  entries_behind chain next is known = record {
-    stands = is;
-    says = λ more whole. subst (λ l. fault l ≡ fault_of_scan (scan l)) (sym (same len begun piece more)) (known.says (piece ++ more) (longer len begun piece more whole));
-  }
-
   pub verdict_behind : (v : Option Cause) → IsKnown (Verdict v) len fault begun → IsKnown (Verdict v) len fault (begun ++ piece)
   verdict_behind v known = record { stands = tt; says = λ more whole. ap fault (same len begun piece more) ∙ known.says (piece ++ more) (longer len begun piece more whole) }
 
