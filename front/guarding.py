@@ -5,12 +5,16 @@ import sys
 
 from front.text import shown
 
+TYPE_CHECKING = False                                # a checker of types takes it for true
+if TYPE_CHECKING:
+    import subprocess
+
 TRACED = 'MIG_TRACEBACK'                             # in the environment: a fault that nobody foresaw is told by a traceback
 FIRST_KILLED = 1000                                  # where memory ends, before what the machine itself needs
 TENTHS = 8                                           # of what is available, so many are for what is started here
 
 
-def no_core_files():
+def no_core_files() -> None:
     """Neither this process nor one that it starts leaves a core file: a guest's memory would stand in it."""
     try:
         resource.setrlimit(resource.RLIMIT_CORE, (0, 0))
@@ -18,7 +22,7 @@ def no_core_files():
         pass
 
 
-def memory_there():
+def memory_there() -> int:
     """How much memory is available, in bytes; all of it is taken for available where the system doesn't tell."""
     try:
         with open('/proc/meminfo', encoding='ascii') as told:
@@ -28,12 +32,12 @@ def memory_there():
         return sys.maxsize
 
 
-def memory_to_take():
+def memory_to_take() -> int:
     """How much the programs that hold guests may take together, where nothing else was said."""
     return memory_there() // 10 * TENTHS
 
 
-def guard(process, most):
+def guard(process: 'subprocess.Popen[bytes]', most: int) -> None:
     """Has a process that was just started take so much memory at most, and has the system end it first where memory ends, and not
     what the machine needs."""
     try:
@@ -49,12 +53,12 @@ def guard(process, most):
         pass
 
 
-def told_of(fault):
+def told_of(fault: BaseException) -> str:
     """A fault that nobody foresaw, in one line; with TRACED it is raised again."""
     if os.environ.get(TRACED):
         raise fault
-    last = fault.__traceback__
-    while last.tb_next:
+    where, last = 'an unknown place', fault.__traceback__
+    while last:
+        where = '%s:%d' % (os.path.basename(last.tb_frame.f_code.co_filename), last.tb_lineno)
         last = last.tb_next
-    where = '%s:%d' % (os.path.basename(last.tb_frame.f_code.co_filename), last.tb_lineno)
     return 'a fault of mig itself: %s at %s: %s; with %s=1 it tells more' % (type(fault).__name__, where, shown(str(fault)), TRACED)

@@ -8,38 +8,42 @@ import time
 from front import text
 from front.text import shown
 
+TYPE_CHECKING = False                                # a checker of types takes it for true; typing itself is slow to load
+if TYPE_CHECKING:
+    from typing import Any, Iterable, Optional, Set, Tuple
+
 FIRST, EACH = 1.0, 0.5                               # seconds until the line comes, and until it is told anew
 UNITS = 'bytes', 'KiB', 'MiB', 'GiB', 'TiB'
 WIDTH = 80                                           # of a terminal that tells none
 CLEAR = '\r\x1b[K'
 
 
-def in_units(count, unit=None):
+def in_units(count: int, unit: 'Optional[int]' = None) -> 'Tuple[str, int]':
     """A number of bytes and its unit, or the number in a given unit."""
     number = min(max(count.bit_length() - 1, 0) // 10, len(UNITS) - 1) if unit is None else unit
     return ('%d' if number == 0 else '%.1f') % (count / (1 << 10 * number)), number
 
 
-def amount(count):
+def amount(count: int) -> str:
     """A number of bytes, for people."""
     number, unit = in_units(count)
     return '%s %s' % (number, UNITS[unit])
 
 
-def of_all(done, total):
+def of_all(done: int, total: int) -> str:
     """A number of bytes of a greater one, in the unit of that."""
     number, unit = in_units(total)
     return '%s of %s %s' % (in_units(done, unit)[0], number, UNITS[unit])
 
 
-def duration(seconds):
+def duration(seconds: float) -> str:
     """Hours, minutes and seconds."""
     minutes, seconds = divmod(int(seconds + 0.5), 60)
     hours, minutes = divmod(minutes, 60)
     return '%d:%02d:%02d' % (hours, minutes, seconds) if hours else '%d:%02d' % (minutes, seconds)
 
 
-def size_of(name):
+def size_of(name: str) -> int:
     """How many bytes a file has; 0 where nobody can know."""
     try:
         return os.path.getsize(name) if os.path.isfile(name) else 0
@@ -47,10 +51,10 @@ def size_of(name):
         return 0
 
 
-def read_of(source):
+def read_of(source: 'Any') -> int:
     """How much of a source was read; nothing where it was closed meanwhile."""
     try:
-        return source.read_so_far()
+        return int(source.read_so_far())
     except OSError:
         return 0
 
@@ -58,13 +62,14 @@ def read_of(source):
 class Line:
     """The line, and what it tells of. Sources at work tell how far they are, in the order of the files."""
 
-    def __init__(self):
+    def __init__(self) -> None:
         self.is_terminal = sys.stderr is not None and sys.stderr.isatty()  # it may be closed
         self.is_there, self.ended = False, threading.Event()
-        self.sources, self.ticker = set(), None
+        self.sources = set()  # type: Set[Any]
+        self.ticker = None  # type: Optional[threading.Thread]
         self.doing, self.name, self.number, self.files, self.total, self.before, self.begun = '', '', 0, 0, 0, 0, 0.0
 
-    def begin(self, doing, names):
+    def begin(self, doing: str, names: 'Iterable[str]') -> 'Iterable[str]':
         """A verb begins on these files, which are counted and measured where that is told. Answers them."""
         if not self.is_terminal:
             return names
@@ -77,13 +82,13 @@ class Line:
             self.ticker.start()
         return names
 
-    def at(self, number, name):
+    def at(self, number: int, name: str) -> None:
         """The files in front of this one are done."""
         if self.is_terminal:
             self.before += size_of(self.name) if number != self.number else 0
             self.number, self.name = number, name
 
-    def tick(self):
+    def tick(self) -> None:
         wait = FIRST
         while not self.ended.wait(wait):
             wait = EACH
@@ -94,7 +99,7 @@ class Line:
                 sys.stderr.flush()
                 self.is_there = True
 
-    def told(self):
+    def told(self) -> str:
         """The line."""
         seconds, done = time.monotonic() - self.begun, self.before + sum(map(read_of, list(self.sources)))
         parts = ['file %d of %d' % (self.number + 1, self.files)] * (self.files > 1)
@@ -107,14 +112,14 @@ class Line:
             parts.append(duration(max(self.total - done, 0) * seconds / done) + ' left')
         return ', '.join([*parts, ' '.join(filter(None, (self.doing, shown(self.name))))])
 
-    def clear(self):
+    def clear(self) -> None:
         """Takes the line away before others are printed."""
         if self.is_there:
             sys.stderr.write(CLEAR)
             sys.stderr.flush()
             self.is_there = False
 
-    def end(self):
+    def end(self) -> None:
         """No line is told any more."""
         self.ended.set()
         if text.LOCK.acquire(timeout=1):             # a terminal that is stopped keeps nobody from an end
