@@ -38,13 +38,13 @@ fn a_read_of_a_file_fails(rt: HostRuntime) -> Result<(), Fail> {
     Ok(())
 }
 
-// Behind the end of a file nothing is read, and nothing passed over.
+// At the end of a file nothing is read, and nothing passed over.
 #[test]
 fn a_source_ends_with_its_file(rt: HostRuntime) -> Result<(), Fail> {
     let file = MemFile::new(vec![in rt.alloc(); 10, 11, 12]?, Vec::new(rt.alloc()));
     file.has_bytes();
     let mut buf = [0; 2];
-    let mut beyond = FileSource::new(&file, 9);
-    assert_eq!(rt; (beyond.read(&mut buf), beyond.pass(1)), (Ok(0), Ok(0)));
+    let mut src = FileSource::new(&file, 3);
+    assert_eq!(rt; (src.read(&mut buf), src.pass(1)), (Ok(0), Ok(0)));
     Ok(())
 }
