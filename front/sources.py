@@ -148,7 +148,10 @@ class Plain:
     def ended(self, accepted):
         """To be called when the program has ended. Answers what is wrong with the source itself, or None. A program may read a file
         twice, so one that was written to meanwhile is no input."""
-        return CHANGED if mark_of(os.fstat(self.fd)) != self.mark else None
+        try:
+            return CHANGED if mark_of(os.fstat(self.fd)) != self.mark else None
+        except OSError as fault:
+            return why(fault)
 
     def close(self):
         os.close(self.fd)
@@ -158,7 +161,7 @@ class Whole(Plain):
     """The same, of which the program gets every byte: what the disk can't give any more is noticed."""
 
     def input_from(self, offset):
-        os.lseek(self.fd, self.base + offset, os.SEEK_SET)
+        go_to(self.fd, self.base + offset)
         self.through = Piped(self.fd)
         return self.through.input_from(0)
 

@@ -80,6 +80,11 @@ def is_loaded(tool, size):
     return program.with_limit(tool, ['it'], b'', size, {'LD_TRACE_LOADED_OBJECTS': '1', 'LD_BIND_NOW': '1'}).status == 0
 
 
+def may_be_enough(tool, words):
+    """Whether what lets the loader end may be enough: where no page is kept."""
+    return program.is_check(tool) or words in (['relay'], ['show'], ['verify', 'it'])
+
+
 def answers(tool):
     """By name and words: for each size whether it is the loader's affair, what was answered, and what is right."""
     loaded = {size: is_loaded(tool, size) for size in SIZES}
@@ -97,7 +102,7 @@ def little(tool):
                     name, program.named(words), size // KIB, answer.status, len(answer.out), answer.report[:200])
         if got[-1][2] != want:
             yield '%s, %s: status %d with much memory' % (name, program.named(words), got[-1][2].status)
-        if name != 'words' and not program.is_check(tool) and not any(program.is_no_memory(words, answer, want) for _, _, answer in got):
+        if not may_be_enough(tool, words) and not any(program.is_no_memory(words, answer, want) for _, _, answer in got):
             yield '%s, %s: no size was too little' % (name, program.named(words))
 
 
