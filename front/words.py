@@ -6,7 +6,7 @@ import sys
 import textwrap
 
 from front import errors
-from front.text import put_lines
+from front.text import put_lines, shown
 
 WIDTH = 120
 STATUSES = {
@@ -80,11 +80,14 @@ class Words(argparse.ArgumentParser):
         return [] if option_string.startswith('--') else super()._get_option_tuples(option_string)
 
     def parse_known_args(self, args=None, namespace=None):
-        """Of a verb that takes many files, those behind an option are taken too; behind `--` none is an option."""
+        """Of a verb that takes many files, those behind an option are taken too; behind `--` none is an option. What a verb doesn't know
+        ends here, where its own usage is at hand."""
         found, left = super().parse_known_args(args, namespace)
         end = left.index('--') if '--' in left else len(left)
         if self.get_default('usage_fault') and not any(word.startswith('-') and word != '-' for word in left[:end]):
             found.paths, left = [*found.paths, *left[:end], *left[end + 1:]], []
+        if left:
+            self.error('unrecognized arguments: ' + ' '.join(map(shown, left)))
         return found, left
 
     def _print_message(self, message, file=None):
