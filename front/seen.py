@@ -13,7 +13,7 @@ MICROSECOND = 1000                                   # nanoseconds: other progra
 
 
 def stamp_of(name):
-    """By what a file is known again: its size and the time of its last change; nothing of what is no regular file."""
+    """By what a file is known again: its size and its time of modification; nothing of what is no regular file."""
     try:
         if name == '-' or not os.path.isfile(name):
             return {}

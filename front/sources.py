@@ -12,7 +12,9 @@ from front.text import shown
 
 BLOCK = 1 << 20
 MOST_KEPT = 64 << 20                                 # so much of a pipe is kept, to be looked at
-CHANGED = 'it was written to while it was read'
+WRITTEN_TO = 'it was written to while it was read'
+TOUCHED = ('its inode was changed while it was read (a link, its name, owner or mode; or it was written to, and its time of modification '
+           'set back); read it again')
 MOST_BEHIND = 1 << 30                                # so much of what follows a stream is read, which needn't ever end
 TOLD_UNPACKERS = 'GZIP', 'XZ_', 'ZSTD_'              # names of variables by which an unpacker may be told to do other things
 
@@ -105,17 +107,43 @@ class Cursor:
         self.place += count
 
 
-def mark_of(status):
-    """What is another where a file was written to."""
-    return status.st_size, status.st_mtime_ns
-
-
-class Plain:
+class Regular:
     """A regular file, from the place on where it is open."""
-    packed, is_walkable = None, True
+    is_walkable = True
 
     def __init__(self, fd, status):
-        self.fd, self.base, self.mark = fd, os.lseek(fd, 0, os.SEEK_CUR), mark_of(status)
+        self.fd, self.base, self.status = fd, os.lseek(fd, 0, os.SEEK_CUR), status
+
+    def read_so_far(self):
+        """How much of the file was read; the program reads on with the same place."""
+        return max(os.lseek(self.fd, 0, os.SEEK_CUR) - self.base, 0)
+
+    def change(self):
+        """What was changed since it was opened, or None. Who writes to a file can set its time of modification back, and not that of its
+        inode's change, which a link or another mode moves too."""
+        now, before = os.fstat(self.fd), self.status
+        if (now.st_size, now.st_mtime_ns) != (before.st_size, before.st_mtime_ns):
+            return WRITTEN_TO
+        return TOUCHED if now.st_ctime_ns != before.st_ctime_ns else None
+
+    def ended(self, accepted):
+        """To be called when the program has ended. Answers what is wrong with the source itself, or None. A program may read a file
+        twice, so one that was changed meanwhile is no input."""
+        try:
+            return self.change()
+        except OSError as fault:
+            return why(fault)
+
+    def close(self):
+        os.close(self.fd)
+
+
+class Plain(Regular):
+    """One that isn't packed."""
+    packed = None
+
+    def __init__(self, fd, status):
+        super().__init__(fd, status)
         self.size = max(status.st_size - self.base, 0)
 
     def at(self, offset, count):
@@ -136,25 +164,10 @@ class Plain:
     def cursor(self, offset):
         return Cursor(self.at, lambda count: None, offset)
 
-    def read_so_far(self):
-        """How much of the file was read; the program reads on with the same place."""
-        return max(os.lseek(self.fd, 0, os.SEEK_CUR) - self.base, 0)
-
     def input_from(self, offset):
         """The file descriptor that the program gets as its standard input."""
         go_to(self.fd, self.base + offset)
         return self.fd
-
-    def ended(self, accepted):
-        """To be called when the program has ended. Answers what is wrong with the source itself, or None. A program may read a file
-        twice, so one that was written to meanwhile is no input."""
-        try:
-            return CHANGED if mark_of(os.fstat(self.fd)) != self.mark else None
-        except OSError as fault:
-            return why(fault)
-
-    def close(self):
-        os.close(self.fd)
 
 
 class Whole(Plain):
@@ -169,16 +182,16 @@ class Whole(Plain):
         return self.through.ended(accepted) or super().ended(accepted)
 
 
-class Packed:
-    """A file that another program packed. It is unpacked anew for each look, and once for the program."""
+class Packed(Regular):
+    """One that another program packed. It is unpacked anew for each look, and once for the program."""
     size = None
     TIMES = 16                                       # what is taken for the unpacked size, to share memory out
     MORE = {'zstd': ['--long=31']}                   # else zstd refuses what was packed with `--long=28` and more
     WARNING = {'gzip': 2, 'xz': 2}                   # all is unpacked, though something follows it
-    is_walkable = True
 
-    def __init__(self, fd, base, packer):
-        self.fd, self.base, self.packed, self.running = fd, base, packer, None
+    def __init__(self, fd, status, packer):
+        super().__init__(fd, status)
+        self.packed, self.running = packer, None
         self.front = self.look(0, forms.LOOK)
 
     def unpack(self):
@@ -220,10 +233,6 @@ class Packed:
         pass_over(fd, offset)
         return Cursor(lambda _, count: read_upto(fd, count), lambda count: pass_over(fd, count), offset)
 
-    def read_so_far(self):
-        """How much of the packed file was read."""
-        return max(os.lseek(self.fd, 0, os.SEEK_CUR) - self.base, 0)
-
     def input_from(self, offset):
         self.running = self.unpack()
         pass_over(self.running.stdout.fileno(), offset)
@@ -234,7 +243,8 @@ class Packed:
         if accepted and not drain(self.running.stdout.fileno()):
             self.kill()
             return 'more than %d MiB follow the stream, and what packed it has its checksum behind them' % (MOST_BEHIND >> 20)
-        return self.stop()
+        failed = self.stop()
+        return super().ended(accepted) or failed
 
     def stop(self):
         """Ends the unpacker, and answers why it failed, where it did so by itself or was ended by others."""
@@ -254,7 +264,7 @@ class Packed:
 
     def close(self):
         self.kill()
-        os.close(self.fd)
+        super().close()
 
 
 class Piped:
@@ -316,7 +326,7 @@ def unpacked(fd, status, kind):
     """The source of a regular file, of this kind where it isn't packed."""
     plain = kind(fd, status)
     packer = forms.packer_of(plain.at(0, 8))
-    return Packed(fd, plain.base, packer) if packer else plain
+    return Packed(fd, status, packer) if packer else plain
 
 
 def source_of_open(fd, name, kind):

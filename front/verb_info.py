@@ -84,6 +84,11 @@ class Info(Fields):
         """What is counted: a stream that the program lists whole is told, and nobody judged it."""
         return TOLD if self.found.status == errors.OK else self.found.result
 
+    @property
+    def line(self):
+        """The line of the verdict."""
+        return self.found.line
+
     def lines(self):
         """What is printed of it."""
         found = self.found

@@ -13,6 +13,7 @@ SCHEMA = 1                                           # of what --json prints: do
 REFUSAL = re.compile(r'refused: (\w+(?: \d+)?): (\d+) (\w+)')
 FACTS = re.compile(r'ok version (\d+) kind (\w+) frames (\d+) records (\d+)(?: differs (\d+|unknown))?')
 UNCOMPARED = 'unknown'
+READ_FAULT = 'fault: read: '                         # in front of what is wrong with a file
 LEGACY_FACTS = re.compile(r'ok legacy frames (\d+)')
 SAVED = re.compile(r'ok rounds (\d+) entries (\d+)')
 RELAYED = re.compile(r'ok records (\d+) bytes (\d+)')
@@ -122,7 +123,7 @@ SPECIAL = 'not judged: a pipe, a socket or a device is read only where it is giv
 
 
 def fault(name, why):
-    return Verdict.of(name, FAULT, errors.READ_FAULT, 'fault: read: ' + why)
+    return Verdict.of(name, FAULT, errors.READ_FAULT, READ_FAULT + why)
 
 
 def without_program(name, form):
@@ -171,7 +172,14 @@ def compared(name, path, source):
 
 
 def of_file(name, judge, kind=sources.Plain):
-    """The verdict of a file with this name, as a function answers it of a name and a source, of this kind where it isn't packed."""
+    """The verdict of a file with this name, as a function answers it of a name and a source, of this kind where it isn't packed. It is
+    asked twice where the first time only the file's inode was changed meanwhile, as a backup does that makes a hard link."""
+    found = of_source(name, judge, kind)
+    return of_source(name, judge, kind) if name != '-' and found.line == READ_FAULT + sources.TOUCHED else found
+
+
+def of_source(name, judge, kind):
+    """The same, asked once."""
     source = None
     try:
         source = sources.source_of(name, kind)
