@@ -4,7 +4,8 @@
     <!-- made by tests/documents/rooms.py: rooms -->
     <!-- made up to here -->
 
-and in a man page the same behind `.\\"`. A script answers the text between them by its function `made`, given the word.
+and in a man page the same behind `.\\"`. A script answers the text between them by its function `made`, given the word. The files of
+completions/ are made as a whole, by completions.py.
 
 usage: tests/documents/made.py [--write]
 
@@ -18,6 +19,8 @@ import sys
 sys.dont_write_bytecode = True
 TOP = pathlib.Path(__file__).resolve().parents[2]
 sys.path[:0] = [str(TOP / "tests" / "documents"), str(TOP)]
+import completions  # noqa: E402
+
 FRONT, BEHIND = r'^(?:<!-- |\.\\" )', r"(?: -->)?\n"
 PART = re.compile(rf"({FRONT}made by tests/documents/(\w+)\.py: (\S+){BEHIND})(.*?)({FRONT}made up to here{BEHIND})", re.M | re.S)
 
@@ -38,12 +41,17 @@ def as_made(text):
 
 
 def others():
-    """The documents that have other parts than their scripts make, each with its text as it should be."""
+    """The documents that have other parts than their scripts make, and the files that aren't as they are made, each with its text as it
+    should be."""
     for path in pages():
         text = path.read_text(encoding="utf-8")
         wanted = as_made(text)
         if wanted != text:
             yield path, wanted
+    wanted = {TOP / name: text for name, text in completions.files().items()}
+    there = [path for path in (TOP / "completions").glob("*/*") if path not in wanted]
+    yield from ((path, "") for path in there)        # which nobody makes
+    yield from ((path, text) for path, text in wanted.items() if not path.is_file() or path.read_text(encoding="utf-8") != text)
 
 
 def main():

@@ -10,7 +10,6 @@ from places import COMPLETED, PATH, PROGRAMS, TOP, check_commands, commands, cop
 from build.words import CHECK_USAGE  # noqa: E402  (places.py has put the repository's folder on the path)
 
 COMPLETIONS = os.path.join(TOP, 'completions')
-FORCE = "local force='--force["                      # the zsh file has this option once, for several verbs
 
 
 # ---- completions
@@ -62,25 +61,15 @@ def written_for_fish():
         yield from wanted(set(re.findall(r' -a (\w+)', read(COMPLETIONS, 'fish', name + '.fish'))), of_program)
 
 
-def in_zsh_list(text, name):
-    """The options of a list that several verbs have."""
-    return re.findall(r"'\*?(--?[\w-]+)\[", re.search(r'^local -a %s=\((.*)\)$' % name, text, re.M)[1])
-
-
 def written_for_zsh():
     by_verb, without = verbs()
     text = read(COMPLETIONS, 'zsh', '_mig')
     yield from wanted(text.splitlines()[0], '#compdef mig')
     yield from wanted(set(re.findall(r"^    '(\w+):", text, re.M)), {*by_verb, 'help'})
-    yield from wanted(FORCE in text, True)
-    yield from wanted(set(re.findall(r"\(- \*\)(--\w+)\[", text)), without)
-    found = {}
-    for names, rest in re.findall(r'^ +([\w |]+)\) _arguments (.*);;$', text, re.M):
-        options = set(re.findall(r"['\"]\*?(--?[\w-]+)\[", rest))
-        options.update('--' + name for name in ('force', 'help', 'memory') if '$' + name in rest)
-        options.update(option for name in ('choice', 'into') if '$' + name in rest for option in in_zsh_list(text, name))
-        found.update((verb, options) for verb in names.split(' | '))
-    yield from wanted(found, by_verb)
+    option = r"'(?:\(- \*\))?\*?(--?[\w-]+)\["
+    yield from wanted(set(re.findall(option, re.search('^_arguments .*$', text, re.M)[0])), without)
+    found = re.findall(r'^ {12}(\w+)\)\n {16}_arguments (.*?) ;;$', text, re.M | re.S)
+    yield from wanted({verb: set(re.findall(option, words)) for verb, words in found}, by_verb)
     for name, of_program in ('mig_tool', set(commands())), ('mig_check', check_commands()):
         text = read(COMPLETIONS, 'zsh', '_' + name)
         yield from wanted(text.splitlines()[0], '#compdef ' + name)
