@@ -1,5 +1,5 @@
 -- What it does to all values that a leaf is taken into use or a value is written.
-use Rattle.mig_pagestore_index.proofs.Common.{[], ◌∷◌, ◌++◌, ◌≡◌, ◌≢◌, replicate, ℕ, zero, suc, ◌^◌, ◌+◌, ◌-◌, ◌*◌, ◌/◌, ◌%◌, ◌<◌, ◌≤◌, ◌⊎◌, List, length, get_or, set, slice_index, refl, sym, ap, ◌∙◌, inl, inr, arith, length-set, get_or-set_same, get_or-set_other, cases_eq, under, IsLevel, IsFan, Becomes, IsTree, HasSpare, cases_lt}
+use Rattle.mig_pagestore_index.proofs.Common.{[], ◌∷◌, ◌++◌, ◌≡◌, ◌≢◌, replicate, ℕ, zero, suc, ◌+◌, ◌-◌, ◌*◌, ◌/◌, ◌%◌, ◌<◌, ◌≤◌, ◌⊎◌, List, length, get_or, set, slice_index, refl, sym, ap, ◌∙◌, inl, inr, arith, get_or-set_same, get_or-set_other, cases_eq, under, IsLevel, IsFan, Becomes, IsTree, cases_lt}
 use Rattle.mig_pagestore_index.specs.Leaves.{step}
 
 same_number : (q k : ℕ) → q / 512 ≡ k / 512 → q % 512 ≡ k % 512 → q ≡ k
@@ -25,88 +25,41 @@ unfolding step
 step_some cells zero j lt = absurd (omega (arith, lt))
 step_some cells (suc n) j lt = let e : n ≡ suc n - 1 = omega arith in ap (λ m. slice_index cells (m * 512 + j)) e
 
-module _ (F : ℕ → ℕ) (cells : List ℕ) (used : ℕ) (fan : IsFan F used) (level : IsLevel cells used) where
-  module _ (k v : ℕ) (way : 0 < F (k / 512)) where
-    abbrev at : ℕ
-    at = (F (k / 512) - 1) * 512 + k % 512
+module _ (F : ℕ → ℕ) (cells : List ℕ) (used : ℕ) (fan : IsFan F used) (level : IsLevel cells used) (k v : ℕ) (way : 0 < F (k / 512)) where
+  abbrev at : ℕ
+  at = (F (k / 512) - 1) * 512 + k % 512
 
-    pub in_use : at < used * 512
-    in_use = omega (arith, way, fan.known (k / 512), small_place k)
+  pub in_use : at < used * 512
+  in_use = omega (arith, way, fan.known (k / 512), small_place k)
 
-    there : (q : ℕ) → q ≢ k → under F (set cells at v) q ≡ under F cells q
-    there q ne = elim (none_or_some (F (q / 512))) [
-      | inl e ↦ step_none (set cells at v) (F (q / 512)) (q % 512) e ∙ sym (step_none cells (F (q / 512)) (q % 512) e)
-      | inr lt ↦
-          let apart : (F (q / 512) - 1) * 512 + q % 512 ≢ at = λ e.
-          let node : F (q / 512) - 1 ≡ F (k / 512) - 1 = same_node (F (q / 512) - 1) (F (k / 512) - 1) (q % 512) (k % 512) (small_place q) (small_place k) e in
-          let same : F (q / 512) ≡ F (k / 512) = omega (arith, node, lt, way) in
-          ne (same_number q k (fan.apart (q / 512) (k / 512) same way) (omega (arith, e, node))) in
-          step_some (set cells at v) (F (q / 512)) (q % 512) lt ∙ get_or-set_other cells at ((F (q / 512) - 1) * 512 + q % 512) v 0 apart ∙ sym (step_some cells (F (q / 512)) (q % 512) lt)
-    ]
+  there : (q : ℕ) → q ≢ k → under F (set cells at v) q ≡ under F cells q
+  there q ne = elim (none_or_some (F (q / 512))) [
+    | inl e ↦ step_none (set cells at v) (F (q / 512)) (q % 512) e ∙ sym (step_none cells (F (q / 512)) (q % 512) e)
+    | inr lt ↦
+        let apart : (F (q / 512) - 1) * 512 + q % 512 ≢ at = λ e.
+        let node : F (q / 512) - 1 ≡ F (k / 512) - 1 = same_node (F (q / 512) - 1) (F (k / 512) - 1) (q % 512) (k % 512) (small_place q) (small_place k) e in
+        let same : F (q / 512) ≡ F (k / 512) = omega (arith, node, lt, way) in
+        ne (same_number q k (fan.apart (q / 512) (k / 512) same way) (omega (arith, e, node))) in
+        step_some (set cells at v) (F (q / 512)) (q % 512) lt ∙ get_or-set_other cells at ((F (q / 512) - 1) * 512 + q % 512) v 0 apart ∙ sym (step_some cells (F (q / 512)) (q % 512) lt)
+  ]
 
-    -- a cell is written: the value of k changes, and no other
-    pub written : Becomes (under F cells) (under F (set cells at v)) k v
-    written = record {
-      here = step_some (set cells at v) (F (k / 512)) (k % 512) way ∙ get_or-set_same cells at v 0 (omega (arith, in_use, level.in_range));
-      there = there;
-    }
-
-    pub level_written : IsLevel (set cells at v) used
-    level_written = let long = length-set cells at v in record {
-      in_range = omega (arith, long, level.in_range);
-      empty = λ i le. get_or-set_other cells at i v 0 (λ e. omega (arith, in_use, le, e)) ∙ level.empty i le;
-      few = omega (arith, long, level.few);
-    }
-
-  module _ (G : ℕ → ℕ) (j : ℕ) (none : F j ≡ 0) (b : Becomes F G j (used + 1)) where
-    -- a spare leaf is taken into use, and G leads to it from j
-    pub fan_opened : IsFan G (used + 1)
-    fan_opened = record {
-      known = λ q. elim (cases_eq q j) [
-        | inl e ↦ omega (arith, ap G e, b.here)
-        | inr ne ↦ omega (arith, b.there q ne, fan.known q)
-      ];
-      apart = λ i k e lt. elim (cases_eq i j) [
-        | inl a ↦ elim (cases_eq k j) [
-          | inl c ↦ a ∙ sym c
-          | inr c ↦ absurd (omega (arith, ap G a, b.here, b.there k c, fan.known k, e))
-        ]
-        | inr a ↦ elim (cases_eq k j) [
-          | inl c ↦ absurd (omega (arith, ap G c, b.here, b.there i a, fan.known i, e))
-          | inr c ↦ fan.apart i k (sym (b.there i a) ∙ e ∙ b.there k c) (omega (arith, b.there k c, lt))
-        ]
-      ];
-    }
-
-    -- and no value changes
-    pub nothing_new : (q : ℕ) → under G cells q ≡ under F cells q
-    nothing_new q = elim (cases_eq (q / 512) j) [
-      | inl e ↦
-          let node : G (q / 512) ≡ used + 1 = ap G e ∙ b.here in
-          step_some cells (G (q / 512)) (q % 512) (omega (arith, node))
-          ∙ level.empty ((G (q / 512) - 1) * 512 + q % 512) (omega (arith, node))
-          ∙ sym (step_none cells (F (q / 512)) (q % 512) (ap F e ∙ none))
-      | inr ne ↦ ap (λ n. step cells n (q % 512)) (b.there (q / 512) ne)
-    ]
-
-pub level_opened : (cells : List ℕ) (used : ℕ) → IsLevel cells used → HasSpare cells used 1 → IsLevel cells (used + 1)
-level_opened cells used level spare = record { in_range = spare; empty = λ i le. level.empty i (omega (arith, le)); few = level.few }
-
-module _ (F : ℕ → ℕ) (cells : List ℕ) (used : ℕ) (tree : IsTree F cells used) where
-  -- a spare leaf is taken into use, and G leads to it from j
-  pub leaf_opened : (G : ℕ → ℕ) (j : ℕ) → j < 2 ^ 43 → F j ≡ 0 → Becomes F G j (used + 1) → HasSpare cells used 1 → IsTree G cells (used + 1)
-  leaf_opened G j small none b spare = record {
-    level = level_opened cells used tree.level spare;
-    fan = fan_opened F cells used tree.fan tree.level G j none b;
-    low = λ k some. elim (cases_eq k j) [ inl e ↦ omega (arith, e, small) | inr ne ↦ tree.low k (omega (arith, b.there k ne, some)) ];
+  -- a cell is written: the value of k changes, and no other
+  pub written : Becomes (under F cells) (under F (set cells at v)) k v
+  written = record {
+    here = step_some (set cells at v) (F (k / 512)) (k % 512) way ∙ get_or-set_same cells at v 0 (omega (arith, in_use, level.in_range));
+    there = there;
   }
 
-  pub leaf_same : (G : ℕ → ℕ) (j : ℕ) → F j ≡ 0 → Becomes F G j (used + 1) → (q : ℕ) → under G cells q ≡ under F cells q
-  leaf_same G j none b q = nothing_new F cells used tree.fan tree.level G j none b q
-
-  -- a value is written
-  pub value_written : (k v : ℕ) → 0 < F (k / 512) → IsTree F (set cells ((F (k / 512) - 1) * 512 + k % 512) v) used
-  value_written k v way = record { level = level_written F cells used tree.fan tree.level k v way; fan = tree.fan; low = tree.low }
+-- a spare leaf is taken into use, G leads to it from j, and no value changes
+pub leaf_same : (F : ℕ → ℕ) (cells : List ℕ) (used : ℕ) → IsTree F cells used → (G : ℕ → ℕ) (j : ℕ) → F j ≡ 0 → Becomes F G j (used + 1) → (q : ℕ) → under G cells q ≡ under F cells q
+leaf_same F cells used tree G j none b q = elim (cases_eq (q / 512) j) [
+  | inl e ↦
+      let node : G (q / 512) ≡ used + 1 = ap G e ∙ b.here in
+      step_some cells (G (q / 512)) (q % 512) (omega (arith, node))
+      ∙ tree.level.empty ((G (q / 512) - 1) * 512 + q % 512) (omega (arith, node))
+      ∙ sym (step_none cells (F (q / 512)) (q % 512) (ap F e ∙ none))
+  | inr ne ↦ ap (λ n. step cells n (q % 512)) (b.there (q / 512) ne)
+]
 
 -- an item that is there, whatever stands for one that isn't
 pub item_is : (xs : List ℕ) (i d x : ℕ) → i < length xs → x ≡ get_or xs i d → slice_index xs i ≡ x
@@ -125,15 +78,8 @@ same_step cs ds same n j = elim (none_or_some n) [
 ]
 
 -- nothing leads to a leaf
-module _ (F : ℕ → ℕ) (none : (k : ℕ) → F k ≡ 0) where
-  fan_empty : (u : ℕ) → IsFan F u
-  fan_empty u = record { known = λ k. omega (arith, none k); apart = λ j k e lt. absurd (omega (arith, none k, lt)) }
-
-  pub tree_empty : (cells : List ℕ) (u : ℕ) → IsLevel cells u → IsTree F cells u
-  tree_empty cells u level = record { level = level; fan = fan_empty u; low = λ k some. absurd (omega (arith, none k, some)) }
-
-  pub none_in_empty : (cells : List ℕ) (q : ℕ) → under F cells q ≡ 0
-  none_in_empty cells q = none_under F cells q (none (q / 512))
+pub none_in_empty : (F : ℕ → ℕ) → ((k : ℕ) → F k ≡ 0) → (cells : List ℕ) (q : ℕ) → under F cells q ≡ 0
+none_in_empty F none cells q = none_under F cells q (none (q / 512))
 
 -- a value has a leaf
 pub way_to : (F : ℕ → ℕ) (cells : List ℕ) (k : ℕ) → 0 < under F cells k → 0 < F (k / 512)
