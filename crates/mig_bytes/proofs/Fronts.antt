@@ -1,6 +1,6 @@
 -- Judging that passes looks at nothing behind what it takes.
-use Rattle.mig_bytes.proofs.Common.{◌≡◌, ℕ, zero, suc, ◌+◌, List, [], ◌∷◌, ◌++◌, Option, sym, ap, ◌∙◌, append_assoc, Judged, ◌>>=◌, part, said_at, placed, Passes}
-use Rattle.mig_bytes.specs.Judged.{each, steps}
+use Rattle.mig_bytes.proofs.Common.{◌≡◌, ℕ, ◌+◌, List, [], ◌∷◌, ◌++◌, Option, sym, ap, ◌∙◌, append_assoc, Judged, ◌>>=◌, part, said_at, placed, Passes}
+use Rattle.mig_bytes.specs.Judged.{each}
 use Rattle.mig_bytes.proofs.Joins.{both_pass, part_passes, part_whole, same_passes, then_passes, placed_passes}
 use Rattle.mig_bytes.proofs.Said.{said_passes, said_goes}
 
@@ -37,11 +37,6 @@ module _ {C : Type 0} where
         whole = p.whole ∙ ap (λ l. p.front ++ l) q.whole ∙ sym (append_assoc p.front q.front rest);
         again = λ more. ap (λ i. f i >>= k) (append_assoc p.front q.front more) ∙ then_passes (f (p.front ++ (q.front ++ more))) k both.x (q.front ++ more) (Passes y more) (p.again (q.front ++ more)) (q.again more);
       }
-
-  pub front_steps : {X : Type 0} (step : ℕ → X → List ℕ → Judged C X) → ((k : ℕ) (x : X) → TakesFronts (step k x)) → (n k : ℕ) (x : X) → TakesFronts (steps step n k x)
-  unfolding steps
-  front_steps step each zero k x = front_pass x
-  front_steps step each (suc n) k x = front_then (step k x) (λ y. steps step n (k + 1) y.0 y.1) (each k x) (λ y. front_steps step each n (k + 1) y)
 
 pub front_placed : {P C X : Type 0} (place : P) (f : List ℕ → Judged C X) → TakesFronts f → TakesFronts (λ i. placed place (f i))
 front_placed place f first input x rest is =

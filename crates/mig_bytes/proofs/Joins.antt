@@ -51,9 +51,6 @@ module _ {C W X : Type 0} (f : W → List ℕ → Judged C X) where
   joined-cons x xs (Passes es rest) = refl
   joined-cons x xs (Faulty c rest) = refl
 
-  onto : X → List W → List X × List ℕ → Judged C (List X)
-  onto x vs a = joined (x ∷ a.0) (each f vs a.1)
-
   -- at the front, then at the others
   at_front : (x : X) (vs : List W) (j : Judged C (List X)) → ((j >>= λ a. joined a.0 (each f vs a.1)) >>= λ o. Passes (x ∷ o.0) o.1) ≡ ((j >>= λ o. Passes (x ∷ o.0) o.1) >>= λ a. joined a.0 (each f vs a.1))
   at_front x vs (Passes es rest) = sym (joined-cons x es (each f vs rest))
