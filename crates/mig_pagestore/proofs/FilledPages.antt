@@ -6,7 +6,7 @@ use Rattle.mig_pagestore.specs.Filling.{StaysLast, GivesBack, PlacesLast}
 use Rattle.mig_pagestore.specs.FrameView.{cell_mark, is_zeros, place_of_mark, zeros_in, page_of_mark}
 use Rattle.mig_pagestore.proofs.Marks.{zeros_some, place_small, no_zeros_small, zeros_no_place, page_zeros}
 use Rattle.mig_pagestore.proofs.Packing.{get_right}
-use Rattle.mig_pagestore.proofs.Led.{place_in_range, led_put, led_without, same_without, led_over, same_over, here_over, place_is, length_behind, led_behind, here_behind, same_behind}
+use Rattle.mig_pagestore.proofs.Led.{place_in_range, led_put, led_without, led_over, same_over, here_over, place_is, length_behind, led_behind, here_behind, same_behind}
 
 -- the last page is written over, and reads as what was written
 pub last_over : (pages ps : List (List ℕ)) (y w v : List ℕ) (p : ℕ) → ps ≡ pages ++ y ∷ [] → p ≡ length pages → slice_get (set ps p w) p ≡ Some v → (set ps p w ≡ pages ++ w ∷ []) × (w ≡ v)
@@ -67,7 +67,7 @@ module _ (cells : ValueMap) (pfns : List ℕ) (pages : List (List ℕ)) (k : ℕ
     led = λ c cell here. subst (λ (l : List ℕ). IsLed (maps.insert cells k c) l ps) (sym items)
         (subst (IsLed (maps.insert cells k c) pfns) (sym same) (led_put cells k c pfns pages (led_without cells pfns pages led k (sym place)) cell (zeros_no_place (Some c) (ap is_zeros here ∙ is))));
     here = page_zeros ps mark is ∙ ap Some (sym zeros);
-    others = subst (λ (l : List (List ℕ)). SameBut k pages cells l cells) (sym same) (same_without cells pfns pages led k);
+    others = subst (λ (l : List (List ℕ)). SameBut k pages cells l cells) (sym same) (record { same = λ q ne. refl });
     long = let one : zeros_in mark ≡ 1 = ap {B = ℕ} (λ b. cond b 1 0) is in omega (arith, ap length items, one);
   }
 

@@ -62,9 +62,6 @@ module _ (cells : ValueMap) (pfns : List ℕ) (pages : List (List ℕ)) (led : I
       as_many = led.as_many;
     }
 
-    pub same_without : SameBut k pages cells pages cells
-    same_without = record { same = λ q ne. refl }
-
     -- a page is put over one
     module _ (w : List ℕ) (p : ℕ) (at : p ≡ place_of_page cells k) (some : 0 < p) where
       pub led_over : (c : ℕ) → IsCell c → cell_place c ≡ p → IsLed (maps.insert cells k c) pfns (set pages (p - 1) w)

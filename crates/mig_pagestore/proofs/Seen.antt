@@ -1,5 +1,5 @@
 -- What the frames that are seen tell.
-use Rattle.mig_pagestore.proofs.Common.{◌≡◌, ◌≢◌, ℕ, cond, ◌+◌, ◌<◌, ◌≤◌, ◌-◌, List, [], ◌∷◌, ◌++◌, length, length-append, set, Option, Some, None, IsSome, IfNone, is_some, true, false, inl, inr, Bor, refl, sym, ap, ◌∙◌, subst, arith, nat_cmp, option_map, option_and_then, option_copied, get-empty, cases_eq, same_map, nat_cmp-IsAntisymmetric, ValueMap, FrameOf, Framed, IsFrame, IsSized, frame_page, whole_page, is_place, IsCell, frame_at, frames_seen, place_or_0, place_of_page, IsLed, SameBut, repaged, with_page, PageType, type_has_data, pfn_limit, is_inserted, inserted, inserted_other, is_removed, removed, removed_other, cell_type, page_at_place}
+use Rattle.mig_pagestore.proofs.Common.{◌≡◌, ◌≢◌, ℕ, cond, ◌+◌, ◌<◌, ◌≤◌, ◌-◌, List, [], ◌∷◌, ◌++◌, length, length-append, set, Option, Some, None, IsSome, is_some, true, false, inl, inr, Bor, refl, sym, ap, ◌∙◌, subst, arith, nat_cmp, option_map, option_and_then, option_copied, get-empty, cases_eq, same_map, nat_cmp-IsAntisymmetric, ValueMap, FrameOf, Framed, IsFrame, IsSized, frame_page, whole_page, is_place, IsCell, frame_at, frames_seen, place_or_0, place_of_page, IsLed, SameBut, repaged, with_page, PageType, type_has_data, pfn_limit, is_inserted, inserted, inserted_other, is_removed, removed, removed_other, cell_type, page_at_place}
 use Rattle.std.specs.Cmp.{nat_cmp_total}
 use Rattle.std.specs.FinMap as maps
 use Rattle.mig_pagestore.specs.FrameView.{zero_bytes, cell_mark, is_zeros, zeros_in, page_of_mark, mark_or_0, Moved, mark_of_page, CountsZeros}
@@ -9,10 +9,6 @@ use Rattle.mig_pagetypes.specs.declared.page_type.PageType.TheVariants.{Xtab}
 use Rattle.mig_pagestore.proofs.Mapping.{get-mapped, len-mapped, mapped-empty}
 use Rattle.mig_pagestore.proofs.Places.{some_copied, no_mark, page_over, marked_is_some, marked_is_whole}
 use Rattle.mig_pagestore.proofs.Led.{place_in_range, frame_is, same_over, led_behind, at_behind, same_behind}
-
-pub if_none : {A : Type 0} {P : Type 0} (r : Option A) → P → IfNone r P
-if_none None p = p
-if_none (Some x) p = tt
 
 module _ (pages : List (List ℕ)) (cells : ValueMap) where
   get_seen : (q : ℕ) → maps.get (frames_seen pages cells) q ≡ option_map (frame_at pages) (maps.get cells q)

@@ -36,9 +36,6 @@ pub lie_from : (place n slab at : ℕ) → LieInOne place n → IsFound place sl
 lie_from place n slab at lie found =
     let same : lie.slab ≡ slab = found_once place lie.slab lie.at slab at lie.found found in let first = ap places_before same in omega (arith, lie.fits, lie.found.is, found.is, first)
 
-pub lie_fewer : (place n m : ℕ) → LieInOne place n → m ≤ n → LieInOne place m
-lie_fewer place n m lie le = record { slab = lie.slab; at = lie.at; found = lie.found; fits = omega (arith, lie.fits, le) }
-
 pub at_found : (ks : List ℕ) (from to i slab q at p place : ℕ) → AreLaid ks from to → from ≡ places_before i → q ≡ i + slab → place ≡ from + p → place < to → IsFound place q at → IsAt ks slab at p
 unfolding AreLaid IsAt
 at_found [] from to i slab q at p place laid starts which behind lt found = absurd (omega (arith, laid, behind, lt))
