@@ -116,18 +116,18 @@ le_false n m h = grind (arith, common_steps)
 pub lt_false : (n m : ℕ) → m ≤ n → nat_lt n m ≡ false
 lt_false n m h = grind (arith, common_steps)
 
-pub at_zero : (b c : Bool) → (b ≡ true → c ≡ false) → (b && c) ≡ false
-at_zero true c h = h refl
-at_zero false c h = refl
+pub and_false : (b c : Bool) → (b ≡ true → c ≡ false) → (b && c) ≡ false
+and_false true c h = h refl
+and_false false c h = refl
 
-pub when_zero : (b c : Bool) → (b && c) ≡ false → b ≡ true → c ≡ false
-when_zero true c h e = h
-when_zero false c h e = cc
+pub then_false : (b c : Bool) → (b && c) ≡ false → b ≡ true → c ≡ false
+then_false true c h e = h
+then_false false c h e = cc
 
 pub not_first : (bytes : List ℕ) (o : ℕ) → Sound bytes o → is_last bytes o ≡ true → (b : Bool) → nat_eq o 0 ≡ b → b ≡ false
 not_first bytes o s last false is = refl
 not_first bytes o s last true is =
-    let one = when_zero (nat_eq o 0) _ s.r4 is in
+    let one = then_false (nat_eq o 0) _ s.r4 is in
     let none : nat_eq (le16 bytes 0) 0 ≡ true = subst (λ n. is_last bytes n ≡ true) (eqb-true o 0 is) last in
     apart (le16 bytes 0) one none
   where

@@ -10,7 +10,7 @@ use Rattle.std.proofs.lemmas.Bool.{and_right, not-false}
 use Rattle.mig_bytes.specs.Fields.{le16, le32}
 use Rattle.mig_bytes.specs.Walk.Reaches.{here, next}
 use Rattle.mig_headers.specs.Contexts.{ChainTo, cut_at, scan, fault_at, is_last, entry_end, after_entry, ContextEntry, IsEntryHead, AreContextEntries, BeginsWithHeader, IsContext, ContextsAreSpelled}
-use Rattle.mig_headers.proofs.Chains.{Sound, sound_of, fine_of, chain_more, scan_is, scan_found, end_fits, gone, none_of, not_last, not_first, at_zero, when_zero, le_false, lt_false}
+use Rattle.mig_headers.proofs.Chains.{Sound, sound_of, fine_of, chain_more, scan_is, scan_found, end_fits, gone, none_of, not_last, not_first, and_false, then_false, le_false, lt_false}
 
 -- ---- fields of bytes that stand between others
 
@@ -62,7 +62,7 @@ not_zero n m is other = which (nat_eq n 0) refl
     which false some = some
 
 when_equal : (o n m : ℕ) → (o ≡ 0 → n ≡ m) → (nat_eq o 0 && not (nat_eq n m)) ≡ false
-when_equal o n m is = at_zero (nat_eq o 0) (not (nat_eq n m)) (λ z. rw (is (eqb-true o 0 z), same m) refl)
+when_equal o n m is = and_false (nat_eq o 0) (not (nat_eq n m)) (λ z. rw (is (eqb-true o 0 z), same m) refl)
   where
     same : (k : ℕ) → nat_eq k k ≡ true
     same k = grind (arith, common_steps)
@@ -194,8 +194,8 @@ module _ (bytes : List ℕ) (s t : ℕ) (fine : fault_at bytes s ≡ None) (goes
       let was = sound_of bytes s fine in
       let zero : nat_eq s 0 ≡ true = rw start refl in
       subst (λ l. BeginsWithHeader (l ++ entry_at bytes s ∷ [])) (sym none) (
-        ap (le16 bytes) start ∙ equal (le16 bytes 0) 1 (when_zero (nat_eq s 0) _ was.r4 zero),
-        length-take-le (le32 bytes (s + 4)) (drop (s + 8) bytes) (omega (arith, length-drop (s + 8) bytes, room.1, is)) ∙ ap (λ n. le32 bytes (n + 4)) start ∙ equal (le32 bytes 4) 24 (when_zero (nat_eq s 0) _ was.r5 zero),
+        ap (le16 bytes) start ∙ equal (le16 bytes 0) 1 (then_false (nat_eq s 0) _ was.r4 zero),
+        length-take-le (le32 bytes (s + 4)) (drop (s + 8) bytes) (omega (arith, length-drop (s + 8) bytes, room.1, is)) ∙ ap (λ n. le32 bytes (n + 4)) start ∙ equal (le32 bytes 4) 24 (then_false (nat_eq s 0) _ was.r5 zero),
       )
     where
       equal : (n m : ℕ) → not (nat_eq n m) ≡ false → n ≡ m

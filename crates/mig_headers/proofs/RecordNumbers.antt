@@ -1,14 +1,22 @@
 -- The numbers of the record types.
-use Rattle.std.proofs.Common.{◌≡◌, ℕ, zero, suc, ◌+◌, List, [], ◌∷◌, Bool, true, nat_eq, Some, refl, sym, ap, ◌∙◌, arith, eqb-true}
+use Rattle.std.proofs.Common.{◌≡◌, ℕ, zero, suc, ◌+◌, List, [], ◌∷◌, Bool, true, false, nat_eq, Some, refl, sym, ap, ◌∙◌, arith, eqb-true}
 use Rattle.std.specs.Prelude.{slice_get, ◌&&◌}
 use Rattle.std.proofs.lemmas.Bool.{and_parts}
 use Rattle.mig_headers.specs.declared.record_type.RecordType.{RecordType}
 use Rattle.mig_headers.specs.declared.record_type.RecordType.TheVariants.{End}
-use Rattle.mig_headers.specs.RecordTypes.{type_number, type_of_number, record_types, NumbersAreInverse}
+use Rattle.mig_headers.specs.RecordTypes.{type_number, type_of_number, is_optional, record_types, NumbersAreInverse}
 
 type_of : (kind : RecordType) → type_of_number (type_number kind) ≡ Some kind
 type_of End = refl
 type_of _ = refl
+
+-- a type with another's number is the other
+pub same_number : (this other : RecordType) → type_number this ≡ type_number other → this ≡ other
+same_number this other is = let e : Some this ≡ Some other = sym (type_of this) ∙ ap type_of_number is ∙ type_of other in grind arith
+
+pub mandatory : (this : RecordType) → is_optional (type_number this) ≡ false
+mandatory End = refl
+mandatory _ = refl
 
 -- the types stand in the order of their numbers, from k on
 abbrev are_numbered : ℕ → List RecordType → Bool

@@ -10,7 +10,8 @@ use Rattle.mig_headers.specs.declared.record_type.RecordType.{RecordType}
 use Rattle.mig_headers.specs.declared.record_type.RecordType.TheVariants.{PageData, X86PvInfo, X86PvP2mFrames, Verify, StaticDataEnd}
 use Rattle.mig_headers.proofs.FirstFaults.{rows_fine, no_fault}
 use Rattle.mig_headers.specs.RecordTypes.{record_types, record_row_of, pv, type_number, type_of_number, is_optional}
-use Rattle.mig_headers.proofs.RecordNumbers.{numbers_are_inverse}
+use Rattle.mig_headers.proofs.RecordNumbers.{numbers_are_inverse, same_number}
+use Rattle.mig_headers.proofs.Chains.{and_false, then_false}
 use Rattle.mig_order.specs.Order.{Earlier, earlier_in, is_of, some_earlier, static_records, content_records, vcpu_records, causes, fault_of_mandatory, fault_after, fault_of_type, KeepsOrder, IsInOrder, optional, ordered}
 use Rattle.mig_order.specs.Gate.{FaultlessIsInOrder}
 
@@ -18,27 +19,13 @@ use Rattle.mig_order.specs.Gate.{FaultlessIsInOrder}
 abbrev AllClear : List (Bool × Cause) → Type 0
 AllClear rows = AllByRecursion (λ row. row.0 ≡ false) rows
 
-then_false : (a b : Bool) → (a && b) ≡ false → a ≡ true → b ≡ false
-then_false true b is holds = is
-then_false false b is holds = absurd (cc)
-
-and_false : (a b : Bool) → (a ≡ true → b ≡ false) → (a && b) ≡ false
-and_false true b all = all refl
-and_false false b all = refl
-
--- a type with another's number is the other
-same_number : (this other : RecordType) → type_number this ≡ type_number other → this ≡ other
-same_number this other is =
-    let e : Some this ≡ Some other = sym (numbers_are_inverse.type_of this) ∙ ap type_of_number is ∙ numbers_are_inverse.type_of other in
-    grind arith
-
-same_type : (this other : RecordType) → is_of (other ∷ []) this ≡ true → this ≡ other
+pub same_type : (this other : RecordType) → is_of (other ∷ []) this ≡ true → this ≡ other
 same_type this other is = elim (or_cases (type_number this == type_number other) false is) [
   | inl e ↦ same_number this other (eqb-true (type_number this) (type_number other) e)
   | inr e ↦ absurd (cc)
 ]
 
-of_pv : (kind : Kind) → pv kind ≡ true → kind ≡ Pv
+pub of_pv : (kind : Kind) → pv kind ≡ true → kind ≡ Pv
 of_pv Pv is = refl
 of_pv Hvm is = absurd (cc)
 
