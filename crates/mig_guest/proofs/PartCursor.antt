@@ -1,5 +1,5 @@
 -- Walks over the entries of a finite map in the order of their keys, and over the parts of one code.
-use Rattle.mig_guest.proofs.Common.{◌≡◌, ℕ, ◌≤◌, List, [], ◌∷◌, map, filter, Bool, true, false, cond, not, Option, Some, None, IfSome, IfNone, refl, sym, ap, subst, ◌∙◌, arith, T, ◌&&◌, ◌==◌, and_right, eqb-true, tied_itself, common_steps, All-head, filter_agree, filter_passes, All, IsTotalOrder, nat_cmp, is_lt, is_le, ordering_then, Ordering, Less, Equal, Greater, keys_of, FinMap, is_sorted, IsAntisymmetric, below_all, PartKey, part_cmp, Part, parts_of, parts_after, parts_behind, Included, Excluded, Unbounded, is_from_start, entries_between}
+use Rattle.mig_guest.proofs.Common.{◌≡◌, ℕ, ◌≤◌, List, [], ◌∷◌, map, filter, Bool, true, false, cond, not, Option, Some, None, IfSome, IfNone, refl, sym, ap, subst, ◌∙◌, arith, T, ◌&&◌, ◌==◌, and_right, eqb-true, tied_itself, common_steps, All-head, filter_agree, filter_passes, All, IsTotalOrder, nat_cmp, is_lt, IsAbove, is_le, ordering_then, Ordering, Less, Equal, Greater, keys_of, FinMap, is_sorted, IsAntisymmetric, below_all, PartKey, part_cmp, Part, parts_of, parts_after, parts_behind, Included, Excluded, Unbounded, is_from_start, entries_between}
 use Rattle.std.proofs.Math.Bool.{and_comm}
 use Rattle.std.proofs.lemmas.Map.Keys.{le_from_is_le}
 use Rattle.std.specs.declared.ops.Bound.{Bound}
@@ -48,6 +48,19 @@ pub less : (r : Ordering) → is_lt r ≡ true → r ≡ Less
 less Less t = refl
 less Equal t = cc
 less Greater t = cc
+
+-- the key is still ahead
+abbrev pub is_above : Option PartKey → PartKey → Bool
+is_above None k = true
+is_above (Some a) k = is_lt (part_cmp a k)
+
+pub above : (after : Option PartKey) (k : PartKey) → IsAbove after k → is_above after k ≡ true
+above None k h = refl
+above (Some a) k h = ap is_lt h
+
+pub is_key_above : (after : Option PartKey) (k : PartKey) → is_above after k ≡ true → IsAbove after k
+is_key_above None k h = tt
+is_key_above (Some a) k h = less _ h
 
 module _ {K : Type 0} {R : K → K → Ordering} (o : IsTotalOrder R) where
   then_less : (k x y : K) (r : Ordering) → R k x ≡ r → is_le r ≡ true → R x y ≡ Less → R k y ≡ Less

@@ -1,5 +1,5 @@
 -- Each row of the table of parts has a number of its own, and each part the row of its code.
-use Rattle.mig_guest.proofs.Common.{◌≡◌, ℕ, ◌<◌, ◌^◌, true, false, cond, List, [], ◌∷◌, length, Some, None, refl, sym, ap, subst, ◌∙◌, ◌==◌, ◌&&◌, eqb-true, and_parts, PartKey, FrameOf, IsFrame, is_hvm_type, is_type_of, IsPart, IsContent, IsRawContent, IsInside, IsGuestFrame, Hvm, Kind, PartCode, row_of, code_number, part_codes, code_of_number, level_of, PageType, Notab, Broken, Xalloc, Entry, IsHostPart, IsRowPart, EachEntry, IsWithin}
+use Rattle.mig_guest.proofs.Common.{◌≡◌, ℕ, ◌<◌, ◌^◌, true, false, cond, List, [], ◌∷◌, length, Some, None, refl, sym, ap, subst, ◌∙◌, ◌==◌, ◌&&◌, eqb-true, and_parts, PartKey, FrameOf, IsFrame, is_hvm_type, is_type_of, IsPart, IsContent, IsRawContent, IsInside, IsGuestFrame, Hvm, Kind, PartCode, row_of, code_number, part_codes, code_of_number, level_of, PageType, Notab, Broken, Xalloc, Entry, IsHostPart, IsRowPart, EachEntry, IsWithin, rules}
 use Rattle.std.specs.Prelude.{find}
 use Rattle.mig_guest.specs.declared.part_code.PartCode.TheVariants.{P2mFrames, EmulatorPairs}
 use Rattle.mig_pagetypes.specs.Limits.{pfn_limit}
@@ -58,16 +58,7 @@ same_len _ v w n of_hvm = refl
 
 -- a part with other bytes, of which the same or something else is asked
 pub with_bytes : {From To : PartCode → List ℕ → Type 0} {kind : Kind} {width : ℕ} (other : ℕ) {key : PartKey} {bytes : List ℕ} (changed : List ℕ) (is : IsRowPart From kind width key bytes) → (row_of is.code).allows other (length changed) ≡ true → To is.code changed → IsRowPart To kind other key changed
-with_bytes other changed is len content = record {
-  code = is.code;
-  number = is.number;
-  of_kind = is.of_kind;
-  keys = is.keys;
-  small1 = is.small1;
-  small2 = is.small2;
-  len = len;
-  content = content;
-}
+with_bytes other changed is len content = search rules
 
 -- the same, where its code is known
 pub changed_part : {From To : PartCode → List ℕ → Type 0} {kind : Kind} {width : ℕ} (other : ℕ) {key : PartKey} {bytes : List ℕ} (code : PartCode) (changed : List ℕ) → key.code ≡ code_number code → (row_of code).allows other (length changed) ≡ true → IsRowPart From kind width key bytes → To code changed → IsRowPart To kind other key changed

@@ -1,16 +1,11 @@
 -- How many cells have a page of zeros, as cells change.
-use Rattle.mig_pagestore.proofs.Common.{◌≡◌, ◌≢◌, ℕ, ◌+◌, ◌-◌, ◌<◌, ◌≤◌, Bool, true, false, cond, refl, sym, ap, ◌∙◌, inl, inr, arith, nat_cmp, eq_by_cmp, get-empty, cases_eq, eq-eqb, ne_eqb, ValueMap}
-use Rattle.std.specs.Cmp.{nat_cmp_total, unsigned_tied}
+use Rattle.mig_pagestore.proofs.Common.{◌≡◌, ◌≢◌, ℕ, ◌+◌, ◌-◌, ◌<◌, ◌≤◌, Bool, true, false, cond, refl, sym, ap, ◌∙◌, inl, inr, arith, nat_cmp, get-empty, cases_eq, ValueMap}
+use Rattle.std.specs.Cmp.{nat_cmp_total}
 use Rattle.std.specs.FinMap as maps
 use Rattle.std.specs.FinSet as sets
 use Rattle.mig_pagestore.specs.FrameView.{is_zeros, zeros_in, mark_or_0, mark_of_page, CountsZeros}
 use Rattle.mig_pagestore.proofs.Marks.{small_not_zeros}
-
-ties : (q k : ℕ) → q ≡ k → eq_by_cmp nat_cmp q k ≡ true
-ties q k e = unsigned_tied q k ∙ eq-eqb q k e
-
-differs : (q k : ℕ) → q ≢ k → eq_by_cmp nat_cmp q k ≡ false
-differs q k ne = unsigned_tied q k ∙ ne_eqb q k ne
+use Rattle.mig_pagestore_index.proofs.Gathered.{ties, differs}
 
 some_in : (s : sets.FinSet nat_cmp) (k : ℕ) → sets.contains s k ≡ true → 0 < sets.len s
 some_in s k there = elim (cases_eq (sets.len s) 0) [

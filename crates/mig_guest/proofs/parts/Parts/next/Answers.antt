@@ -1,25 +1,13 @@
-use Rattle.mig_guest.proofs.Common.{◌≡◌, Bool, true, List, filter, Option, Some, None, is_some, refl, ap, ◌∙◌, is_lt, PartKey, part_cmp, IsAbove, Part, parts_behind}
+use Rattle.mig_guest.proofs.Common.{◌≡◌, List, filter, Option, Some, None, is_some, refl, ap, ◌∙◌, PartKey, Part, parts_behind}
 use Rattle.std.specs.FinMap as maps
 use Rattle.mig_guest.proofs.PartOrder.{part_total, part_exact}
-use Rattle.mig_guest.proofs.PartCursor.{less, kept_all}
+use Rattle.mig_guest.proofs.PartCursor.{is_above, above, is_key_above, kept_all}
 use Rattle.mig_guest.proofs.Found.{none_passes, first_passes}
 use Rattle.mig_guest.proofs.parts.Parts.next.Goals as goal
-
-abbrev is_above : Option PartKey → PartKey → Bool
-is_above None k = true
-is_above (Some a) k = is_lt (part_cmp a k)
 
 behind_are : (after : Option PartKey) (es : List Part) → filter (λ e. is_above after e.0) es ≡ parts_behind after es
 behind_are None es = kept_all es
 behind_are (Some k) es = refl
-
-above : (after : Option PartKey) (k : PartKey) → IsAbove after k → is_above after k ≡ true
-above None k h = refl
-above (Some a) k h = ap is_lt h
-
-is_key_above : (after : Option PartKey) (k : PartKey) → is_above after k ≡ true → IsAbove after k
-is_key_above None k h = tt
-is_key_above (Some a) k h = less _ h
 
 pub returns-in-Some : goal.returns-in-Some
 returns-in-Some c =
