@@ -100,9 +100,10 @@ fn take_words<S: Source>(
 }
 
 /// Takes the words of a batch and their pages, and sets each frame as its page comes: what is kept of it.
-pub(crate) fn take_batch<S: Source, F: KeepsFrames>(
+pub(crate) fn take_batch<S: Source, F: KeepsFrames<S>>(
     alloc: Global,
     src: &mut S,
+    keeper: &mut F,
     count: u32,
     guest: &mut Guest,
 ) -> Result<(), Stop<LegacyCause>>
@@ -117,7 +118,7 @@ pub(crate) fn take_batch<S: Source, F: KeepsFrames>(
     let Ok(list) = page_data_words(alloc, &words) else {
         return Err(Stop::Memory);
     };
-    match take_entries::<S, F>(src, &list, guest) {
+    match take_entries(src, keeper, &list, guest) {
         Ok(()) => Ok(()),
         Err(stop) => Err(truncated(stop)),
     }

@@ -79,7 +79,7 @@ pub(crate) struct ChunksSeen {
 
 impl ChunksSeen {
     /// Before the first chunk.
-    fn new<F: KeepsFrames>(alloc: Global) -> ChunksSeen
+    fn new<S: Source, F: KeepsFrames<S>>(alloc: Global) -> ChunksSeen
         ensures seen { IsLegacySeen F.kept result [] }
         ensures begun { IsLegacyBegun result }
     {
@@ -136,10 +136,11 @@ impl ChunksSeen {
 
     /// Takes the body of a chunk that is this, and keeps what it says.
     #[tactic(auto, unfolding(mig_bytes_form::specs::Form::judged_as))]
-    fn take_content<S: Source, F: KeepsFrames>(
+    fn take_content<S: Source, F: KeepsFrames<S>>(
         &mut self,
         alloc: Global,
         src: &mut S,
+        keeper: &mut F,
         kind: ChunkKind,
     ) -> Result<(), Stop<LegacyCause>>
         requires begun { IsLegacyBegun self.old }
@@ -151,7 +152,7 @@ impl ChunksSeen {
         ensures faults { RisesOnReadFault (S.faults src.old) (S.faults src.new) result }
     {
         match kind {
-            ChunkKind::Batch(count) => take_batch::<S, F>(alloc, src, count, &mut self.guest),
+            ChunkKind::Batch(count) => take_batch(alloc, src, keeper, count, &mut self.guest),
             ChunkKind::VcpuMap => take_vcpus(src),
             ChunkKind::Tsc => take_clock(alloc, src, &mut self.guest),
             ChunkKind::Toolstack => take_toolstack(alloc, src, &mut self.emulators),
@@ -178,10 +179,11 @@ impl ChunksSeen {
     }
 
     /// Takes the next chunk, and keeps what it says. Says whether it is the last.
-    fn take_chunk<S: Source, F: KeepsFrames>(
+    fn take_chunk<S: Source, F: KeepsFrames<S>>(
         &mut self,
         alloc: Global,
         src: &mut S,
+        keeper: &mut F,
     ) -> Result<bool, Stop<LegacyCause>>
         requires begun { IsLegacyBegun self.old }
         ensures read { (chunks : List LegacyChunk) → IsLegacySeen F.kept self.old chunks →
@@ -193,7 +195,7 @@ impl ChunksSeen {
     {
         F::goes_on();
         let kind = self.take_kind(src)?;
-        self.take_content::<S, F>(alloc, src, kind)?;
+        self.take_content(alloc, src, keeper, kind)?;
         self.count(kind);
         Ok(ends_chunks(kind))
     }
@@ -217,19 +219,20 @@ impl ChunksSeen {
 }
 
 /// Takes chunks up to the last.
-fn take_chunks<S: Source, F: KeepsFrames>(
+fn take_chunks<S: Source, F: KeepsFrames<S>>(
     alloc: Global,
     src: &mut S,
+    keeper: &mut F,
 ) -> Result<ChunksSeen, Stop<(LegacyPlace, LegacyCause)>>
     ensures read { AgreesWithJudging (IsLegacySeen F.kept) (S.left src.old) (S.left src.new) chunks_at result }
     ensures begun { IfOk result (λ seen. IsLegacyBegun seen) }
     ensures few { IfOk result (λ seen. maps.len seen.guest.frames ≤ most_frames) }
     ensures faults { RisesOnReadFault (S.faults src.old) (S.faults src.new) result }
 {
-    let mut seen = ChunksSeen::new::<F>(alloc);
+    let mut seen = ChunksSeen::new::<S, F>(alloc);
     'chunks: loop {
         let number = seen.chunks;
-        match seen.take_chunk::<S, F>(alloc, src) {
+        match seen.take_chunk(alloc, src, keeper) {
             Ok(true) => return Ok(seen),
             Ok(false) => {}
             Err(stop) => return Err(stop.at(LegacyPlace::Chunk(u64::from(number)))),
@@ -238,9 +241,10 @@ fn take_chunks<S: Source, F: KeepsFrames>(
 }
 
 /// Takes a whole stream, part after part.
-fn take_parts<S: Source, F: KeepsFrames>(
+fn take_parts<S: Source, F: KeepsFrames<S>>(
     alloc: Global,
     src: &mut S,
+    keeper: &mut F,
 ) -> Result<ChunksSeen, Stop<(LegacyPlace, LegacyCause)>>
     ensures read { AgreesWithJudging (IsLegacyTaken F.kept) (S.left src.old) (S.left src.new) legacy_at result }
     ensures plain { IfOk result (λ seen. IsStreamedBare seen.guest) }
@@ -251,7 +255,7 @@ fn take_parts<S: Source, F: KeepsFrames>(
     if let Err(stop) = take_start(src) {
         return Err(stop.at(LegacyPlace::Start));
     }
-    let mut seen = take_chunks::<S, F>(alloc, src)?;
+    let mut seen = take_chunks(alloc, src, keeper)?;
     if let Err(stop) = take_tail(alloc, src, &mut seen.guest) {
         return Err(stop.at(LegacyPlace::Tail));
     }
@@ -270,7 +274,7 @@ pub fn read_legacy<S: Source>(alloc: Global, src: &mut S) -> Result<Guest, Legac
     ensures streamed { IfOk result (λ guest. IsStreamed guest) }
     ensures faults { RisesOnReadFault (S.faults src.old) (S.faults src.new) (or_stop result) }
 {
-    match take_parts::<S, AllFrames>(alloc, src) {
+    match take_parts(alloc, src, &mut AllFrames) {
         Ok(seen) => match seen.finish() {
             Ok(guest) => Ok(guest),
             Err(Memory) => Err(Answer::Memory),
@@ -284,7 +288,7 @@ pub fn judge_legacy<S: Source>(alloc: Global, src: &mut S) -> Result<u64, Legacy
     ensures read { JudgesLegacy (S.left src.old) (S.left src.new) result }
     ensures faults { RisesOnReadFault (S.faults src.old) (S.faults src.new) (or_stop result) }
 {
-    match take_parts::<S, Outlines>(alloc, src) {
+    match take_parts(alloc, src, &mut Outlines) {
         Ok(seen) => Ok(seen.guest.frames()),
         Err(stop) => Err(answer_for(stop)),
     }

@@ -51,7 +51,7 @@ pub fn judge_image<S: Source>(alloc: Global, src: &mut S) -> Result<Tally, Strea
     ensures read { JudgesImage (S.left src.old) (S.left src.new) result }
     ensures faults { RisesOnReadFault (S.faults src.old) (S.faults src.new) (or_stop result) }
 {
-    tally_of(take_image::<S, Outlines>(alloc, src))
+    tally_of(take_image(alloc, src, &mut Outlines))
 }
 
 /// Judges an image whose marker was taken before and found right; the same else.
@@ -59,5 +59,5 @@ pub fn judge_image_rest<S: Source>(alloc: Global, src: &mut S) -> Result<Tally, 
     ensures read { JudgesRest (S.left src.old) (S.left src.new) result }
     ensures faults { RisesOnReadFault (S.faults src.old) (S.faults src.new) (or_stop result) }
 {
-    tally_of(take_image_rest::<S, Outlines>(alloc, src))
+    tally_of(take_image_rest(alloc, src, &mut Outlines))
 }

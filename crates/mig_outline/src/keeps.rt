@@ -63,17 +63,21 @@ impl TypedFrames for SeenFrames<'_> {
     }
 }
 
-/// Of a guest its outline is kept: the pages of its tables, and no others.
-pub enum Outlines {}
+/// Of a guest its outline is kept: the pages of its tables, and no others. Nothing more is noted of its frames.
+#[derive(Drop)]
+pub struct Outlines;
 
-impl KeepsFrames for Outlines {
+impl<S: Source> KeepsFrames<S> for Outlines {
     ghost kept = { outline_frames };
 
     ghost put = { put_outline_entry };
 
+    ghost notes = { λ _ _ _ _. ⊤ };
+
     fn goes_on() {}
 
-    fn take_entry<S: Source>(
+    fn take_entry(
+        &mut self,
         src: &mut S,
         place: u32,
         word: u64,
@@ -81,7 +85,7 @@ impl KeepsFrames for Outlines {
     ) -> Result<(), Stop<Cause>> {
         let kind = type_in_guest(guest.kind(), type_in(word));
         if kind.table_level().is_some() {
-            return AllFrames::take_entry(src, place, word, guest);
+            return AllFrames.take_entry(src, place, word, guest);
         }
         pass_page(src, word)?;
         match guest.set_frame(pfn_in(word), outlined(kind), None) {

@@ -19,7 +19,7 @@ pub use Rattle.mig_guest.specs.Tables.{IsWithin, entry}
 pub use Rattle.mig_guest.specs.declared.part_code.PartCode.{PartCode}
 pub use Rattle.mig_headers.specs.declared.kind.Kind.{Kind}
 pub use Rattle.mig_headers.specs.declared.record_type.RecordType.{RecordType}
-pub use Rattle.mig_restore_form.specs.Judging.{Opening, before, body_at, code_of_type, entry_at, fault_of_level, fault_of_list, fault_of_page, head_at, lists_of, next_at, opening_of, record_at, type_in_word, with_places}
+pub use Rattle.mig_restore_form.specs.Judging.{Before, Opening, before, body_at, code_of_type, entry_at, fault_of_head, fault_of_level, fault_of_list, fault_of_page, head_at, list_at, lists_of, next_at, opening_of, pages_at, record_at, type_in_word, typed_at, with_places}
 pub use Rattle.mig_restore_form.specs.Mean.{GrewByRecord, IsBegun, agrees, checked_in, checked_of, differing, empty_guest, entries_in, is_same_frame, put_content, put_content_by, put_entries_by, put_entry, put_record, some_frame, type_in_guest}
 pub use Rattle.mig_restore_form.specs.Record.{Content, FrameEntry, StreamRecord, is_ended, is_verified, placed_content, types_of}
 pub use Rattle.mig_restore_form.specs.Record.Content.{Checks, Frames, Lists, Nothing, Sets}
@@ -34,9 +34,9 @@ pub use Rattle.mig_pagetypes.specs.declared.page_type.PageType.{PageType}
 pub use Rattle.mig_pvtables.specs.Faults.{fault_of_guest}
 pub use Rattle.mig_records.specs.Faults.{fault_of_count}
 pub use Rattle.mig_restore.specs.Compared.{IsPut, IsWithinRecords, differs_behind, differs_with}
-pub use Rattle.mig_restore.specs.Kept.{EntryStep, kept_guest}
+pub use Rattle.mig_restore.specs.Kept.{EntryStep, NotesImage, NotesOn, kept_guest, put_frames}
 pub use Rattle.mig_restore.specs.Reads.{IsReading, IsTaken}
-pub use Rattle.std.proofs.Common.{Bool, Err, List, None, Ok, Option, Result, Some, [], ap, arith, cond, drop, false, get_or, inl, inr, is_some, length, nat_eq, not, refl, rules, subst, sym, take, true, ℕ, ◌++◌, ◌+◌, ◌-◌, ◌<◌, ◌^◌, ◌∙◌, ◌∷◌, ◌≡◌, ◌≢◌, ◌≤◌, ◌⊎◌}
+pub use Rattle.std.proofs.Common.{Bool, Err, List, None, Ok, Option, Result, Some, [], ap, append_assoc, arith, cond, drop, false, get_or, inl, inr, is_some, length, nat_eq, not, refl, rules, subst, sym, take, true, ℕ, ◌*◌, ◌++◌, ◌+◌, ◌-◌, ◌<◌, ◌^◌, ◌∙◌, ◌∷◌, ◌≡◌, ◌≢◌, ◌≤◌, ◌⊎◌}
 pub use Rattle.std.proofs.lemmas.Bool.{eq-eqb, ne_eqb}
 pub use Rattle.std.proofs.lemmas.List.{length-map, map-append, take-append-drop, take_all, take_more}
 pub use Rattle.std.proofs.lemmas.Option.{none-some, same_Some}

@@ -6,3 +6,5 @@ pub mod Behind
 pub mod Begun
 pub mod Compared
 pub mod Kept
+pub mod Fronts
+pub mod Noted

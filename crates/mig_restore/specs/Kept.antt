@@ -1,7 +1,9 @@
 -- What is kept of the frames that records set: all of them, or less.
 use Rattle.std.specs.Prelude.{◌≡◌, ℕ, List, Option, Some, None, if◌then◌else◌}
+use Rattle.std.specs.FinMap as maps
 use Rattle.mig_pvtables.specs.Faults.{fault_of_guest}
-use Rattle.mig_restore.specs.Common.{Kind, FrameMap, FrameEntry, GuestOf, StreamRecord, types_of, is_verified, checked_of, differing, sent}
+use Rattle.mig_restore.specs.Common.{Kind, FrameMap, FrameEntry, GuestOf, StreamRecord, Content, types_of, is_verified, checked_of, differing, put_entries, sent, ImageOf}
+use Rattle.mig_restore_form.specs.Record.Content.{Frames}
 
 -- what an entry makes of frames that are kept
 abbrev pub EntryStep : Type 0
@@ -18,3 +20,18 @@ IsOfFaultless kept h = (g : GuestOf) → h ≡ kept_guest kept g → fault_of_gu
 -- how many entries behind a VERIFY differ from what is kept of the frames that were sent; none where no record is one
 unfoldable pub differs_from : (FrameMap → FrameMap) → Kind → List StreamRecord → Option ℕ
 differs_from kept kind records = if is_verified (types_of records) then Some (differing kind (kept (sent kind records).frames) (checked_of records)) else None
+
+-- ---- what is noted of the frames of an input, where so much of it is left
+
+-- a value that notes frames goes on: of those that were noted before, what this makes of them is noted then
+abbrev pub NotesOn : {K : Type 0} → (K → List ℕ → Option (List ℕ) → FrameMap → Type 0) → K → K → Option (List ℕ) → Option (List ℕ) → (FrameMap → FrameMap) → Type 0
+NotesOn notes old new before after makes = (all : List ℕ) (frames : FrameMap) → notes old all before frames → notes new all after (makes frames)
+
+-- where no frames were noted before an image, those that its records send are noted behind it
+abbrev pub NotesImage : {K : Type 0} → (K → List ℕ → Option (List ℕ) → FrameMap → Type 0) → K → K → Option (List ℕ) → Option (List ℕ) → ImageOf → Type 0
+NotesImage notes old new before after image = (all : List ℕ) → notes old all before maps.empty → notes new all after (sent image.opening.kind image.records).frames
+
+-- what a content makes of frames
+abbrev pub put_frames : Kind → Content → FrameMap → FrameMap
+put_frames kind (Frames es) frames = put_entries kind frames es
+put_frames kind _ frames = frames

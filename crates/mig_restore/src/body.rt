@@ -1,13 +1,13 @@
 ghost use Rattle.std.specs.Prelude.{◌≡◌, ◌≤◌, ◌^◌, ◌*◌, IfOk, OnOk, OnErr, IsErrOf, length, vec_len, true, false, None, Some};
 ghost use Rattle.std.specs.List.{All, AllByRecursion};
-ghost use Rattle.mig_restore.specs.Common.{RisesOnReadFault, AgreesWithJudging, each, plain_at, Truncated, Memory, record_row_of, type_of_number, most_body, RecordType, fault_of_length, put_entries_by, put_content_by, GrewByRecord, sets_at, info_at, p2m_at, words_at, with_places, entry_at, list_at, pages_at, typed_at, body_at};
+ghost use Rattle.mig_restore.specs.Common.{RisesOnReadFault, AgreesWithJudging, each, plain_at, Truncated, Memory, record_row_of, type_of_number, most_body, RecordType, fault_of_length, put_entries, put_entries_by, put_content_by, GrewByRecord, sets_at, info_at, p2m_at, words_at, with_places, entry_at, list_at, pages_at, typed_at, body_at};
 ghost use Rattle.mig_guest.specs.PartCodes.{row_of, code_number};
 ghost use Rattle.mig_guest.specs.Formed.{is_emulator_code};
 ghost use Rattle.mig_records.specs.Layouts.{IsSmallKey};
 ghost use Rattle.mig_records.specs.Shapes.{fault_of_body, parts_of_body, set_parts, HasBodyLength};
 ghost use Rattle.mig_headers.specs.declared.kind.Kind.TheVariants.{Pv};
 ghost use Rattle.mig_restore.specs.Begun.{AreEntriesBegun};
-ghost use Rattle.mig_restore.specs.Kept.{EntryStep};
+ghost use Rattle.mig_restore.specs.Kept.{EntryStep, NotesOn, put_frames};
 ghost use Rattle.mig_restore_form.specs.Record.Content.{Nothing};
 ghost use Rattle.mig_restore_form.specs.Spelled.{IsGoodWord};
 
@@ -146,10 +146,11 @@ fn take_words<S: Source>(alloc: Global, src: &mut S, count: u32) -> Result<Vec<u
 }
 
 /// Takes the pages of a PAGE_DATA whose words these are, one for each word of a type with data, and sets the frame of each
-/// word as its page comes: what is kept of it. A table of a PV guest is judged before it is set. Behind an error the frames
-/// of the first words are set, and all else is as it was.
-pub fn take_entries<S: Source, F: KeepsFrames>(
+/// word as its page comes: what is kept of it, and what the keeper notes. A table of a PV guest is judged before it is set.
+/// Behind an error the frames of the first words are set, and all else of the guest is as it was.
+pub fn take_entries<S: Source, F: KeepsFrames<S>>(
     src: &mut S,
+    keeper: &mut F,
     list: &[u64],
     guest: &mut Guest,
 ) -> Result<(), Stop<Cause>>
@@ -160,9 +161,11 @@ pub fn take_entries<S: Source, F: KeepsFrames>(
     ensures grown { OnOk result (GrewByRecord guest.old guest.new) }
     ensures faults { RisesOnReadFault (S.faults src.old) (S.faults src.new) result }
     ensures err { OnErr result (AreEntriesBegun F.put guest.old guest.new list.now) }
+    ensures noted { AgreesWithJudging (λ _ es. NotesOn F.notes keeper.old keeper.new (S.left src.old) (S.left src.new) (λ frames. put_entries guest.old.kind frames es))
+        (S.left src.old) (S.left src.new) (each (entry_at guest.old.kind guest.old.top) (with_places 0 list.now)) result }
 {
     for place in 0..list.len() {
-        F::take_entry(src, place as u32, list[place], guest)?;
+        keeper.take_entry(src, place as u32, list[place], guest)?;
     }
     Ok(())
 }
@@ -195,9 +198,10 @@ pub fn take_list<S: Source>(
 }
 
 /// Takes the body of a PAGE_DATA record.
-fn take_pages<S: Source, F: KeepsFrames>(
+fn take_pages<S: Source, F: KeepsFrames<S>>(
     alloc: Global,
     src: &mut S,
+    keeper: &mut F,
     len: u32,
     guest: &mut Guest,
 ) -> Result<(), Stop<Cause>>
@@ -205,17 +209,20 @@ fn take_pages<S: Source, F: KeepsFrames>(
     ensures read { AgreesWithJudging (λ _ c. guest.new ≡ put_content_by F.put guest.old c) (S.left src.old) (S.left src.new) (pages_at guest.old.kind guest.old.top len) result }
     ensures grown { OnOk result (GrewByRecord guest.old guest.new) }
     ensures faults { RisesOnReadFault (S.faults src.old) (S.faults src.new) result }
+    ensures noted { AgreesWithJudging (λ _ c. NotesOn F.notes keeper.old keeper.new (S.left src.old) (S.left src.new) (put_frames guest.old.kind c)) (S.left src.old) (S.left src.new) (pages_at guest.old.kind guest.old.top len) result }
 {
+    F::goes_on();
     let list = take_list(alloc, src, len, guest.kind(), guest.top())?;
-    take_entries::<S, F>(src, &list, guest)
+    take_entries(src, keeper, &list, guest)
 }
 
 // ---- records
 
 /// Takes the body of a record of a known type.
-fn take_typed<S: Source, F: KeepsFrames>(
+fn take_typed<S: Source, F: KeepsFrames<S>>(
     alloc: Global,
     src: &mut S,
+    keeper: &mut F,
     this: RecordType,
     len: u32,
     guest: &mut Guest,
@@ -226,9 +233,11 @@ fn take_typed<S: Source, F: KeepsFrames>(
     ensures read { AgreesWithJudging (λ _ c. guest.new ≡ put_content_by F.put guest.old c) (S.left src.old) (S.left src.new) (typed_at guest.old.kind guest.old.top (Some this) len) result }
     ensures grown { OnOk result (GrewByRecord guest.old guest.new) }
     ensures faults { RisesOnReadFault (S.faults src.old) (S.faults src.new) result }
+    ensures noted { AgreesWithJudging (λ _ c. NotesOn F.notes keeper.old keeper.new (S.left src.old) (S.left src.new) (put_frames guest.old.kind c)) (S.left src.old) (S.left src.new) (typed_at guest.old.kind guest.old.top (Some this) len) result }
 {
+    F::goes_on();
     match this {
-        RecordType::PageData => take_pages::<S, F>(alloc, src, len, guest),
+        RecordType::PageData => take_pages(alloc, src, keeper, len, guest),
         RecordType::X86PvInfo => take_info(src, len),
         RecordType::X86PvP2mFrames => take_p2m(alloc, src, len, guest),
         _ => match PartCode::from_number(this.number()) {
@@ -239,9 +248,10 @@ fn take_typed<S: Source, F: KeepsFrames>(
 }
 
 /// Takes a record's body, and keeps what it says.
-pub(crate) fn take_body<S: Source, F: KeepsFrames>(
+pub(crate) fn take_body<S: Source, F: KeepsFrames<S>>(
     alloc: Global,
     src: &mut S,
+    keeper: &mut F,
     head: RecordHead,
     guest: &mut Guest,
 ) -> Result<(), Stop<Cause>>
@@ -251,12 +261,14 @@ pub(crate) fn take_body<S: Source, F: KeepsFrames>(
     ensures read { AgreesWithJudging (λ _ c. guest.new ≡ put_content_by F.put guest.old c) (S.left src.old) (S.left src.new) (body_at guest.old.kind guest.old.top head.kind head.len) result }
     ensures grown { OnOk result (GrewByRecord guest.old guest.new) }
     ensures faults { RisesOnReadFault (S.faults src.old) (S.faults src.new) result }
+    ensures noted { AgreesWithJudging (λ _ c. NotesOn F.notes keeper.old keeper.new (S.left src.old) (S.left src.new) (put_frames guest.old.kind c)) (S.left src.old) (S.left src.new) (body_at guest.old.kind guest.old.top head.kind head.len) result }
 {
+    F::goes_on();
     if is_optional(head.kind) {
         return skip_body(src, head.len);
     }
     match RecordType::from_number(head.kind) {
-        Some(this) => take_typed::<S, F>(alloc, src, this, head.len, guest),
+        Some(this) => take_typed(alloc, src, keeper, this, head.len, guest),
         None => Ok(()),
     }
 }

@@ -3,6 +3,7 @@ ghost use Rattle.std.specs.FinMap as maps;
 ghost use Rattle.std.specs.Option.{option_copied};
 ghost use Rattle.mig_restore.specs.Common.{RisesOnReadFault, AgreesWithJudging, each, record_row_of, type_of_number, most_body, RecordType, fault_of_length, with_places, entry_at, pages_at, body_at, placed_content};
 ghost use Rattle.mig_restore.specs.Compared.{IsPut, differs_with};
+ghost use Rattle.mig_restore.specs.Kept.{NotesOn, put_frames};
 ghost use Rattle.mig_restore_form.specs.Mean.{some_frame, is_same_page as same_page, is_same_frame as same_frame, agrees, differing, checked_in, GrewByRecord};
 
 use crate::body::{take_body, take_list};
@@ -104,9 +105,10 @@ fn check_pages<S: Source>(
 
 /// Takes a record's body, and keeps what it says; behind a VERIFY it keeps no frames, but compares them with those that are
 /// kept. Says how many entries differ.
-pub fn take_placed<S: Source, F: KeepsFrames>(
+pub fn take_placed<S: Source, F: KeepsFrames<S>>(
     alloc: Global,
     src: &mut S,
+    keeper: &mut F,
     head: RecordHead,
     verified: bool,
     guest: &mut Guest,
@@ -118,11 +120,13 @@ pub fn take_placed<S: Source, F: KeepsFrames>(
     ensures few { IfOk result (λ n. n ≤ 2 ^ 24) }
     ensures grown { OnOk result (GrewByRecord guest.old guest.new) }
     ensures faults { RisesOnReadFault (S.faults src.old) (S.faults src.new) result }
+    ensures noted { AgreesWithJudging (λ _ c. NotesOn F.notes keeper.old keeper.new (S.left src.old) (S.left src.new) (put_frames guest.old.kind (placed_content verified c))) (S.left src.old) (S.left src.new) (body_at guest.old.kind guest.old.top head.kind head.len) result }
 {
+    F::goes_on();
     if verified && head.kind == PAGE_DATA {
         return check_pages(alloc, src, head.len, guest);
     }
-    take_body::<S, F>(alloc, src, head, guest)?;
+    take_body(alloc, src, keeper, head, guest)?;
     Ok(0)
 }
 

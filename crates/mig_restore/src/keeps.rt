@@ -1,11 +1,12 @@
-ghost use Rattle.std.specs.Prelude.{◌≡◌, ◌∷◌, [], OnOk, OnErr, Some, Err};
+ghost use Rattle.std.specs.Prelude.{◌≡◌, ◌∷◌, [], ◌++◌, ℕ, ⊤, List, OnOk, OnErr, Some, Err};
+ghost use Rattle.std.specs.declared.option.Option.{Option};
 ghost use Rattle.std.specs.FinMap as maps;
 ghost use Rattle.mig_guest.specs.Formed.{IsFormed};
 ghost use Rattle.mig_pvtables.specs.Faults.{fault_of_guest};
 ghost use Rattle.mig_pvtables.specs.declared.testing.WholeAnswer.TheVariants.{Fault};
 ghost use Rattle.mig_restore.specs.Begun.{AreEntriesSet};
 ghost use Rattle.mig_restore.specs.Common.{RisesOnReadFault, AgreesWithJudging, FrameEntry, FrameMap, GrewByRecord, GuestOf, Kind, entry_at, put_entry};
-ghost use Rattle.mig_restore.specs.Kept.{IsOfFaultless, kept_guest};
+ghost use Rattle.mig_restore.specs.Kept.{IsOfFaultless, NotesOn, kept_guest};
 ghost use Rattle.mig_restore_form.specs.Spelled.{IsGoodWord};
 
 use crate::page::EntryPage;
@@ -16,25 +17,30 @@ use mig_pvtables::{WholeAnswer, whole};
 use mig_restore_form::{pfn_in, type_in, type_in_guest};
 use std::alloc::Global;
 
-/// What is kept of the frames that records set, and what is wrong in the end with the guest that has them. The type that
-/// says so is a mere name, without values.
-pub trait KeepsFrames {
+/// What is kept of the frames that records set, and what is wrong in the end with the guest that has them. A value of the
+/// type can note more of the frames, as they come from the source.
+pub trait KeepsFrames<S: Source> {
     /// What is kept of frames.
     ghost kept: { FrameMap → FrameMap };
 
     /// What an entry makes of frames that are kept.
     ghost put: { Kind → FrameMap → FrameEntry → FrameMap };
 
+    /// Whether a value has noted these frames of an input with these bytes, where so much of it is left.
+    ghost notes: { Self → List ℕ → Option (List ℕ) → FrameMap → Type 0 };
+
     /// Does nothing. What is kept goes on as the frames do: an entry makes of it what is kept of what it makes of the frames,
-    /// and there are as many of them.
+    /// and there are as many of them. What is noted stays noted as the source is read on.
     fn goes_on()
         ensures entry { (kind : Kind) (frames : FrameMap) (e : FrameEntry) → put kind (kept frames) e ≡ kept (put_entry kind frames e) }
         ensures none { kept maps.empty ≡ maps.empty }
-        ensures count { (frames : FrameMap) → maps.len (kept frames) ≡ maps.len frames };
+        ensures count { (frames : FrameMap) → maps.len (kept frames) ≡ maps.len frames }
+        ensures read_on { (keeper : Self) (all front rest : List ℕ) (frames : FrameMap) → notes keeper all (Some (front ++ rest)) frames → notes keeper all (Some rest) frames };
 
     /// Takes the page that goes with the word at this place of its record, where its type has data, and puts the entry into
-    /// the frames that are kept. A table of a PV guest is judged before.
-    fn take_entry<S: Source>(
+    /// the frames that are kept, and into those that are noted. A table of a PV guest is judged before.
+    fn take_entry(
+        &mut self,
         src: &mut S,
         place: u32,
         word: u64,
@@ -47,7 +53,9 @@ pub trait KeepsFrames {
         ensures top { OnOk result (guest.new.top ≡ guest.old.top) }
         ensures faults { RisesOnReadFault (S.faults src.old) (S.faults src.new) result }
         ensures set { OnOk result (AreEntriesSet put guest.old guest.new (word ∷ [])) }
-        ensures err { OnErr result (guest.new ≡ guest.old) };
+        ensures err { OnErr result (guest.new ≡ guest.old) }
+        ensures noted { AgreesWithJudging (λ _ e. NotesOn notes self.old self.new (S.left src.old) (S.left src.new) (λ frames. put_entry guest.old.kind frames e))
+            (S.left src.old) (S.left src.new) (entry_at guest.old.kind guest.old.top (place, word)) result };
 
     /// What is wrong at END with the guest of which this is kept.
     fn fault_at_end(alloc: Global, guest: &Guest) -> Result<(), WholeAnswer>
@@ -56,17 +64,21 @@ pub trait KeepsFrames {
         ensures fault { (g : GuestOf) (c : Cause) → guest.now ≡ kept_guest kept g → result ≡ Err (Fault c) → fault_of_guest g ≡ Some c };
 }
 
-/// All frames are kept as they are set, with their pages.
-pub enum AllFrames {}
+/// All frames are kept as they are set, with their pages. Nothing more is noted of them.
+#[derive(Drop)]
+pub struct AllFrames;
 
-impl KeepsFrames for AllFrames {
+impl<S: Source> KeepsFrames<S> for AllFrames {
     ghost kept = { λ frames. frames };
 
     ghost put = { put_entry };
 
+    ghost notes = { λ _ _ _ _. ⊤ };
+
     fn goes_on() {}
 
-    fn take_entry<S: Source>(
+    fn take_entry(
+        &mut self,
         src: &mut S,
         place: u32,
         word: u64,

@@ -8,7 +8,8 @@
 //! What the layers above rely on: `read_image` answers the guest that the accepted front of the input means, or the first
 //! fault with its place, and has taken just the accepted front, or all up to the end of the faulty part; behind a VERIFY it
 //! compares frames with those of the guest, and answers how many entries differ; `take_image` does the same with whatever is
-//! kept of the frames; `take_entries` takes the pages of a batch of words, in a legacy stream too.
+//! kept of the frames, and with a value that may note more of each; `take_entries` takes the pages of a batch of words, in a
+//! legacy stream too.
 #![tactic(auto)]
 
 mod answer;

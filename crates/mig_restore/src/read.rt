@@ -4,7 +4,7 @@ ghost use Rattle.mig_records.specs.Heads.{head_in};
 ghost use Rattle.mig_pvtables.specs.Whole.{IsStreamedBare};
 ghost use Rattle.mig_restore.specs.Compared.{differs_behind, IsWithinRecords};
 ghost use Rattle.mig_restore_form.specs.Seen.{IsSeen};
-ghost use Rattle.mig_restore.specs.Kept.{IsOfFaultless, kept_guest};
+ghost use Rattle.mig_restore.specs.Kept.{IsOfFaultless, NotesImage, NotesOn, kept_guest, put_frames};
 ghost use Rattle.mig_restore.specs.Reads.{ReadsImage, ReadsRest, IsTaken, IsReading};
 ghost use Rattle.mig_bytes.specs.Judged.{Judged};
 
@@ -66,9 +66,10 @@ pub fn read_head<S: Source>(src: &mut S, seen: &mut RecordsSeen) -> Result<Recor
 }
 
 /// Takes a record, and keeps what it says; behind a VERIFY it counts the entries that differ. Answers its type.
-fn take_record<S: Source, F: KeepsFrames>(
+fn take_record<S: Source, F: KeepsFrames<S>>(
     alloc: Global,
     src: &mut S,
+    keeper: &mut F,
     seen: &mut RecordsSeen,
     guest: &mut Guest,
     differs: &mut Option<u64>,
@@ -77,6 +78,8 @@ fn take_record<S: Source, F: KeepsFrames>(
     requires few { IsWithinRecords seen.old.records differs.old }
     ensures read { (b : Before) → IsSeen seen.old b.opening b.types → guest.old.kind ≡ b.opening.kind → guest.old.top ≡ b.top → is_some differs.old ≡ is_verified b.types →
         AgreesWithJudging (λ type r. (guest.new ≡ put_content_by F.put guest.old r.content) × (type ≡ r.type) × (differs.new ≡ differs_behind guest.old differs.old r)) (S.left src.old) (S.left src.new) (record_at b) result }
+    ensures noted { (b : Before) → IsSeen seen.old b.opening b.types → guest.old.kind ≡ b.opening.kind → guest.old.top ≡ b.top → is_some differs.old ≡ is_verified b.types →
+        AgreesWithJudging (λ _ r. NotesOn F.notes keeper.old keeper.new (S.left src.old) (S.left src.new) (put_frames guest.old.kind r.content)) (S.left src.old) (S.left src.new) (record_at b) result }
     ensures few { OnOk result (IsWithinRecords seen.new.records differs.new) }
     ensures seen { IfOk result (λ type. (o : Opening) (types : List ℕ) → IsSeen seen.old o types → IsSeen seen.new o (types ++ type ∷ [])) }
     ensures grown { OnOk result (GrewByRecord guest.old guest.new) }
@@ -84,17 +87,19 @@ fn take_record<S: Source, F: KeepsFrames>(
     ensures kind { seen.new.kind ≡ seen.old.kind }
     ensures faults { RisesOnReadFault (S.faults src.old) (S.faults src.new) result }
 {
+    F::goes_on();
     let head = read_head(src, seen)?;
-    let differ = take_placed::<S, F>(alloc, src, head, differs.is_some(), guest)?;
+    let differ = take_placed(alloc, src, keeper, head, differs.is_some(), guest)?;
     take_padding(src, head.len)?;
     *differs = counted(*differs, head.kind, differ);
     Ok(head.kind)
 }
 
 /// Takes the next record, and judges the whole guest where it ends the image. Says whether it does.
-pub(crate) fn read_next<S: Source, F: KeepsFrames>(
+pub(crate) fn read_next<S: Source, F: KeepsFrames<S>>(
     alloc: Global,
     src: &mut S,
+    keeper: &mut F,
     seen: &mut RecordsSeen,
     guest: &mut Guest,
     differs: &mut Option<u64>,
@@ -105,6 +110,8 @@ pub(crate) fn read_next<S: Source, F: KeepsFrames>(
     ensures read { (o : Opening) (records : List StreamRecord) → IsSeen seen.old o (types_of records) → guest.old ≡ kept_guest F.kept (sent o.kind records) → is_some differs.old ≡ is_verified (types_of records) →
         AgreesWithJudging (λ over r. (guest.new ≡ kept_guest F.kept (sent o.kind (records ++ r ∷ []))) × IsSeen seen.new o (types_of (records ++ r ∷ [])) × (over ≡ (r.type == 0)) × (differs.new ≡ differs_behind guest.old differs.old r))
         (S.left src.old) (S.left src.new) (next_at o records) result }
+    ensures noted { (o : Opening) (records : List StreamRecord) → IsSeen seen.old o (types_of records) → guest.old ≡ kept_guest F.kept (sent o.kind records) → is_some differs.old ≡ is_verified (types_of records) →
+        AgreesWithJudging (λ _ r. NotesOn F.notes keeper.old keeper.new (S.left src.old) (S.left src.new) (put_frames o.kind r.content)) (S.left src.old) (S.left src.new) (next_at o records) result }
     ensures few { OnOk result (IsWithinRecords seen.new.records differs.new) }
     ensures grown { OnOk result (GrewByRecord guest.old guest.new) }
     ensures faultless { IfOk result (λ over. over ≡ true → IsOfFaultless F.kept guest.new) }
@@ -113,7 +120,7 @@ pub(crate) fn read_next<S: Source, F: KeepsFrames>(
     ensures faults { RisesOnReadFault (S.faults src.old) (S.faults src.new) result }
 {
     F::goes_on();
-    if take_record::<S, F>(alloc, src, seen, guest, differs)? != END {
+    if take_record(alloc, src, keeper, seen, guest, differs)? != END {
         return Ok(false);
     }
     match F::fault_at_end(alloc, guest) {
@@ -124,13 +131,15 @@ pub(crate) fn read_next<S: Source, F: KeepsFrames>(
 }
 
 /// Takes records up to the one that ends the image.
-fn take_records<S: Source, F: KeepsFrames>(
+fn take_records<S: Source, F: KeepsFrames<S>>(
     alloc: Global,
     src: &mut S,
+    keeper: &mut F,
     version: u32,
     kind: Kind,
 ) -> Result<TakenImage, Stop<(Place, Cause)>>
     ensures read { AgreesWithJudging (IsTaken F.kept) (S.left src.old) (S.left src.new) (records_at (opening_of version kind)) result }
+    ensures noted { AgreesWithJudging (λ _ image. NotesImage F.notes keeper.old keeper.new (S.left src.old) (S.left src.new) image) (S.left src.old) (S.left src.new) (records_at (opening_of version kind)) result }
     ensures begun { IfOk result (λ taken. IsBegun taken.guest) }
     ensures faultless { IfOk result (λ taken. IsOfFaultless F.kept taken.guest) }
     ensures faults { RisesOnReadFault (S.faults src.old) (S.faults src.new) result }
@@ -141,7 +150,7 @@ fn take_records<S: Source, F: KeepsFrames>(
     let mut differs = None;
     'records: loop {
         let number = seen.records;
-        match read_next::<S, F>(alloc, src, &mut seen, &mut guest, &mut differs) {
+        match read_next(alloc, src, keeper, &mut seen, &mut guest, &mut differs) {
             Ok(over) => {
                 if over {
                     return Ok(TakenImage {
@@ -228,32 +237,38 @@ pub fn read_opening<S: Source>(src: &mut S) -> Result<(u32, Kind), Stop<(Place, 
 }
 
 /// Takes an image from its marker to its END record, and leaves what follows it unread. What is kept of the guest is whole,
-/// and not in its blank form.
-pub fn take_image<S: Source, F: KeepsFrames>(
+/// and not in its blank form. The keeper notes what it notes of the frames that are sent.
+pub fn take_image<S: Source, F: KeepsFrames<S>>(
     alloc: Global,
     src: &mut S,
+    keeper: &mut F,
 ) -> Result<TakenImage, Stop<(Place, Cause)>>
     ensures read { AgreesWithJudging (IsTaken F.kept) (S.left src.old) (S.left src.new) image_at result }
+    ensures noted { AgreesWithJudging (λ _ image. NotesImage F.notes keeper.old keeper.new (S.left src.old) (S.left src.new) image) (S.left src.old) (S.left src.new) image_at result }
     ensures begun { IfOk result (λ taken. IsBegun taken.guest) }
     ensures faultless { IfOk result (λ taken. IsOfFaultless F.kept taken.guest) }
     ensures faults { RisesOnReadFault (S.faults src.old) (S.faults src.new) result }
 {
+    F::goes_on();
     let (version, kind) = read_opening(src)?;
-    take_records::<S, F>(alloc, src, version, kind)
+    take_records(alloc, src, keeper, version, kind)
 }
 
 /// Takes an image whose marker was taken before and found right; the same else.
-pub fn take_image_rest<S: Source, F: KeepsFrames>(
+pub fn take_image_rest<S: Source, F: KeepsFrames<S>>(
     alloc: Global,
     src: &mut S,
+    keeper: &mut F,
 ) -> Result<TakenImage, Stop<(Place, Cause)>>
     ensures read { AgreesWithJudging (IsTaken F.kept) (S.left src.old) (S.left src.new) image_behind result }
+    ensures noted { AgreesWithJudging (λ _ image. NotesImage F.notes keeper.old keeper.new (S.left src.old) (S.left src.new) image) (S.left src.old) (S.left src.new) image_behind result }
     ensures begun { IfOk result (λ taken. IsBegun taken.guest) }
     ensures faultless { IfOk result (λ taken. IsOfFaultless F.kept taken.guest) }
     ensures faults { RisesOnReadFault (S.faults src.old) (S.faults src.new) result }
 {
+    F::goes_on();
     let (version, kind) = read_headers(src)?;
-    take_records::<S, F>(alloc, src, version, kind)
+    take_records(alloc, src, keeper, version, kind)
 }
 
 /// The reading of an image that was taken with all frames.
@@ -288,7 +303,7 @@ pub fn read_image<S: Source>(alloc: Global, src: &mut S) -> Result<Reading, Stre
     ensures streamed { IfOk result (λ reading. IsStreamedBare reading.guest) }
     ensures faults { RisesOnReadFault (S.faults src.old) (S.faults src.new) (or_stop result) }
 {
-    reading_of(take_image::<S, AllFrames>(alloc, src))
+    reading_of(take_image(alloc, src, &mut AllFrames))
 }
 
 /// Reads an image whose marker was taken before and found right; the same else.
@@ -297,5 +312,5 @@ pub fn read_image_rest<S: Source>(alloc: Global, src: &mut S) -> Result<Reading,
     ensures streamed { IfOk result (λ reading. IsStreamedBare reading.guest) }
     ensures faults { RisesOnReadFault (S.faults src.old) (S.faults src.new) (or_stop result) }
 {
-    reading_of(take_image_rest::<S, AllFrames>(alloc, src))
+    reading_of(take_image_rest(alloc, src, &mut AllFrames))
 }

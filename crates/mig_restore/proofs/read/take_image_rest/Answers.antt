@@ -1,6 +1,8 @@
-use Rattle.mig_restore.proofs.Common.{sym, subst, rules, AgreesWithJudging, then_reads, stopped, Opening, records_at, IsTaken}
+use Rattle.mig_restore.proofs.Common.{sym, subst, rules, AgreesWithJudging, then_reads, stopped, Opening, records_at, IsTaken, NotesImage, ◌≡◌}
 use Rattle.mig_restore_form.specs.Stream.{opening_behind, image_behind}
 use Rattle.mig_restore.proofs.Behind.{behind_opening, behind_is}
+use Rattle.mig_restore.proofs.Noted.{image_noted, stops}
+use Rattle.mig_restore.proofs.Fronts.{front_opening_behind}
 use Rattle.mig_restore.proofs.read.take_image_rest.Goals as goal
 
 pub returns-in_err-version-clause-read : goal.returns-in_err-version-clause-read
@@ -11,3 +13,12 @@ pub returns-clause-read : goal.returns-clause-read
 returns-clause-read g c =
     then_reads _ _ _ _ _ opening_behind image_behind behind_opening (c.in_ok-version.version, c.in_ok-version.kind) c.take_records.result behind_is c.in_ok-version.ensures.read
     (λ opening is. subst (λ (o : Opening). AgreesWithJudging (IsTaken g.F.KeepsFrames.kept) (g.S.Source.left c.read_headers.new.src) (g.S.Source.left c.take_records.new.src) (records_at o) c.take_records.result) (sym is) c.take_records.ensures.read)
+
+pub returns-in_err-version-clause-noted : goal.returns-in_err-version-clause-noted
+returns-in_err-version-clause-noted g c =
+    stops _ _ (λ s. s ≡ c.in_err-version.field-0.0) _ _ _ c.from_residual.result (search rules) (returns-in_err-version-clause-read g c)
+
+pub returns-clause-noted : goal.returns-clause-noted
+returns-clause-noted g c =
+    image_noted g.F.KeepsFrames.notes c.goes_on.ensures.read_on _ c.args.keeper.now c.take_records.new.keeper _ (g.S.Source.left c.read_headers.new.src) _ opening_behind image_behind behind_opening (c.in_ok-version.version, c.in_ok-version.kind) c.take_records.result front_opening_behind behind_is c.in_ok-version.ensures.read
+    (λ opening is. subst (λ (o : Opening). AgreesWithJudging (λ _ image. NotesImage g.F.KeepsFrames.notes c.args.keeper.now c.take_records.new.keeper (g.S.Source.left c.read_headers.new.src) (g.S.Source.left c.take_records.new.src) image) (g.S.Source.left c.read_headers.new.src) (g.S.Source.left c.take_records.new.src) (records_at o) c.take_records.result) (sym is) c.take_records.ensures.noted)

@@ -3,6 +3,7 @@ use Rattle.mig_outline.proofs.Entries.{entry_of, outline_set, outline_grows, tab
 use Rattle.mig_outline.specs.Outline.{put_outline_entry}
 use Rattle.mig_restore.proofs.Begun.{one_set}
 use Rattle.mig_restore_form.specs.Judging.{page_at}
+use Rattle.mig_restore.proofs.Noted.{weaker}
 use Rattle.mig_outline.proofs.keeps.OutlinesKeepsFrames.take_entry.Goals as goal
 
 pub returns-then-is_some-clause-read : goal.returns-then-is_some-clause-read
@@ -37,3 +38,12 @@ returns-in-Ok-clause-set g c =
     let means : c.type_in_guest-kind.result ≡ type_in_guest c.args.guest.now.kind (type_in_word c.args.word) = search rules in
     let none : level_of c.type_in_guest-kind.result ≡ None = search rules in
     one_set put_outline_entry c.args.guest.now _ c.args.word None (outline_set c.args.guest.now _ c.args.word _ c.type_in_guest-kind.result _ None c.pfn_in.ensures means c.outlined.ensures.value none c.in-Ok.ensures.ok)
+
+pub returns-then-is_some-clause-noted : goal.returns-then-is_some-clause-noted
+returns-then-is_some-clause-noted g c = weaker _ _ (λ _ _ _ all frames noted. tt) _ _ _ _ (returns-then-is_some-clause-read g c)
+
+pub returns-in_err-pass_page-clause-noted : goal.returns-in_err-pass_page-clause-noted
+returns-in_err-pass_page-clause-noted g c = weaker _ _ (λ _ _ _ all frames noted. tt) _ _ _ _ (returns-in_err-pass_page-clause-read g c)
+
+pub returns-in-Ok-clause-noted : goal.returns-in-Ok-clause-noted
+returns-in-Ok-clause-noted g c = weaker _ _ (λ _ _ _ all frames noted. tt) _ _ _ _ (returns-in-Ok-clause-read g c)

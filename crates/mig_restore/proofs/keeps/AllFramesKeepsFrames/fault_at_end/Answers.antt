@@ -6,7 +6,7 @@ fine (Ok u) h none = λ g is. ap fault_of_guest (sym is) ∙ none
 fine (Err e) h none = tt
 
 pub returns-clause-ok : goal.returns-clause-ok
-returns-clause-ok c = fine c.whole.result c.args.guest.now c.whole.ensures.ok
+returns-clause-ok g c = fine c.whole.result c.args.guest.now c.whole.ensures.ok
 
 pub returns-clause-fault : goal.returns-clause-fault
-returns-clause-fault c = λ g cause is err. ap fault_of_guest (sym is) ∙ c.whole.ensures.fault cause err
+returns-clause-fault g c = λ guest cause is err. ap fault_of_guest (sym is) ∙ c.whole.ensures.fault cause err

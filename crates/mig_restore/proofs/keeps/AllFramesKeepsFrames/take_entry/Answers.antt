@@ -2,6 +2,7 @@ use Rattle.mig_restore.proofs.Common.{◌<◌, pfn_limit, IsInside, None, sym, s
 use Rattle.mig_restore.proofs.Begun.{one_set}
 use Rattle.mig_restore.proofs.Entries.{no_page}
 use Rattle.mig_restore.proofs.Filled.{filled_read, filled_set, filled_grown, stops_so}
+use Rattle.mig_restore.proofs.Noted.{weaker}
 use Rattle.mig_restore.proofs.keeps.AllFramesKeepsFrames.take_entry.Goals as goal
 
 pub returns-in-Ok-clause-read : goal.returns-in-Ok-clause-read
@@ -39,3 +40,9 @@ pub returns-clause-set : goal.returns-clause-set
 returns-clause-set g c =
     filled_set c.args.guest.now _ c.args.place c.args.word c.pfn_in-2.result c.type_in-in_stream.result c.type_in_guest-kind.result (search rules) (search rules) c.pfn_in-2.ensures _ _ _ _ c.set_filled.result
     (rw c.top.ensures at c.set_filled.ensures.ok)
+
+pub returns-in-Ok-clause-noted : goal.returns-in-Ok-clause-noted
+returns-in-Ok-clause-noted g c = weaker _ _ (λ _ _ _ all frames noted. tt) _ _ _ _ (returns-in-Ok-clause-read g c)
+
+pub returns-clause-noted : goal.returns-clause-noted
+returns-clause-noted g c = weaker _ _ (λ _ _ _ all frames noted. tt) _ _ _ _ (returns-clause-read g c)
