@@ -37,11 +37,28 @@ impl<'a, P: PageFile> FileSource<'a, P> {
         }
     }
 
+    /// The file.
+    pub fn file(&self) -> &'a P
+        ensures { result.now ≡ self.now.file.now }
+    {
+        self.file
+    }
+
     /// The place of the next byte.
     pub fn at(&self) -> u64
         ensures { result ≡ self.now.at }
     {
         self.at
+    }
+
+    /// How many bytes are left.
+    #[tactic(auto, using(crate::proofs::Left::rest_counted))]
+    pub fn rest(&self) -> u64
+        ensures left { IfSome (left_in P.bytes self.now) (λ rest. result ≡ length rest) }
+        ensures size { IfSome (P.bytes self.now.file.now) (λ all. result ≡ length all - self.now.at) }
+        ensures fits { self.now.at + result < 2 ^ 64 }
+    {
+        self.file.size().saturating_sub(self.at)
     }
 
     /// How many of so many bytes are left.
@@ -50,8 +67,7 @@ impl<'a, P: PageFile> FileSource<'a, P> {
         ensures fits { self.now.at + result < 2 ^ 64 }
         ensures all { IfSome (P.bytes self.now.file.now) (λ all. result ≡ min (length all - self.now.at) most) }
     {
-        let left = self.file.size().saturating_sub(self.at);
-        left.min(most as u64) as usize
+        self.rest().min(most as u64) as usize
     }
 }
 
@@ -60,9 +76,12 @@ impl<P: PageFile> Source for FileSource<'_, P> {
 
     ghost faults = { λ s. failed_in s };
 
-    /// One read of the file, where bytes are left.
+    /// One read of the file, where bytes are asked for and left.
     fn read(&mut self, buf: &mut [u8]) -> Result<usize, Failed> {
         let count = self.left_of(buf.len());
+        if count == 0 {
+            return Ok(0);
+        }
         if self.file.read_at(self.at, &mut buf[..count]).is_err() {
             self.faults = self.faults.saturating_add(1);
             return Err(Failed);
