@@ -1,7 +1,7 @@
 -- Promises that are kept.
 use Rattle.mig_tool_report.proofs.Common.{◌≡◌, ℕ, ◌≤◌, List, Option, refl, subst, sym, ◌∙◌, arith, line_of, inl, inr, ◌⊎◌, ◌≢◌, AppendsPart, Rose, IsUnwritten, status_of, Reports, EndsWithOwnLine, InputRises, NoneFailed, OutcomeSays, OutputRises, PutsLineOf, Refusing, StatusSays, Outcome, Status}
 use Rattle.std.specs.Io.KnownBytes.{Appends}
-use Rattle.mig_tool_report.specs.Promises.{CarriedOut, ComesTo, Effects, InputEffect, IsUntouched, Promise, SinkEffect, effects, reports_line, unreached, writes_text}
+use Rattle.mig_tool_report.specs.Promises.{CarriedOut, ComesTo, Effects, InputEffect, IsPartCopied, IsUntouched, Promise, SinkEffect, effects, reports_line, copies_text, unreached, writes_text}
 use Rattle.mig_tool_report.specs.declared.outcome.Outcome.TheVariants as outcomes
 use Rattle.mig_tool_report.specs.declared.status.Status.TheVariants as statuses
 use Rattle.mig_tool_report.proofs.Statuses.{line_reported, says_of}
@@ -23,6 +23,14 @@ done_alone (outcomes.Refused refusal) is = cc
 done_alone outcomes.ReadFault is = cc
 done_alone outcomes.WriteFault is = cc
 done_alone outcomes.Memory is = cc
+
+pub read_fault_alone : (outcome : Outcome) → status_of outcome ≡ statuses.ReadFault → outcome ≡ outcomes.ReadFault
+read_fault_alone outcomes.ReadFault is = refl
+read_fault_alone outcomes.Done is = cc
+read_fault_alone outcomes.Usage is = cc
+read_fault_alone (outcomes.Refused refusal) is = cc
+read_fault_alone outcomes.WriteFault is = cc
+read_fault_alone outcomes.Memory is = cc
 
 -- ---- the counts of a sink
 
@@ -168,3 +176,13 @@ pub text_told : (Accepts : List ℕ → Type 0) (Refuses : Refusing) (Text Part 
 text_told Accepts Refuses Text Part input out report outcome status is c line quiet later =
     let came : ComesTo (writes_text Accepts Refuses Text Part) (effects input out report) outcome = record { said = c.said; known = c.known; kept = c.kept; read = c.read; write = c.write } in
     finished (writes_text Accepts Refuses Text Part) (effects input out report) outcome status is came (text_rose outcome status _ _ is c.write) line quiet later tt tt
+
+-- nor does one that copies it from a file
+pub copy_told : (Accepts : List ℕ → Type 0) (Refuses : Refusing) (Text Part : List ℕ → (left old new : Option (List ℕ)) → Type 0) (input : InputEffect) (out report : SinkEffect) (outcome : Outcome) (status : Status)
+    → status ≡ status_of outcome → ComesTo (copies_text Accepts Refuses Text Part) (effects input out unreached) outcome
+    → (outcome ≡ outcomes.ReadFault → out.Untouched ⊎ IsPartCopied Part (effects input out unreached))
+    → Reports (line_of outcome) report.old report.new report.failed report.failed_now
+    → (outcome ≡ outcomes.Done → report.failed_now ≡ report.failed) → report.failed ≤ report.failed_now → CarriedOut (copies_text Accepts Refuses Text Part) (effects input out report) status
+copy_told Accepts Refuses Text Part input out report outcome status is c part line quiet later =
+    let came : ComesTo (copies_text Accepts Refuses Text Part) (effects input out report) outcome = record { said = c.said; known = c.known; kept = c.kept; read = c.read; write = c.write } in
+    finished (copies_text Accepts Refuses Text Part) (effects input out report) outcome status is came (text_rose outcome status _ _ is c.write) line quiet later tt (λ failed. part (read_fault_alone outcome (sym is ∙ failed)))

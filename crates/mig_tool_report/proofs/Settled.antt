@@ -1,6 +1,6 @@
 -- Whoever carries out a promise keeps it, where no input is both done and refused.
 use Rattle.mig_tool_report.proofs.Common.{◌≡◌, ◌⊎◌, ℕ, List, Option, Some, refl, subst, inl, inr, Rose, InputRises, Refusing, StatusSays, Status}
-use Rattle.mig_tool_report.specs.Promises.{CarriedOut, Effects, IsOfInput, KeepsPromise, Promise, reports_line, writes_text}
+use Rattle.mig_tool_report.specs.Promises.{CarriedOut, Effects, IsOfInput, KeepsPromise, Promise, copies_text, reports_line, writes_text}
 use Rattle.mig_tool_report.specs.declared.outcome.Refusal.{Refusal}
 use Rattle.mig_tool_report.specs.declared.status.Status.TheVariants as statuses
 
@@ -40,6 +40,18 @@ settled_text Accepts Refuses Text Part whole part once = record {
   refused = λ input refusal rest a r. absurd (once input refusal rest a r);
   not_done = λ input e refusal rest h r it. once input refusal rest (whole input _ _ _ h) r;
   not_part = λ input e refusal rest h r it other. once input refusal rest (part input _ _ _ h) r;
+  unbroken = λ e status input refusal rest before is r quiet besides failed rose. before;
+}
+
+-- and of one that copies it from a file: what it may write with status 3 settles nothing
+pub settled_copy : (Accepts : List ℕ → Type 0) (Refuses : Refusing) (Text Part : List ℕ → (left old new : Option (List ℕ)) → Type 0) → IsSettled (writes_text Accepts Refuses Text Part)
+    → IsSettled (copies_text Accepts Refuses Text Part)
+settled_copy Accepts Refuses Text Part s = record {
+  done = s.done;
+  starved = s.starved;
+  refused = s.refused;
+  not_done = s.not_done;
+  not_part = s.not_part;
   unbroken = λ e status input refusal rest before is r quiet besides failed rose. before;
 }
 

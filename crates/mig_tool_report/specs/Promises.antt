@@ -98,6 +98,17 @@ writes_text Accepts Refuses Text Part = record {
   Besides = λ e status. ⊤;
 }
 
+-- of the output: a part of the text of the input, where the input tells its bytes
+abbrev pub IsPartCopied : (Part : List ℕ → (left old new : Option (List ℕ)) → Type 0) → Effects → Type 0
+IsPartCopied Part e = (input : List ℕ) → e.input.told ≡ Some input → Part input e.input.left e.out.old e.out.new
+
+-- the same, of a file that is read once more where its pages are written: with status 3 a part of the text may have been written
+abbrev pub copies_text : (Accepts : List ℕ → Type 0) → Refusing → (Text Part : List ℕ → (left old new : Option (List ℕ)) → Type 0) → Promise
+copies_text Accepts Refuses Text Part = record (writes_text Accepts Refuses Text Part) {
+  MayWrite = λ status. (status ≡ statuses.Done) ⊎ ((status ≡ statuses.WriteFault) ⊎ (status ≡ statuses.ReadFault));
+  Besides = λ e status. status ≡ statuses.ReadFault → e.out.Untouched ⊎ IsPartCopied Part e;
+}
+
 -- a command that writes nothing on the output, and puts the line of a summary of the input on the report, whole or in part
 abbrev pub reports_line : {Summary : Type 0} → (Summary → List ℕ) → (Accepts : List ℕ → Type 0) → Refusing → (Says : (Reported : List ℕ → Type 0) → List ℕ → (left : Option (List ℕ)) → Type 0) → Promise
 reports_line line_of Accepts Refuses Says = record {
