@@ -1,4 +1,5 @@
 ghost use Rattle.std.specs.Prelude.{◌≡◌, ◌+◌, ◌-◌, ◌^◌, ◌<◌, ◌≤◌, length, min, IfSome};
+ghost use Rattle.mig_bytes.specs.Faults.{Rose};
 ghost use Rattle.mig_file.specs.Files.{left_at, left_in, failed_in};
 
 use crate::file::PageFile;
@@ -44,6 +45,14 @@ impl<'a, P: PageFile> FileSource<'a, P> {
         self.file
     }
 
+    /// Counts a read of the file elsewhere that failed.
+    pub fn note_fault(&mut self)
+        ensures rose { (failed_in self.old ≤ failed_in self.new) × Rose (failed_in self.old) (failed_in self.new) }
+        ensures left { left_in P.bytes self.new ≡ left_in P.bytes self.old }
+    {
+        self.faults = self.faults.saturating_add(1);
+    }
+
     /// The place of the next byte.
     pub fn at(&self) -> u64
         ensures { result ≡ self.now.at }
@@ -83,7 +92,7 @@ impl<P: PageFile> Source for FileSource<'_, P> {
             return Ok(0);
         }
         if self.file.read_at(self.at, &mut buf[..count]).is_err() {
-            self.faults = self.faults.saturating_add(1);
+            self.note_fault();
             return Err(Failed);
         }
         self.at += count as u64;
