@@ -1,6 +1,8 @@
 -- What stands around an image.
 use Rattle.mig_libxl.proofs.Common.{◌≡◌, true, false, cond, [], ◌++◌, refl, ap, GuestOf, PartMap, has_emulators, is_of_converter, text_of_emulators, spelled, canon, emulators_in_order, opening_text}
 use Rattle.mig_canon.specs.CanonStream.{canon_any, wrapper_opening, wrapper_closing}
+use Rattle.mig_canon.specs.Elsewhere.{with_frames}
+use Rattle.mig_guest.specs.Frames.{FrameMap}
 
 module _ (parts : PartMap) where
   pub opening_some : has_emulators parts ≡ true → wrapper_opening parts ≡ opening_text (is_of_converter parts)
@@ -22,3 +24,6 @@ module _ (parts : PartMap) where
 pub canon_any_is : (g : GuestOf) → canon_any g ≡ wrapper_opening g.parts ++ (canon g ++ wrapper_closing g.parts)
 unfolding canon_any
 canon_any_is g = refl
+
+pub with_other_frames : (g : GuestOf) (fs : FrameMap) → canon_any (with_frames g fs) ≡ wrapper_opening g.parts ++ (canon (with_frames g fs) ++ wrapper_closing g.parts)
+with_other_frames g fs = canon_any_is (with_frames g fs)

@@ -3,7 +3,14 @@ use Rattle.mig_libxl.proofs.Common.{◌≡◌, List, Option, Some, None, Ok, ref
 use Rattle.mig_libxl.specs.Reads.{IsStreamReading, IsStreamTally}
 use Rattle.mig_outline.specs.Judges.{IsTally}
 use Rattle.mig_outline.specs.declared.judge.Tally.{Tally}
+use Rattle.mig_libxl.specs.Placed.{IsPlacedStream}
+use Rattle.mig_outline.specs.Outline.{outline}
+use Rattle.mig_placing.specs.Placed.{IsPlacedImage}
+use Rattle.mig_placing.specs.declared.guest.PlacedGuest.{PlacedGuest}
 use Rattle.mig_restore.specs.Reads.{IsReading as IsImageReading}
+use Rattle.mig_restore_form.proofs.Meaning.{sent_kind}
+use Rattle.mig_restore_form.specs.Mean.{sent}
+use Rattle.mig_restore_form.specs.Record.{StreamRecord}
 
 pub reading_kind : (reading : Reading) (image : ImageOf) → IsImageReading reading image → reading.guest.kind ≡ image.opening.kind
 reading_kind reading image r = ap (λ g. g.kind) r.guest ∙ mean_kind image.opening.kind image.records
@@ -62,3 +69,29 @@ reading_whole reading whole e put image records is found same = rw put (record {
 
 pub tally_whole : (tally : Tally) (e : EmulatorsOf) (image : ImageOf) (records : List LibxlRecord) → IsTally tally image → image_among records ≡ Some image → e ≡ emulators_of records → IsStreamTally tally (Wrapped records)
 tally_whole tally e image records is found same = record { image = image; is = found; frames = is.frames; version = is.version; kind = is.kind; records = is.records; verified = is.verified }
+
+-- ---- of a guest whose pages stay in a file
+
+outlined_kind : (kind : Kind) (records : List StreamRecord) → (outline (sent kind records)).kind ≡ kind
+outlined_kind kind records = sent_kind kind records
+
+module _ {P : Type 0} (bytes : P → Option (List ℕ)) where
+  pub placed_kind : (placed : PlacedGuest P) (image : ImageOf) → IsPlacedImage bytes placed image → placed.outline.kind ≡ image.opening.kind
+  placed_kind placed image is = ap (λ g. g.kind) is.guest ∙ outlined_kind image.opening.kind image.records
+
+  bare_placed : (placed : PlacedGuest P) (image : ImageOf) → IsPlacedImage bytes placed image → IsPlacedStream bytes placed (Bare image)
+  bare_placed placed image is = record { image = image; is = refl; all = is.all; told = is.told; guest = is.guest ∙ sym (none_set _); frames = is.frames }
+
+  pub placed_told : (a b : Option (List ℕ)) (r : Result (PlacedGuest P) (Stop (Place × Cause))) → AgreesWithJudging (IsPlacedImage bytes) a b image_behind r → AgreesWithJudging (λ placed image. IsPlacedStream bytes placed (Bare image)) a b image_behind r
+  placed_told a b r h = told_as (IsPlacedImage bytes) (λ placed image. IsPlacedStream bytes placed (Bare image)) bare_placed a b image_behind r h
+
+  pub placed_whole : (placed whole : PlacedGuest P) (e : EmulatorsOf) → whole ≡ record placed { outline = with_emulators placed.outline e } → (image : ImageOf) (records : List LibxlRecord) → IsPlacedImage bytes placed image → image_among records ≡ Some image → e ≡ emulators_of records
+      → IsPlacedStream bytes whole (Wrapped records)
+  placed_whole placed whole e put image records is found same = rw put (record {
+    image = image;
+    is = found;
+    all = is.all;
+    told = is.told;
+    guest = ap (λ g. with_emulators g e) is.guest ∙ ap (with_emulators (outline (sent image.opening.kind image.records))) same;
+    frames = is.frames;
+  })

@@ -1,14 +1,20 @@
 ghost use Rattle.std.specs.Prelude.{◌≡◌, IfOk, List, Some};
 ghost use Rattle.mig_libxl.specs.Common.{or_stop, RisesOnReadFault, AgreesWithJudging, Kind, Pv, image_among, LibxlRecord, AreEmulators, StreamOf, Bare, Wrapped, IsStreamed, IsStreamedBare, ImageOf, image_at, image_behind};
+ghost use Rattle.mig_guest.specs.Formed.{IsFormed};
+ghost use Rattle.mig_libxl.specs.Placed.{IsPlacedStream};
 ghost use Rattle.mig_libxl.specs.Reads.{IsStreamReading, IsStreamTally};
 ghost use Rattle.mig_libxl_form.specs.Emulators.{emulators_of, no_emulators};
 ghost use Rattle.mig_outline.specs.Judges.{IsTally};
+ghost use Rattle.mig_placing.specs.Placed.{IsPlacedImage};
 ghost use Rattle.mig_restore.specs.Reads.{IsReading as IsImageReading};
+ghost use Rattle.mig_restore_form.specs.Mean.{IsBegun};
 
 use mig_bytes::{Memory, Source};
+use mig_file::{FileSource, PageFile};
 use mig_headers::Kind;
 use mig_libxl_form::Emulators;
 use mig_outline::{Tally, judge_image, judge_image_rest};
+use mig_placing::{PlacedGuest, place_image, place_image_rest};
 use mig_restore::{Reading, StreamAnswer, read_image, read_image_rest};
 use std::alloc::Global;
 
@@ -29,18 +35,6 @@ pub(crate) trait KeptImage: Drop {
     /// What holds of it then also where the source tells no bytes.
     ghost finished: { Self → Type 0 };
 
-    /// Takes an image.
-    fn take<S: Source>(alloc: Global, src: &mut S) -> Result<Self, StreamAnswer>
-        ensures read { AgreesWithJudging is_of (S.left src.old) (S.left src.new) image_at (or_stop result) }
-        ensures kept { IfOk result kept }
-        ensures faults { RisesOnReadFault (S.faults src.old) (S.faults src.new) (or_stop result) };
-
-    /// Takes an image behind its marker, as a stream of its own.
-    fn take_bare<S: Source>(alloc: Global, src: &mut S) -> Result<Self, StreamAnswer>
-        ensures read { AgreesWithJudging (λ kept image. is_of_stream kept (Bare image)) (S.left src.old) (S.left src.new) image_behind (or_stop result) }
-        ensures finished { IfOk result finished }
-        ensures faults { RisesOnReadFault (S.faults src.old) (S.faults src.new) (or_stop result) };
-
     /// The kind of guest of the image.
     fn kind(&self) -> Kind
         ensures value { result ≡ kind_of self.now }
@@ -55,6 +49,21 @@ pub(crate) trait KeptImage: Drop {
         ensures finished { IfOk result finished };
 }
 
+/// What is kept of an image that is taken from such a source.
+pub(crate) trait TakesImage<S: Source>: KeptImage {
+    /// Takes an image.
+    fn take(alloc: Global, src: &mut S) -> Result<Self, StreamAnswer>
+        ensures read { AgreesWithJudging Self.is_of (S.left src.old) (S.left src.new) image_at (or_stop result) }
+        ensures kept { IfOk result Self.kept }
+        ensures faults { RisesOnReadFault (S.faults src.old) (S.faults src.new) (or_stop result) };
+
+    /// Takes an image behind its marker, as a stream of its own.
+    fn take_bare(alloc: Global, src: &mut S) -> Result<Self, StreamAnswer>
+        ensures read { AgreesWithJudging (λ kept image. Self.is_of_stream kept (Bare image)) (S.left src.old) (S.left src.new) image_behind (or_stop result) }
+        ensures finished { IfOk result Self.finished }
+        ensures faults { RisesOnReadFault (S.faults src.old) (S.faults src.new) (or_stop result) };
+}
+
 impl KeptImage for Reading {
     ghost is_of = { IsImageReading };
 
@@ -66,14 +75,6 @@ impl KeptImage for Reading {
 
     ghost finished = { λ reading. IsStreamed reading.guest };
 
-    fn take<S: Source>(alloc: Global, src: &mut S) -> Result<Reading, StreamAnswer> {
-        read_image(alloc, src)
-    }
-
-    fn take_bare<S: Source>(alloc: Global, src: &mut S) -> Result<Reading, StreamAnswer> {
-        read_image_rest(alloc, src)
-    }
-
     fn kind(&self) -> Kind {
         self.guest.kind()
     }
@@ -82,6 +83,16 @@ impl KeptImage for Reading {
         let mut reading = self;
         emulators.put_into(&mut reading.guest)?;
         Ok(reading)
+    }
+}
+
+impl<S: Source> TakesImage<S> for Reading {
+    fn take(alloc: Global, src: &mut S) -> Result<Reading, StreamAnswer> {
+        read_image(alloc, src)
+    }
+
+    fn take_bare(alloc: Global, src: &mut S) -> Result<Reading, StreamAnswer> {
+        read_image_rest(alloc, src)
     }
 }
 
@@ -96,19 +107,53 @@ impl KeptImage for Tally {
 
     ghost finished = { λ _. Unit {0} };
 
-    fn take<S: Source>(alloc: Global, src: &mut S) -> Result<Tally, StreamAnswer> {
-        judge_image(alloc, src)
-    }
-
-    fn take_bare<S: Source>(alloc: Global, src: &mut S) -> Result<Tally, StreamAnswer> {
-        judge_image_rest(alloc, src)
-    }
-
     fn kind(&self) -> Kind {
         self.kind
     }
 
     fn finish(self, _emulators: Emulators) -> Result<Tally, Memory> {
         Ok(self)
+    }
+}
+
+impl<S: Source> TakesImage<S> for Tally {
+    fn take(alloc: Global, src: &mut S) -> Result<Tally, StreamAnswer> {
+        judge_image(alloc, src)
+    }
+
+    fn take_bare(alloc: Global, src: &mut S) -> Result<Tally, StreamAnswer> {
+        judge_image_rest(alloc, src)
+    }
+}
+
+impl<P: PageFile> KeptImage for PlacedGuest<'_, P> {
+    ghost is_of = { IsPlacedImage P.bytes };
+
+    ghost kept = { λ placed. IsBegun placed.outline };
+
+    ghost kind_of = { λ placed. placed.outline.kind };
+
+    ghost is_of_stream = { IsPlacedStream P.bytes };
+
+    ghost finished = { λ placed. IsFormed placed.outline };
+
+    fn kind(&self) -> Kind {
+        self.outline.kind()
+    }
+
+    fn finish(self, emulators: Emulators) -> Result<Self, Memory> {
+        let mut placed = self;
+        emulators.put_into(&mut placed.outline)?;
+        Ok(placed)
+    }
+}
+
+impl<'a, P: PageFile> TakesImage<FileSource<'a, P>> for PlacedGuest<'a, P> {
+    fn take(alloc: Global, src: &mut FileSource<'a, P>) -> Result<Self, StreamAnswer> {
+        place_image(alloc, src)
+    }
+
+    fn take_bare(alloc: Global, src: &mut FileSource<'a, P>) -> Result<Self, StreamAnswer> {
+        place_image_rest(alloc, src)
     }
 }

@@ -19,7 +19,8 @@ mod read;
 mod write;
 
 pub use canon_law::{canon_is_accepted, canon_is_one_to_one, emulators_ascend, twice_is_once};
-pub use read::{judge_any, read_any};
+pub use read::{judge_any, place_any, read_any};
 pub use write::{
-    close_wrapper, open_wrapper, write_any, write_closing, write_emulator, write_opening,
+    close_wrapper, open_wrapper, write_any, write_any_with, write_closing, write_emulator,
+    write_opening,
 };

@@ -9,13 +9,17 @@ ghost use Rattle.mig_libxl.specs.Seen.{Holds, behind_of};
 ghost use Rattle.mig_libxl_form.specs.Content.LibxlContent.{Nothing};
 ghost use Rattle.mig_libxl_form.specs.Judging.{fault_of_libxl_head, libxl_head_at, pairs_at, context_at, skipped_at, inner_at, body_of_type, libxl_content_at, libxl_record_at, allows_length as length_allowed};
 ghost use Rattle.mig_libxl.specs.Seen.{IsLibxlSeen, IsLibxlBegun, IsClosed};
+ghost use Rattle.mig_file.specs.Files.{failed_in, left_in};
+ghost use Rattle.mig_guest.specs.Formed.{IsFormed};
+ghost use Rattle.mig_libxl.specs.Placed.{IsPlacedStream};
 ghost use Rattle.mig_libxl.specs.Reads.{ReadsStream, JudgesStream};
 
-use crate::image::KeptImage;
+use crate::image::{KeptImage, TakesImage};
 use mig_bytes::{
     Memory, ReadFailed, Source, Stop, answer_for, are_bytes, skip, stop_for, take_long, take_part,
     u32_le,
 };
+use mig_file::{FileSource, PageFile};
 use mig_guest::{EMULATOR_CONTEXT as CONTEXT, EMULATOR_PAIRS as PAIRS, PartKey};
 use mig_headers::{Cause, ImageHeader, Kind, LibxlHeader, Place};
 use mig_libxl_form::{
@@ -23,6 +27,7 @@ use mig_libxl_form::{
     LIBXC_CONTEXT, LIBXL_END, RecordsBehind, libxl_head_fault,
 };
 use mig_outline::Tally;
+use mig_placing::PlacedGuest;
 use mig_policy::{PairsAnswer, pairs_fault};
 use mig_records::{RecordHead, take_head, take_padding};
 use mig_restore::{Reading, StreamAnswer};
@@ -196,28 +201,6 @@ impl<I: KeptImage> WrapperSeen<I> {
         }
     }
 
-    /// Takes the image behind LIBXC_CONTEXT.
-    fn take_image<S: Source>(
-        &mut self,
-        alloc: Global,
-        src: &mut S,
-    ) -> Result<(), Stop<(Place, Cause)>>
-        requires first { self.old.image ≡ None }
-        requires begun { IsLibxlBegun I.kept self.old }
-        ensures read { AgreesWithJudging (λ _ c. TakesLibxl I.is_of self.old self.new 1 c) (S.left src.old) (S.left src.new) inner_at result }
-        ensures begun { OnOk result (IsLibxlBegun I.kept self.new) }
-        ensures others { OnOk result ((self.new.records ≡ self.old.records) × (self.new.emulated ≡ self.old.emulated)) }
-        ensures faults { RisesOnReadFault (S.faults src.old) (S.faults src.new) result }
-    {
-        match I::take(alloc, src) {
-            Ok(kept) => {
-                self.image = Some(kept);
-                Ok(())
-            }
-            Err(answer) => Err(stop_for(answer)),
-        }
-    }
-
     /// Takes the body of a record that isn't LIBXC_CONTEXT, and keeps what it says.
     fn take_body<S: Source>(
         &mut self,
@@ -242,6 +225,50 @@ impl<I: KeptImage> WrapperSeen<I> {
         }
     }
 
+    /// What is kept of the whole stream.
+    fn finish(self) -> Result<I, Memory>
+        requires begun { IsLibxlBegun I.kept self }
+        requires closed { IsClosed I.kind_of self }
+        ensures read { IfOk result (λ whole. (records : List LibxlRecord) → IsLibxlSeen I.is_of self records → I.is_of_stream whole (Wrapped records)) }
+        ensures finished { IfOk result (λ whole. I.finished whole) }
+    {
+        let WrapperSeen {
+            emulators,
+            image,
+            ..
+        } = self;
+        let Some(kept) = image else { unreachable!() };
+        kept.finish(emulators)
+    }
+}
+
+impl<I> WrapperSeen<I> {
+    ghost use Rattle.mig_libxl.specs.Seen.{IsLibxlSeen, IsLibxlBegun, IsClosed, TakesLibxl};
+
+    /// Takes the image behind LIBXC_CONTEXT.
+    fn take_image<S: Source>(
+        &mut self,
+        alloc: Global,
+        src: &mut S,
+    ) -> Result<(), Stop<(Place, Cause)>>
+    where
+        I: TakesImage<S>,
+        requires first { self.old.image ≡ None }
+        requires begun { IsLibxlBegun I.kept self.old }
+        ensures read { AgreesWithJudging (λ _ c. TakesLibxl I.is_of self.old self.new 1 c) (S.left src.old) (S.left src.new) inner_at result }
+        ensures begun { OnOk result (IsLibxlBegun I.kept self.new) }
+        ensures others { OnOk result ((self.new.records ≡ self.old.records) × (self.new.emulated ≡ self.old.emulated)) }
+        ensures faults { RisesOnReadFault (S.faults src.old) (S.faults src.new) result }
+    {
+        match I::take(alloc, src) {
+            Ok(kept) => {
+                self.image = Some(kept);
+                Ok(())
+            }
+            Err(answer) => Err(stop_for(answer)),
+        }
+    }
+
     /// Takes what stands behind a head: a body, or the image behind LIBXC_CONTEXT.
     fn take_content<S: Source>(
         &mut self,
@@ -249,6 +276,8 @@ impl<I: KeptImage> WrapperSeen<I> {
         src: &mut S,
         head: RecordHead,
     ) -> Result<(), Stop<(Place, Cause)>>
+    where
+        I: TakesImage<S>,
         requires may { MayFollow (behind_of I.kind_of self.old) head.kind head.len }
         requires begun { IsLibxlBegun I.kept self.old }
         ensures read { (records : List LibxlRecord) → IsLibxlSeen I.is_of self.old records → AgreesWithJudging (λ _ c. TakesLibxl I.is_of self.old self.new head.kind c) (S.left src.old) (S.left src.new) (libxl_content_at records head.kind head.len) result }
@@ -273,6 +302,8 @@ impl<I: KeptImage> WrapperSeen<I> {
         alloc: Global,
         src: &mut S,
     ) -> Result<bool, Stop<(Place, Cause)>>
+    where
+        I: TakesImage<S>,
         requires begun { IsLibxlBegun I.kept self.old }
         ensures read { (records : List LibxlRecord) → IsLibxlSeen I.is_of self.old records →
             AgreesWithJudging (λ over r. IsLibxlSeen I.is_of self.new (records ++ r ∷ []) × (over ≡ (r.type == 0))) (S.left src.old) (S.left src.new) (libxl_record_at records) result }
@@ -294,26 +325,10 @@ impl<I: KeptImage> WrapperSeen<I> {
         self.records += 1;
         Ok(head.kind == LIBXL_END)
     }
-
-    /// What is kept of the whole stream.
-    fn finish(self) -> Result<I, Memory>
-        requires begun { IsLibxlBegun I.kept self }
-        requires closed { IsClosed I.kind_of self }
-        ensures read { IfOk result (λ whole. (records : List LibxlRecord) → IsLibxlSeen I.is_of self records → I.is_of_stream whole (Wrapped records)) }
-        ensures finished { IfOk result (λ whole. I.finished whole) }
-    {
-        let WrapperSeen {
-            emulators,
-            image,
-            ..
-        } = self;
-        let Some(kept) = image else { unreachable!() };
-        kept.finish(emulators)
-    }
 }
 
 /// Takes records up to the one that ends the stream.
-fn take_records<S: Source, I: KeptImage>(
+fn take_records<S: Source, I: TakesImage<S>>(
     alloc: Global,
     src: &mut S,
 ) -> Result<WrapperSeen<I>, Stop<(Place, Cause)>>
@@ -342,7 +357,7 @@ fn take_header<S: Source>(src: &mut S) -> Result<(), Stop<Cause>>
 }
 
 /// Takes a libxl stream behind its ident.
-fn read_wrapped<S: Source, I: KeptImage>(
+fn read_wrapped<S: Source, I: TakesImage<S>>(
     alloc: Global,
     src: &mut S,
 ) -> Result<I, Stop<(Place, Cause)>>
@@ -361,7 +376,7 @@ fn read_wrapped<S: Source, I: KeptImage>(
 }
 
 /// Takes an image behind its first 8 bytes.
-fn read_bare<S: Source, I: KeptImage>(
+fn read_bare<S: Source, I: TakesImage<S>>(
     alloc: Global,
     src: &mut S,
     first: &[u8; 8],
@@ -380,7 +395,10 @@ fn read_bare<S: Source, I: KeptImage>(
 }
 
 /// Takes a stream of either form.
-fn read_form<S: Source, I: KeptImage>(alloc: Global, src: &mut S) -> Result<I, Stop<(Place, Cause)>>
+fn read_form<S: Source, I: TakesImage<S>>(
+    alloc: Global,
+    src: &mut S,
+) -> Result<I, Stop<(Place, Cause)>>
     ensures read { AgreesWithJudging I.is_of_stream (S.left src.old) (S.left src.new) stream_at result }
     ensures finished { IfOk result (λ kept. I.finished kept) }
     ensures faults { RisesOnReadFault (S.faults src.old) (S.faults src.new) result }
@@ -419,6 +437,22 @@ pub fn judge_any<S: Source>(alloc: Global, src: &mut S) -> Result<Tally, StreamA
 {
     match read_form::<S, Tally>(alloc, src) {
         Ok(tally) => Ok(tally),
+        Err(stop) => Err(answer_for(stop)),
+    }
+}
+
+/// Judges a stream of either form in a file, and leaves unread what `read_any` leaves. It answers the outline of the guest
+/// that was sent, and where in the file each frame's page stands: no page but a table's is read.
+pub fn place_any<'a, P: PageFile>(
+    alloc: Global,
+    src: &mut FileSource<'a, P>,
+) -> Result<PlacedGuest<'a, P>, StreamAnswer>
+    ensures read { AgreesWithJudging (IsPlacedStream P.bytes) (left_in P.bytes src.old) (left_in P.bytes src.new) stream_at (or_stop result) }
+    ensures formed { IfOk result (λ placed. IsFormed placed.outline) }
+    ensures faults { RisesOnReadFault (failed_in src.old) (failed_in src.new) (or_stop result) }
+{
+    match read_form::<FileSource<'a, P>, PlacedGuest<'a, P>>(alloc, src) {
+        Ok(placed) => Ok(placed),
         Err(stop) => Err(answer_for(stop)),
     }
 }

@@ -5,16 +5,20 @@ ghost use Rattle.std.specs.List.{list_any};
 ghost use Rattle.std.specs.FinMap as maps;
 ghost use Rattle.byteorder.specs.Endian.{little_bytes};
 ghost use Rattle.mig_bytes.specs.Bytes.{Puts};
+ghost use Rattle.mig_canon.specs.Elsewhere.{with_frames};
 ghost use Rattle.mig_guest.specs.Formed.{IsFormed, is_emulator_code};
+ghost use Rattle.mig_guest.specs.Frames.{FrameMap};
 ghost use Rattle.mig_records.specs.Records.{spelled};
+ghost use Rattle.mig_records_pages.specs.Copied.{Copies, CopyHasCause, IsPageBuffer};
 ghost use Rattle.mig_canon.specs.CanonStream.{has_emulators as some_emulators, is_of_converter as from_converter, emulator_record, emulator_cmp, NextEmulator, emulators_in_order, text_of_emulators, opening_text, wrapper_opening, wrapper_closing, canon_any};
 
 use mig_bytes::{Sink, WriteFailed, put_all, put_u32_le};
-use mig_canon::write_canon;
+use mig_canon::{write_canon, write_canon_with};
 use mig_guest::{EMULATOR_CONTEXT as CONTEXT, EMULATOR_PAIRS as PAIRS, Guest, PartKey};
 use mig_headers::LibxlHeader;
 use mig_libxl_form::{LIBXC_CONTEXT, LIBXL_END};
 use mig_records::{write_head, write_padding, write_record};
+use mig_records_pages::{CopyFailed, FrameSequence};
 
 /// Appends the header of a libxl stream, and the record that an image follows. `legacy` says that the stream is made from
 /// a legacy one.
@@ -197,4 +201,30 @@ pub fn write_any<K: Sink>(sink: &mut K, guest: &Guest) -> Result<(), WriteFailed
     write_opening(sink, guest)?;
     write_canon(sink, guest)?;
     write_closing(sink, guest)
+}
+
+/// Appends the canonical stream of a guest with frames that come from elsewhere, through a buffer of pages: all else is this
+/// guest's, whose own frames don't count. After an error some first bytes of the stream are appended, but not all.
+pub fn write_any_with<K: Sink, F: FrameSequence>(
+    sink: &mut K,
+    guest: &Guest,
+    frames: &F,
+    buffer: &mut [u8],
+) -> Result<(), CopyFailed>
+    requires formed { IsFormed guest.now }
+    requires room { IsPageBuffer buffer.old }
+    ensures bytes { (map : FrameMap) → F.frames_from frames.now 0 ≡ maps.entries map → F.told frames.now ≡ true → Copies (canon_any (with_frames guest.now map)) (K.written sink.old) (K.written sink.new) result }
+    ensures cause { CopyHasCause (K.faults sink.old) (K.faults sink.new) (F.fails frames.now) result }
+{
+    let Ok(()) = write_opening(sink, guest) else {
+        return Err(CopyFailed::Write);
+    };
+    match write_canon_with(sink, guest, frames, buffer) {
+        Ok(()) => {}
+        Err(failed) => return Err(failed),
+    }
+    match write_closing(sink, guest) {
+        Ok(()) => Ok(()),
+        Err(_) => Err(CopyFailed::Write),
+    }
 }

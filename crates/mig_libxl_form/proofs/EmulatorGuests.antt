@@ -87,7 +87,7 @@ puts_stay m (p ∷ ps) are key other =
 
 -- ---- the guest
 
-module _ (g : GuestOf) (e : EmulatorsOf) (plain : IsStreamedBare g) (are : AreEmulators e) where
+module _ (g : GuestOf) (e : EmulatorsOf) (are : AreEmulators e) where
   abbrev ps : List Part
   ps = emulator_parts e
 
@@ -98,19 +98,21 @@ module _ (g : GuestOf) (e : EmulatorsOf) (plain : IsStreamedBare g) (are : AreEm
   pub other_part : (key : PartKey) → is_emulator_code key.code ≡ false → maps.get (with_emulators g e).parts key ≡ maps.get g.parts key
   other_part = puts_stay g.parts ps said
 
-  hvm_formed : g.kind ≡ Hvm → IsFormed (with_emulators g e)
-  hvm_formed hvm = record {
-    top = plain.whole.formed.top;
-    frames = plain.whole.formed.frames;
-    parts = puts_each (IsPart g.kind (width_of g)) g.parts ps (All-weaker IsSaid (λ p. IsPart g.kind (width_of g) p.0 p.1) (λ p s. subst (λ k. IsPart k (width_of g) p.0 p.1) (sym hvm) (s.part (width_of g))) ps said) plain.whole.formed.parts;
-    policies = λ code one. subst (λ l. length l ≤ most_policy_entries) (sym (same_parts code (put_parts g.parts ps) g.parts (λ key of. other_part key (ap is_emulator_code of ∙ plain_policy code one)))) (plain.whole.formed.policies code one);
+  hvm_formed : IsFormed g → g.kind ≡ Hvm → IsFormed (with_emulators g e)
+  hvm_formed formed hvm = record {
+    top = formed.top;
+    frames = formed.frames;
+    parts = puts_each (IsPart g.kind (width_of g)) g.parts ps (All-weaker IsSaid (λ p. IsPart g.kind (width_of g) p.0 p.1) (λ p s. subst (λ k. IsPart k (width_of g) p.0 p.1) (sym hvm) (s.part (width_of g))) ps said) formed.parts;
+    policies = λ code one. subst (λ l. length l ≤ most_policy_entries) (sym (same_parts code (put_parts g.parts ps) g.parts (λ key of. other_part key (ap is_emulator_code of ∙ plain_policy code one)))) (formed.policies code one);
   }
+
+module _ (g : GuestOf) (e : EmulatorsOf) (plain : IsStreamedBare g) (are : AreEmulators e) where
 
   hvm_done : g.kind ≡ Hvm → IsStreamed (with_emulators g e)
   hvm_done hvm = record {
-    whole = record { formed = hvm_formed hvm; faultless = hvm_faultless g (put_parts g.parts ps) hvm (other_part context_key refl) plain.whole.faultless };
+    whole = record { formed = hvm_formed g e are plain.whole.formed hvm; faultless = hvm_faultless g (put_parts g.parts (emulator_parts e)) hvm (other_part g e are context_key refl) plain.whole.faultless };
     blank = ap (λ k. blank_of k (with_emulators g e)) hvm;
-    bytes = record { pages = plain.bytes.pages; parts = puts_each (λ key bytes. AreBytes bytes) g.parts ps (All-weaker IsSaid (λ p. AreBytes p.1) (λ p s. s.bytes) ps said) plain.bytes.parts };
+    bytes = record { pages = plain.bytes.pages; parts = puts_each (λ key bytes. AreBytes bytes) g.parts (emulator_parts e) (All-weaker IsSaid (λ p. AreBytes p.1) (λ p s. s.bytes) (emulator_parts e) (all_said e are)) plain.bytes.parts };
   }
 
 no_entries : {X : Type 0} → maps.entries (maps.empty {X = X} {R = part_cmp}) ≡ []
@@ -119,6 +121,13 @@ no_entries {X} = nil_from_length _ (sym (maps.len-entries (maps.empty {X = X} {R
 -- without emulators a guest stays
 pub none_set : (g : GuestOf) → with_emulators g no_emulators ≡ g
 none_set g = λ i. record g { parts = put_parts g.parts (map store_part (no_entries {X = PairMap} i) ++ no_entries {X = List ℕ} i) }
+
+pub guest_formed : (g : GuestOf) (e : EmulatorsOf) → IsFormed g → AreEmulators e → (g.kind ≡ Pv → e ≡ no_emulators) → IsFormed (with_emulators g e)
+guest_formed g e formed are alone = by_kind g.kind refl
+  where
+    by_kind : (k : Kind) → g.kind ≡ k → IsFormed (with_emulators g e)
+    by_kind Hvm is = hvm_formed g e are formed is
+    by_kind Pv is = subst IsFormed (sym (ap (with_emulators g) (alone is) ∙ none_set g)) formed
 
 pub guest_done : (g : GuestOf) (e : EmulatorsOf) → IsStreamedBare g → AreEmulators e → (g.kind ≡ Pv → e ≡ no_emulators) → IsStreamed (with_emulators g e)
 guest_done g e plain are alone = by_kind g.kind refl

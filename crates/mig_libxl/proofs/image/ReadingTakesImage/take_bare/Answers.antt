@@ -1,5 +1,5 @@
 use Rattle.mig_libxl.proofs.Images.{readings_told, bare_streamed}
-use Rattle.mig_libxl.proofs.image.ReadingKeptImage.take_bare.Goals as goal
+use Rattle.mig_libxl.proofs.image.ReadingTakesImage.take_bare.Goals as goal
 
 pub returns-clause-read : goal.returns-clause-read
 returns-clause-read g c = readings_told _ _ _ c.read_image_rest.ensures.read
