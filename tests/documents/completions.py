@@ -47,7 +47,8 @@ def commands(name):
     """Each command of a program, and what is said of it."""
     if name == resolve.CHECK:
         return {word.strip("[]"): "judge a legacy stream" for word in CHECK_USAGE.split()[2:]}
-    return {command.words.split()[0]: "write " + command.output if command.output != NOTHING else "tell " + command.report for command in COMMANDS}
+    return {command.words.split()[0]: "tell " + command.report if command.output == NOTHING else "write " + command.output
+            for command in COMMANDS}
 
 
 # ---- bash
@@ -231,8 +232,8 @@ def fish_quoted(text):
 def fish_option(action):
     """The words that offer an option, without the verbs that have it."""
     names = " ".join("-l " + name[2:] if name.startswith("--") else "-s " + name[1:] for name in action.option_strings)
-    taken = "" if action.nargs == 0 else " -r" if action.metavar in FILES else " -x -a '(__fish_complete_directories)'" if action.metavar in FOLDERS else " -x"
-    return "%s%s -d %s" % (names, taken, fish_quoted(said(action)))
+    taken = " -r" if action.metavar in FILES else " -x -a '(__fish_complete_directories)'" if action.metavar in FOLDERS else " -x"
+    return "%s%s -d %s" % (names, taken * (action.nargs != 0), fish_quoted(said(action)))
 
 
 def fish_options():
@@ -243,7 +244,8 @@ def fish_options():
             of_verbs.setdefault(fish_option(action), []).append(name)
         if all(map(takes_nothing_known, positionals(words))):
             of_verbs.setdefault("-f", []).append(name)
-    return "\n".join("complete -c mig -n '__fish_seen_subcommand_from %s' %s" % (" ".join(names), option) for option, names in of_verbs.items())
+    return "\n".join("complete -c mig -n '__fish_seen_subcommand_from %s' %s" % (" ".join(names), option)
+                     for option, names in of_verbs.items())
 
 
 def fish():
@@ -254,7 +256,8 @@ def fish():
 
 
 def fish_of(name):
-    lines = ("complete -c %s -n __fish_use_subcommand -a %s -d %s" % (name, command, fish_quoted(says)) for command, says in commands(name).items())
+    lines = ("complete -c %s -n __fish_use_subcommand -a %s -d %s" % (name, command, fish_quoted(says))
+             for command, says in commands(name).items())
     return FISH_OF_PROGRAM.format(name=name, by_input=BY_INPUT, made=MADE, commands="\n".join(lines))
 
 
@@ -262,5 +265,6 @@ def files():
     """The text of each file by its path."""
     found = {"completions/bash/mig": bash(), "completions/zsh/_mig": zsh(), "completions/fish/mig.fish": fish()}
     for name in resolve.NAMES:
-        found.update({"completions/bash/" + name: bash_of(name), "completions/zsh/_" + name: zsh_of(name), "completions/fish/%s.fish" % name: fish_of(name)})
+        found.update({"completions/bash/" + name: bash_of(name), "completions/zsh/_" + name: zsh_of(name),
+                      "completions/fish/%s.fish" % name: fish_of(name)})
     return found
