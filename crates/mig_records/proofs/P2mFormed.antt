@@ -17,7 +17,7 @@ use Rattle.mig_guest.proofs.KeyedMaps.{tied}
 
 -- ---- the greater of two frame numbers
 
-above : (m n : ℕ) → (m ≤ greater m n) × (n ≤ greater m n)
+pub above : (m n : ℕ) → (m ≤ greater m n) × (n ≤ greater m n)
 above m n = by_case (nat_le m n) refl
   where
     by_case : (b : Bool) → nat_le m n ≡ b → (m ≤ cond b n m) × (n ≤ cond b n m)

@@ -1,11 +1,12 @@
 -- The bodies of X86_PV_INFO and X86_PV_P2M_FRAMES without fault are those that are spelled so; what is wrong with the body
 -- of a vCPU's record.
-use Rattle.mig_records.proofs.Common.{◌≡◌, ℕ, ◌+◌, ◌*◌, ◌≤◌, ◌↔◌, Bool, true, false, not, List, [], ◌∷◌, ◌++◌, length, take, drop, nat_le, None, refl, sym, ap, ◌∙◌, arith, take-append-drop, length-append, length-drop, length-take-le, ◌==◌, ◌&&◌, drop-append-le, little_number, little_from-append, eqb-true, eq-eqb, le-leb, le-ltb, and_parts, not-false, rows_fine, no_fault, Cause, Option, first_fault, fault_of_body, HasBodyLength, small_number, gdt_ents, PartCode, VcpuBasic, VcpuMsrs, leb-true, nat_lt, BadLength, Pv32, BadPvInfo, P2mStart, most_gdt_entries, vcpu_limit, option_or, common_steps, VcpuId, GdtEnts, VcpuExtended, VcpuXsave, fault_of_length, length_rows, IsPvInfo, fault_of_pv_info, p2m_count, IsP2m, fault_of_p2m, is_vcpu, fault_of_vcpu, is_vcpu_type, fault_of_vcpu_record}
+use Rattle.mig_records.proofs.Common.{◌≡◌, ℕ, ◌+◌, ◌*◌, ◌≤◌, ◌↔◌, Bool, true, false, not, List, [], ◌∷◌, length, take, drop, nat_le, None, refl, sym, ap, ◌∙◌, arith, take-append-drop, length-append, length-drop, length-take-le, ◌==◌, ◌&&◌, little_number, eqb-true, eq-eqb, le-leb, le-ltb, and_parts, not-false, rows_fine, no_fault, Cause, Option, first_fault, fault_of_body, HasBodyLength, small_number, gdt_ents, PartCode, VcpuBasic, VcpuMsrs, leb-true, nat_lt, BadLength, Pv32, BadPvInfo, P2mStart, most_gdt_entries, vcpu_limit, option_or, common_steps, VcpuId, GdtEnts, VcpuExtended, VcpuXsave, fault_of_length, length_rows, IsPvInfo, fault_of_pv_info, p2m_count, IsP2m, fault_of_p2m, is_vcpu, fault_of_vcpu, is_vcpu_type, fault_of_vcpu_record}
 use Rattle.std.proofs.lemmas.List.{drop_at}
 use Rattle.std.specs.Prelude.{◌||◌, ◌-◌, ◌%◌}
 use Rattle.mig_bytes.specs.Fields.{le32}
 use Rattle.mig_headers.specs.declared.record_type.RecordType.TheVariants as types
 use Rattle.mig_records.proofs.Rows.{has_allowed}
+use Rattle.mig_headers.proofs.ContextTexts.{in32}
 
 -- ---- X86_PV_INFO
 
@@ -21,10 +22,6 @@ info_is_spelled body len = (spelled_info body len, (λ is. ap fault_of_pv_info i
 
 -- ---- X86_PV_P2M_FRAMES
 
-at_front : (front bytes : List ℕ) (at : ℕ) → at + 4 ≤ length front → le32 (front ++ bytes) at ≡ le32 front at
-unfolding le32
-at_front front bytes at le = ap (little_number 4) (drop-append-le at front bytes (omega (arith, le))) ∙ little_from-append 4 (drop at front) bytes (omega (arith, length-drop at front, le))
-
 -- a test that isn't passed, of two of which one is met
 other_fails : (b c : Bool) → (b && not c) ≡ false → b ≡ true → c ≡ true
 other_fails true c none is = not-false c none
@@ -38,7 +35,7 @@ module _ (body : List ℕ) (long : 8 ≤ length body) where
   last = le32 body 4
 
   in_front : (at : ℕ) → at + 4 ≤ 8 → le32 (take 8 body) at ≡ le32 body at
-  in_front at le = sym (at_front (take 8 body) (drop 8 body) at (omega (arith, le, length-take-le 8 body long))) ∙ ap (λ b. le32 b at) (take-append-drop 8 body)
+  in_front at le = sym (in32 (take 8 body) (drop 8 body) at (omega (arith, le, length-take-le 8 body long))) ∙ ap (λ b. le32 b at) (take-append-drop 8 body)
 
   spelled_p2m : fault_of_p2m body ≡ None → IsP2m last (drop 8 body) body
   spelled_p2m fine =
@@ -56,7 +53,7 @@ module _ (body : List ℕ) (long : 8 ≤ length body) where
 
   p2m_spelled : IsP2m last (drop 8 body) body → fault_of_p2m body ≡ None
   p2m_spelled is =
-      let zero : first ≡ 0 = ap (λ b. le32 b 0) is.whole ∙ at_front is.front (drop 8 body) 0 (omega (arith, is.front_len)) ∙ is.first_is in
+      let zero : first ≡ 0 = ap (λ b. le32 b 0) is.whole ∙ in32 is.front (drop 8 body) 0 (omega (arith, is.front_len)) ∙ is.first_is in
       let size : length body ≡ 8 + 8 * p2m_count first last = omega (arith, length-drop 8 body, long, is.listed, ap (λ n. 8 * p2m_count n last) zero) in
       no_fault ((nat_le first last && not (length body == 8 + 8 * p2m_count first last), BadLength (length body)) ∷ (not (first == 0), P2mStart first) ∷ [])
       (never (nat_le first last) _ (eq-eqb _ _ size), (ap not (eq-eqb first 0 zero), tt))
@@ -73,7 +70,7 @@ pub list_is : (last : ℕ) (frames body : List ℕ) → IsP2m last frames body �
 list_is last frames body is =
     let size : length body ≡ 8 + length frames = ap length is.whole ∙ length-append is.front frames ∙ ap (λ n. n + length frames) is.front_len in (
       omega (arith, size),
-      ap (λ l. le32 l 4) is.whole ∙ at_front is.front frames 4 (omega (arith, is.front_len)) ∙ is.last_is,
+      ap (λ l. le32 l 4) is.whole ∙ in32 is.front frames 4 (omega (arith, is.front_len)) ∙ is.last_is,
       ap (drop 8) is.whole ∙ drop_at is.front frames 8 is.front_len,
     )
 

@@ -16,7 +16,7 @@ all_rows _ = search (rules, arith, low_name)
 
 -- ---- tables of which no key is refused
 
-no_key_fault : (code : PartCode) (l : Layout) → ((key1 key2 : ℕ) → fault_of_key code key1 key2 ≡ None) → (n : ℕ) (bytes : List ℕ) → fault_of_entries code l n bytes ≡ None
+pub no_key_fault : (code : PartCode) (l : Layout) → ((key1 key2 : ℕ) → fault_of_key code key1 key2 ≡ None) → (n : ℕ) (bytes : List ℕ) → fault_of_entries code l n bytes ≡ None
 no_key_fault code l none zero bytes = refl
 no_key_fault code l none (suc n) bytes = neither_some _ _ (none _ _) (no_key_fault code l none n (drop (entry_width l) bytes))
 

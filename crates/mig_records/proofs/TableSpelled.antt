@@ -1,6 +1,7 @@
 -- A table without fault is one that is spelled as entries, whatever its layout.
 use Rattle.mig_records.proofs.Common.{◌≡◌, ◌≤◌, ℕ, zero, suc, ◌+◌, ◌*◌, ◌/◌, Bool, true, false, cond, List, [], ◌∷◌, ◌++◌, length, take, drop, not, nat_eq, Option, None, refl, sym, ap, subst, ◌∙◌, arith, length-append, length-drop, length-take-le, take-append-drop, drop-drop, drop_at, not-false, not_from_true, eqb-true, eq-eqb, take_at, little_number, little_from-append, Cause, BadLength, first_fault, both_none, neither_some, rows_fine, no_fault, PartCode, PartKey, code_number, Part, Layout, fault_of_key, spelled_key, key_in, entry_width, front_width, AreTableEntries, IsTableFront, IsTable, entry_part, entry_parts, fault_of_entries, entry_count, parts_of_table, fault_of_table, AreWidths, mul-suc, mul-div_cancel_left}
 use Rattle.mig_bytes.specs.Fields.{le32}
+use Rattle.mig_headers.proofs.ContextTexts.{in32}
 
 -- a number reads its own bytes alone
 pub number_first : (n : ℕ) (bytes rest : List ℕ) → length bytes ≡ n → little_number n (bytes ++ rest) ≡ little_number n bytes
@@ -114,17 +115,13 @@ module _ (code : PartCode) (l : Layout) where
 
 -- ---- tables
 
-front_is : (front bytes : List ℕ) → length front ≡ 8 → le32 (front ++ bytes) 0 ≡ le32 front 0
-unfolding le32
-front_is front bytes size = little_from-append 4 front bytes (omega (arith, size))
-
 module _ (code : PartCode) (l : Layout) (widths : AreWidths l) (body : List ℕ) where
   -- the front of a body, with the number that is counted
   front_of : (b : Bool) → l.counted ≡ b → front_width l ≤ length body → IsTableFront b (take (front_width l) body) (entry_count l body)
   front_of true is long =
       let n : front_width l ≡ 8 = ap (λ b. cond b 8 0) is in
       let size : length (take (front_width l) body) ≡ 8 = length-take-le (front_width l) body long ∙ n in
-      (size, sym (front_is (take (front_width l) body) (drop (front_width l) body) size) ∙ ap (λ x. le32 x 0) (take-append-drop (front_width l) body) ∙ sym (ap (λ b. cond b (le32 body 0) (length body / entry_width l)) is))
+      (size, sym (in32 (take (front_width l) body) (drop (front_width l) body) 0 (omega (arith, size))) ∙ ap (λ x. le32 x 0) (take-append-drop (front_width l) body) ∙ sym (ap (λ b. cond b (le32 body 0) (length body / entry_width l)) is))
   front_of false is long = ap (λ b. take (cond b 8 0) body) is
 
   pub table_forth : (ps : List Part) → fault_of_table code l body ≡ None → parts_of_table code l body ≡ ps → IsTable code l body ps
@@ -148,7 +145,7 @@ module _ (code : PartCode) (l : Layout) (widths : AreWidths l) (body : List ℕ)
 
   count_of : (b : Bool) → l.counted ≡ b → (front bytes : List ℕ) (n : ℕ) → body ≡ front ++ bytes → IsTableFront b front n → length bytes ≡ entry_width l * n → entry_count l body ≡ n
   count_of true is front bytes n whole h size =
-      ap (λ b. cond b (le32 body 0) (length body / entry_width l)) is ∙ ap (λ x. le32 x 0) whole ∙ front_is front bytes h.0 ∙ h.1
+      ap (λ b. cond b (le32 body 0) (length body / entry_width l)) is ∙ ap (λ x. le32 x 0) whole ∙ in32 front bytes 0 (omega (arith, h.0)) ∙ h.1
   count_of false is front bytes n whole h size =
       ap (λ b. cond b (le32 body 0) (length body / entry_width l)) is ∙ ap (λ m. m / entry_width l) (ap length whole ∙ ap (λ x. length (x ++ bytes)) h ∙ size)
       ∙ mul-div_cancel_left n (omega (arith, widths.some))

@@ -153,18 +153,7 @@ line_put line Accepts Refuses Says e status said answers same idle rises own lat
 -- a command that puts a line alone was carried out so, whatever the output is, where that is as it was
 pub beside : {Summary : Type 0} (line : Summary → List ℕ) (Accepts : List ℕ → Type 0) (Refuses : Refusing) (Says : (List ℕ → Type 0) → List ℕ → Option (List ℕ) → Type 0) (input : InputEffect) (out report : SinkEffect) (status : Status) → IsUntouched out
     → CarriedOut (reports_line line Accepts Refuses Says) (effects input unreached report) status → CarriedOut (reports_line line Accepts Refuses Says) (effects input out report) status
-beside line Accepts Refuses Says input out report status idle c = record {
-  said = c.said;
-  known = c.known;
-  kept = λ _. idle.untouched;
-  read = c.read;
-  write = c.write;
-  line = c.line;
-  own_line = c.own_line;
-  out_faults = unchanged status _ _ idle.quiet;
-  report_faults = c.report_faults;
-  besides = tt;
-}
+beside line Accepts Refuses Says input out report status idle c = assumption (unchanged status _ _ idle.quiet)
 
 pub untouched_sink : IsUntouched unreached
 untouched_sink = record { untouched = tt; quiet = refl }
