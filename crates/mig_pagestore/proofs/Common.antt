@@ -6,9 +6,9 @@ pub use Rattle.std.specs.Option.{ghost_name_of, option_and_then, option_copied, 
 pub use Rattle.std.specs.Ordering.{eq_by_cmp, is_lt, nat_cmp}
 pub use Rattle.mig_pagestore_index.specs.Indexed.{ValueMap}
 pub use Rattle.mig_pagestore.specs.FrameLending.{repaged, with_page}
-pub use Rattle.mig_pagestore.specs.FrameView.{AreCells, IsCell, IsLed, Leads, LieInRun, Moved, SameBut, cell_place, cell_type, frame_at, frames_seen, is_place, page_at_place, place_of_page, place_or_0, whole_page}
+pub use Rattle.mig_pagestore.specs.FrameView.{AreCells, CountsZeros, IsCell, IsLed, Leads, LieInRun, Moved, SameBut, cell_mark, cell_place, cell_type, frame_at, frames_seen, is_place, is_zeros, mark_of_page, mark_or_0, page_at_place, page_of_mark, place_of_mark, place_of_page, place_or_0, whole_page, zeros_in}
 pub use Rattle.mig_pagestore.specs.Frames.{FrameMap, FrameOf, Framed, IsFrame, IsRun, IsSized, frame_page}
-pub use Rattle.mig_pagestore.specs.Packed.{IsArena, Placed, all_pages}
+pub use Rattle.mig_pagestore.specs.Packed.{IsArena, IsFound, Placed, all_pages}
 pub use Rattle.mig_pagetypes.specs.PageTypes.{number_of, type_has_data, type_of, type_or_none}
 pub use Rattle.mig_pagetypes.specs.declared.page_type.PageType.{PageType}
 pub use Rattle.core.proofs.alloc.Calls.{Al, Answer-typed, Answered, Gives, Gives-Gives, Gives-goes, Goes-blank, Takes, Takes-gives, Takes-goes, answers, at_gives, at_takes, seen}
@@ -29,3 +29,4 @@ pub use denote.Triple.Call.{calls_at, calls_at_last}
 pub use denote.Triple.Entry.{alive}
 pub use mir.MapTy.{inst_fn}
 pub use types.ByLocal.{get_tag, lands_as, lands_last}
+pub use Rattle.std.specs.Cmp.{nat_cmp_total}

@@ -1,9 +1,7 @@
 -- How many cells have a page of zeros, as cells change.
-use Rattle.mig_pagestore.proofs.Common.{◌≡◌, ◌≢◌, ℕ, ◌+◌, ◌-◌, ◌<◌, ◌≤◌, Bool, true, false, cond, refl, sym, ap, ◌∙◌, inl, inr, arith, nat_cmp, get-empty, cases_eq, ValueMap}
-use Rattle.std.specs.Cmp.{nat_cmp_total}
+use Rattle.mig_pagestore.proofs.Common.{◌≡◌, ◌≢◌, ℕ, ◌+◌, ◌-◌, ◌<◌, ◌≤◌, Bool, true, false, cond, refl, sym, ap, ◌∙◌, inl, inr, arith, nat_cmp, get-empty, cases_eq, ValueMap, nat_cmp_total, is_zeros, zeros_in, mark_or_0, mark_of_page, CountsZeros}
 use Rattle.std.specs.FinMap as maps
 use Rattle.std.specs.FinSet as sets
-use Rattle.mig_pagestore.specs.FrameView.{is_zeros, zeros_in, mark_or_0, mark_of_page, CountsZeros}
 use Rattle.mig_pagestore.proofs.Marks.{small_not_zeros}
 use Rattle.mig_pagestore_index.proofs.Gathered.{ties, differs}
 

@@ -1,9 +1,8 @@
 -- A page behind the others that is filled, and comes to be that of a frame.
-use Rattle.mig_pagestore.proofs.Common.{◌≡◌, ℕ, zero, suc, ◌+◌, ◌-◌, ◌<◌, ◌≤◌, ◌^◌, true, false, cond, inl, inr, List, [], ◌∷◌, ◌++◌, length, set, slice_get, Some, refl, sym, ap, ◌∙◌, subst, arith, length-append, ValueMap, PageType, type_has_data, Placed, IsCell, IsLed, SameBut, is_place, place_of_page, set_back, cell_type}
+use Rattle.mig_pagestore.proofs.Common.{◌≡◌, ℕ, zero, suc, ◌+◌, ◌-◌, ◌<◌, ◌≤◌, ◌^◌, true, false, cond, inl, inr, List, [], ◌∷◌, ◌++◌, length, set, slice_get, Some, refl, sym, ap, ◌∙◌, subst, arith, length-append, ValueMap, PageType, type_has_data, Placed, IsCell, IsLed, SameBut, is_place, place_of_page, set_back, cell_type, cell_mark, is_zeros, place_of_mark, zeros_in, page_of_mark}
 use Rattle.mig_pagestore.proofs.FrameCells.{some_place}
 use Rattle.std.specs.FinMap as maps
 use Rattle.mig_pagestore.specs.Filling.{StaysLast, GivesBack, PlacesLast}
-use Rattle.mig_pagestore.specs.FrameView.{cell_mark, is_zeros, place_of_mark, zeros_in, page_of_mark}
 use Rattle.mig_pagestore.proofs.Marks.{zeros_some, place_small, no_zeros_small, zeros_no_place, page_zeros}
 use Rattle.mig_pagestore.proofs.Packing.{get_right}
 use Rattle.mig_pagestore.proofs.Led.{place_in_range, led_put, led_without, led_over, same_over, here_over, place_is, length_behind, led_behind, here_behind, same_behind}

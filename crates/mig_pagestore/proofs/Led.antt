@@ -1,7 +1,6 @@
 -- An index of cells that leads to pages, and what a new cell or page does to it.
-use Rattle.mig_pagestore.proofs.Common.{◌≡◌, ◌≢◌, ℕ, ◌+◌, ◌-◌, ◌<◌, ◌≤◌, ◌^◌, List, [], ◌∷◌, ◌++◌, length, set, Option, Some, None, refl, sym, ap, ◌∙◌, subst, inl, inr, arith, length-append, length-set, option_map, cases_eq, ValueMap, PageType, IsCell, AreCells, frame_at, whole_page, place_or_0, place_of_page, Leads, IsLed, SameBut, Moved, inserted, inserted_other, removed, removed_other, cell_type, cell_place, page_at_place}
+use Rattle.mig_pagestore.proofs.Common.{◌≡◌, ◌≢◌, ℕ, ◌+◌, ◌-◌, ◌<◌, ◌≤◌, ◌^◌, List, [], ◌∷◌, ◌++◌, length, set, Option, Some, None, refl, sym, ap, ◌∙◌, subst, inl, inr, arith, length-append, length-set, option_map, cases_eq, ValueMap, PageType, IsCell, AreCells, frame_at, whole_page, place_or_0, place_of_page, Leads, IsLed, SameBut, Moved, inserted, inserted_other, removed, removed_other, cell_type, cell_place, page_at_place, cell_mark, page_of_mark, place_of_mark, mark_or_0, mark_of_page, CountsZeros}
 use Rattle.std.specs.FinMap as maps
-use Rattle.mig_pagestore.specs.FrameView.{cell_mark, page_of_mark, place_of_mark, mark_or_0, mark_of_page, CountsZeros}
 use Rattle.mig_pagestore.proofs.Marks.{marked, placed_zeros, place_small, page_same, page_small, page_placed}
 use Rattle.mig_pagestore.proofs.Counts.{count_kept}
 use Rattle.mig_pagestore.proofs.FrameCells.{cell_some, cell_moved}

@@ -1,6 +1,5 @@
 -- What a map whose values are read otherwise finds.
-use Rattle.mig_pagestore.proofs.Common.{◌≡◌, ℕ, suc, true, false, cond, ◌&&◌, T, List, [], ◌∷◌, length, map, Some, refl, sym, ap, ◌∙◌, subst, nat_cmp, eq_by_cmp, is_lt, option_map, FinMap, nat_cmp-IsAntisymmetric, same_map, find, is_sorted, get-entries, get-from_entries, get-from_sorted, entries-from_sorted, entries_sorted, len-entries, get-empty, is_inserted, inserted, inserted_other, is_removed, removed, removed_other}
-use Rattle.std.specs.Cmp.{nat_cmp_total}
+use Rattle.mig_pagestore.proofs.Common.{◌≡◌, ℕ, suc, true, false, cond, ◌&&◌, T, List, [], ◌∷◌, length, map, Some, refl, sym, ap, ◌∙◌, subst, nat_cmp, eq_by_cmp, is_lt, option_map, FinMap, nat_cmp-IsAntisymmetric, same_map, find, is_sorted, get-entries, get-from_entries, get-from_sorted, entries-from_sorted, entries_sorted, len-entries, get-empty, is_inserted, inserted, inserted_other, is_removed, removed, removed_other, nat_cmp_total}
 use Rattle.std.specs.FinMap as maps
 use Rattle.std.specs.FinMap.Entries.{below_all}
 use Rattle.mig_pagestore.specs.Mapped.{mapped}

@@ -1,6 +1,5 @@
 -- What the mark of a frame says: no page, a page of zeros, or a place.
-use Rattle.mig_pagestore.proofs.Common.{◌≡◌, ℕ, zero, suc, ◌+◌, ◌-◌, ◌<◌, ◌^◌, Bool, true, false, cond, List, length, Option, Some, None, is_some, refl, sym, ap, ◌∙◌, arith, eqb-true, eq-eqb, ne_eqb, is_place}
-use Rattle.std.proofs.lemmas.List.{length-replicate}
+use Rattle.mig_pagestore.proofs.Common.{◌≡◌, ℕ, zero, suc, ◌+◌, ◌-◌, ◌<◌, ◌^◌, Bool, true, false, cond, List, length, Option, Some, None, is_some, refl, sym, ap, ◌∙◌, arith, eqb-true, eq-eqb, ne_eqb, is_place, length-replicate}
 use Rattle.mig_pagestore.specs.FrameView.{zero_bytes, is_zeros, place_of_mark, zeros_in, page_at_place, page_of_mark, cell_mark, mark_or_0, place_or_0}
 
 zeros_are : (m : ℕ) → is_zeros m ≡ true → m ≡ 2251799813685248

@@ -1,6 +1,5 @@
 -- What the frames that are seen tell.
-use Rattle.mig_pagestore.proofs.Common.{◌≡◌, ◌≢◌, ℕ, cond, ◌+◌, ◌<◌, ◌≤◌, ◌-◌, List, [], ◌∷◌, ◌++◌, length, length-append, set, Option, Some, None, IsSome, is_some, true, false, inl, inr, Bor, refl, sym, ap, ◌∙◌, subst, arith, nat_cmp, option_map, option_and_then, option_copied, get-empty, cases_eq, same_map, nat_cmp-IsAntisymmetric, ValueMap, FrameOf, Framed, IsFrame, IsSized, frame_page, whole_page, is_place, IsCell, frame_at, frames_seen, place_or_0, place_of_page, IsLed, SameBut, repaged, with_page, PageType, type_has_data, pfn_limit, is_inserted, inserted, inserted_other, is_removed, removed, removed_other, cell_type, page_at_place}
-use Rattle.std.specs.Cmp.{nat_cmp_total}
+use Rattle.mig_pagestore.proofs.Common.{◌≡◌, ◌≢◌, ℕ, cond, ◌+◌, ◌<◌, ◌≤◌, ◌-◌, List, [], ◌∷◌, ◌++◌, length, length-append, set, Option, Some, None, IsSome, is_some, true, false, inl, inr, Bor, refl, sym, ap, ◌∙◌, subst, arith, nat_cmp, option_map, option_and_then, option_copied, get-empty, cases_eq, same_map, nat_cmp-IsAntisymmetric, ValueMap, FrameOf, Framed, IsFrame, IsSized, frame_page, whole_page, is_place, IsCell, frame_at, frames_seen, place_or_0, place_of_page, IsLed, SameBut, repaged, with_page, PageType, type_has_data, pfn_limit, is_inserted, inserted, inserted_other, is_removed, removed, removed_other, cell_type, page_at_place, nat_cmp_total}
 use Rattle.std.specs.FinMap as maps
 use Rattle.mig_pagestore.specs.FrameView.{zero_bytes, cell_mark, is_zeros, zeros_in, page_of_mark, mark_or_0, Moved, mark_of_page, CountsZeros}
 use Rattle.mig_pagestore.proofs.Marks.{small_not_zeros, page_of_cell, placed_zeros, zeros_no_place, place_is_mark}

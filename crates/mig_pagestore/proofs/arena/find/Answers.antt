@@ -1,6 +1,5 @@
-use Rattle.mig_pagestore.proofs.Common.{◌+◌, ◌-◌, ◌<◌, sym, subst, arith}
+use Rattle.mig_pagestore.proofs.Common.{◌+◌, ◌-◌, ◌<◌, sym, subst, arith, IsFound}
 use Rattle.std.proofs.lemmas.Nat.{one_shl}
-use Rattle.mig_pagestore.specs.Packed.{IsFound}
 use Rattle.mig_pagestore.proofs.Sizes.{found_large, found_small, power_over}
 use Rattle.mig_pagestore.proofs.arena.find.Goals as goal
 

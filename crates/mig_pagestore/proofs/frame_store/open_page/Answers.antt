@@ -1,5 +1,4 @@
-use Rattle.mig_pagestore.proofs.Common.{sym, ap, ◌∙◌, arith, length, length-append, [], ◌∷◌}
-use Rattle.mig_pagestore.specs.FrameView.{is_zeros}
+use Rattle.mig_pagestore.proofs.Common.{sym, ap, ◌∙◌, arith, length, length-append, [], ◌∷◌, is_zeros}
 use Rattle.mig_pagestore.proofs.Marks.{zeros_is, else_is, place_is_mark}
 use Rattle.mig_pagestore.proofs.Counts.{counts_some}
 use Rattle.mig_pagestore.proofs.Seen.{opened_place, opened_mark, opened_led, opened_count, opened_frames}

@@ -1,5 +1,4 @@
-use Rattle.mig_pagestore.proofs.Common.{arith, Some, refl, sym, ap, ◌∙◌, option_copied}
-use Rattle.mig_pagestore.specs.FrameView.{page_of_mark, place_of_mark}
+use Rattle.mig_pagestore.proofs.Common.{arith, Some, refl, sym, ap, ◌∙◌, option_copied, page_of_mark, place_of_mark}
 use Rattle.mig_pagestore.proofs.Led.{led_put, led_without, led_over, led_behind, here_behind, same_behind, place_is, length_behind}
 use Rattle.mig_pagestore.proofs.Marks.{place_small, zeros_is, no_zeros_small, zeros_no_place, page_zeros}
 use Rattle.mig_pagestore.proofs.frame_store.set_page.Goals as goal

@@ -1,6 +1,5 @@
-use Rattle.mig_pagestore.proofs.Common.{◌≤◌, ◌-◌, ◌+◌, Some, refl, sym, ap, ◌∙◌, subst, arith, ValueMap, Framed, FrameOf, IsCell, IsLed, frames_seen}
+use Rattle.mig_pagestore.proofs.Common.{◌≤◌, ◌-◌, ◌+◌, Some, refl, sym, ap, ◌∙◌, subst, arith, ValueMap, Framed, FrameOf, IsCell, IsLed, frames_seen, page_of_mark, place_of_mark, zeros_in, CountsZeros}
 use Rattle.std.specs.FinMap as maps
-use Rattle.mig_pagestore.specs.FrameView.{page_of_mark, place_of_mark, zeros_in, CountsZeros}
 use Rattle.mig_pagestore.proofs.FrameCells.{cell_some}
 use Rattle.mig_pagestore.proofs.FilledPages.{filled_cell, comes_last}
 use Rattle.mig_pagestore.proofs.Marks.{mark_parts, mark_place}

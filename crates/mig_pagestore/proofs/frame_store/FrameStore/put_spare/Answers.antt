@@ -1,6 +1,5 @@
-use Rattle.mig_pagestore.proofs.Common.{IsSome, ◌-◌, ◌+◌, sym, ap, ◌∙◌, subst, arith, option_copied, ValueMap, Framed, FrameOf, frame_page, IsCell, IsLed, frames_seen}
+use Rattle.mig_pagestore.proofs.Common.{IsSome, ◌-◌, ◌+◌, sym, ap, ◌∙◌, subst, arith, option_copied, ValueMap, Framed, FrameOf, frame_page, IsCell, IsLed, frames_seen, page_of_mark, mark_or_0, zeros_in, CountsZeros}
 use Rattle.std.specs.FinMap as maps
-use Rattle.mig_pagestore.specs.FrameView.{page_of_mark, mark_or_0, zeros_in, CountsZeros}
 use Rattle.mig_pagestore.proofs.FrameCells.{cell_some}
 use Rattle.mig_pagestore.proofs.Marks.{mark_parts}
 use Rattle.mig_pagestore.proofs.Counts.{counts_most}

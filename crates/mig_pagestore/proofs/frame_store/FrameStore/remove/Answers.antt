@@ -1,5 +1,4 @@
-use Rattle.mig_pagestore.proofs.Common.{◌-◌, sym, ap, subst, arith, ValueMap, IsLed}
-use Rattle.mig_pagestore.specs.FrameView.{zeros_in, CountsZeros}
+use Rattle.mig_pagestore.proofs.Common.{◌-◌, sym, ap, subst, arith, ValueMap, IsLed, zeros_in, CountsZeros}
 use Rattle.mig_pagestore.proofs.Counts.{counts_most}
 use Rattle.mig_pagestore.proofs.Seen.{count_out}
 use Rattle.mig_pagestore.proofs.frame_store.FrameStore.remove.Goals as goal
