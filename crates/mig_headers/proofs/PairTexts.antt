@@ -15,7 +15,7 @@ use Rattle.mig_headers.specs.Pairs.{Pair, IsPair, AreCanonicalPairs, CanonicalPa
 abbrev is_zero : ℕ → Bool
 is_zero b = nat_eq b 0
 
-abbrev key_cmp : List ℕ → List ℕ → Ordering
+abbrev pub key_cmp : List ℕ → List ℕ → Ordering
 key_cmp = slice_cmp nat_cmp
 
 -- pairs whose keys are above this one
@@ -45,7 +45,7 @@ are_texts : (bytes : List ℕ) → AllByRecursion IsText (slice_split is_zero by
 are_texts [] = (tt, tt)
 are_texts (b ∷ bs) = one_more b bs (are_texts bs)
 
-not_zero : (b : ℕ) → 0 < b → is_zero b ≡ false
+pub not_zero : (b : ℕ) → 0 < b → is_zero b ≡ false
 not_zero b h = grind (arith, common_steps)
 
 key_byte : (b : ℕ) → is_key_byte b ≡ true → is_zero b ≡ false
@@ -79,7 +79,7 @@ below_all last key (k ∷ keys) less h = (nat_list_cmp_total.trans last key k le
 
 -- ---- texts make pairs
 
-joined : (key value rest : List ℕ) → (key ++ 0 ∷ (value ++ 0 ∷ [])) ++ rest ≡ key ++ 0 ∷ (value ++ 0 ∷ rest)
+pub joined : (key value rest : List ℕ) → (key ++ 0 ∷ (value ++ 0 ∷ [])) ++ rest ≡ key ++ 0 ∷ (value ++ 0 ∷ rest)
 joined key value rest = append_assoc key (0 ∷ (value ++ 0 ∷ [])) rest ∙ ap (λ t. key ++ 0 ∷ t) (append_assoc value (0 ∷ []) rest)
 
 no_bytes : (rest : List ℕ) → nat_eq (length rest) 0 ≡ true → rest ≡ []

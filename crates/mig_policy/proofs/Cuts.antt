@@ -1,12 +1,7 @@
 -- Bytes are texts that zeros end, and a rest; so cut, they are the texts between zeros.
 use Rattle.mig_policy.proofs.Common.{◌≡◌, ◌<◌, ℕ, zero, suc, ◌+◌, ◌%◌, Bool, true, false, not, List, [], ◌∷◌, ◌++◌, length, nat_eq, nat_lt, Some, None, refl, sym, ap, ◌∙◌, arith, append_assoc, ◌||◌, ◌⊎◌, if◌then◌else◌, inl, inr, All, flat_map, common_steps, slice_split_at, slice_split_none, All-weaker, All-nil, All-cons, All-head, texts_in, HasNoZero, ended, torn_at, All-tail}
-use Rattle.mig_policy.proofs.TextSteps.{torn_cons}
-
-abbrev pub is_zero : ℕ → Bool
-is_zero b = nat_eq b 0
-
-pub not_zero : (b : ℕ) → 0 < b → is_zero b ≡ false
-not_zero b h = grind (arith, common_steps)
+use Rattle.mig_policy.proofs.TextSteps.{torn_cons, is_zero}
+use Rattle.mig_headers.proofs.PairTexts.{not_zero}
 
 pub no_zero : (t : List ℕ) → HasNoZero t → All (λ b. is_zero b ≡ false) t
 no_zero t h = All-weaker (λ b. 0 < b) (λ b. is_zero b ≡ false) not_zero t h
@@ -73,10 +68,6 @@ torn_whole odd at [] rest = let e : at ≡ at + 0 = omega arith in ap (λ n. if 
 torn_whole odd at (t ∷ ts) rest =
     torn_cons odd at t (ts ++ rest ∷ []) (more ts rest) ∙ torn_whole (not odd) (at + length t + 1) ts rest
     ∙ ap (λ n. if odd_after (not odd) ts || nat_lt 0 (length rest) then Some n else None) (sums at (length t) (length (flat_map ended ts)) ∙ ap (λ n. at + n) (len_ended t ts))
-
-one : Bool → ℕ
-one true = 1
-one false = 0
 
 next_odd : (n : ℕ) → nat_eq (n % 2) 1 ≡ nat_eq ((1 + suc n) % 2) 1
 next_odd n = let e : n % 2 ≡ (1 + suc n) % 2 = omega arith in ap (λ k. nat_eq k 1) e

@@ -4,9 +4,10 @@ use Rattle.mig_headers.specs.declared.fault.Cause.{Cause}
 use Rattle.mig_headers.specs.declared.fault.Cause.TheVariants.{BadPairs, BadKey}
 use Rattle.mig_policy.specs.PairFaults.{IsBadKeyAt, IsFirstFault, FirstFaultIsComputed, first_of, pairs_fault}
 use Rattle.mig_policy.specs.PairMaps.{pairs_in, PairsAreRead}
-use Rattle.mig_policy.proofs.TextSteps.{torn_cons, pairs_cons, some_texts, bad_here}
-use Rattle.mig_policy.proofs.Cuts.{is_zero, no_zero, cut_of, cut_is}
+use Rattle.mig_policy.proofs.TextSteps.{torn_cons, pairs_cons, some_texts, bad_here, is_zero}
+use Rattle.mig_policy.proofs.Cuts.{no_zero, cut_of, cut_is}
 use Rattle.mig_policy.proofs.FaultLaws.{torn_forth, torn_back}
+use Rattle.mig_headers.proofs.PairTexts.{joined}
 
 abbrev IsKeyByte : ℕ → Type 0
 IsKeyByte b = is_key_byte b ≡ true
@@ -84,9 +85,6 @@ good n m some e = grind (arith, common_steps)
 
 good_key : (p : Pair) → IsPair p → is_bad p.key ≡ false
 good_key p is = good (length p.key) (fine_len p.key) is.some (fine_all p.key (recursion_from_All IsKeyByte p.key is.key))
-
-joined : (key value rest : List ℕ) → (key ++ 0 ∷ (value ++ 0 ∷ [])) ++ rest ≡ key ++ 0 ∷ (value ++ 0 ∷ rest)
-joined key value rest = append_assoc key (0 ∷ (value ++ 0 ∷ [])) rest ∙ ap (λ t. key ++ 0 ∷ t) (append_assoc value (0 ∷ []) rest)
 
 pub cut_pair : (p : Pair) (rest : List ℕ) → IsPair p → texts_in (text_of_pair p ++ rest) ≡ p.key ∷ p.value ∷ texts_in rest
 cut_pair p rest is =

@@ -1,5 +1,5 @@
 -- The text of a map of pairs is canonical, and says the map.
-use Rattle.mig_policy.proofs.Common.{◌≡◌, ℕ, List, [], ◌∷◌, ◌++◌, map, length, ◌<◌, refl, sym, ap, subst, ◌∙◌, append_assoc, append-nil, arith, common_steps, T, All, AllByRecursion, flat_map, Ordering, Less, Equal, Greater, nat_cmp, is_lt, slice_cmp, nat_list_cmp_total, All-from_recursion, recursion_from_All, entries-insert, entries_sorted, same_entries_map, put, is_sorted, Pair, IsPair, AreCanonicalPairs, AreRising, text_of_pair, PairMap, IsOfPairs, put_pairs, pair_of, text_of_entry, text_of_map, pairs_in, map_of, merged, fold, ordering_reverse, by_order, below_all, TextsAreCanonical, MapsAreOfPairs, SomeBytesAreSomePairs}
+use Rattle.mig_policy.proofs.Common.{◌≡◌, ℕ, List, [], ◌∷◌, ◌++◌, map, length, ◌<◌, refl, sym, ap, subst, ◌∙◌, append_assoc, append-nil, arith, common_steps, T, All, AllByRecursion, flat_map, Ordering, Less, Equal, Greater, is_lt, nat_list_cmp_total, All-from_recursion, recursion_from_All, entries-insert, entries_sorted, same_entries_map, put, is_sorted, Pair, IsPair, AreCanonicalPairs, AreRising, text_of_pair, PairMap, IsOfPairs, put_pairs, pair_of, text_of_entry, text_of_map, pairs_in, map_of, merged, fold, ordering_reverse, by_order, below_all, TextsAreCanonical, MapsAreOfPairs, SomeBytesAreSomePairs}
 use Rattle.mig_guest.proofs.PartCursor.{both_of}
 use Rattle.std.specs.Prelude.{None}
 use Rattle.std.specs.List.Sorted.{IsStrictlySortedBy}
@@ -7,12 +7,10 @@ use Rattle.mig_policy.specs.PairFaults.{pairs_fault}
 use Rattle.mig_policy.proofs.PairTrees.{no_entries}
 use Rattle.mig_policy.proofs.KeyLaws.{spelled_read, pairs_are_read}
 use Rattle.std.specs.FinMap as maps
+use Rattle.mig_headers.proofs.PairTexts.{key_cmp}
 
 abbrev pub Entry : Type 0
 Entry = List ℕ × List ℕ
-
-abbrev key_cmp : List ℕ → List ℕ → Ordering
-key_cmp = slice_cmp nat_cmp
 
 -- the same on lists of entries in order
 abbrev put_entry : List Entry → Pair → List Entry

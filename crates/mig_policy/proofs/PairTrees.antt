@@ -132,9 +132,6 @@ seen_text es m order view = sym (ap (flat_map text_of_entry) (seen_entries es or
 pub one_more : (m n all : PairMap) (key value rest behind : List ℕ) → pairs_in rest ≡ record { key = key; value = value } ∷ pairs_in behind → n ≡ maps.insert m key value → put_pairs m (pairs_in rest) ≡ all → put_pairs n (pairs_in behind) ≡ all
 one_more m n all key value rest behind first is same = ap (λ o. put_pairs o (pairs_in behind)) is ∙ sym (ap (put_pairs m) first) ∙ same
 
-pub none_set : (m : PairMap) (all : List Pair) → AreSetBefore m m all all
-none_set m all = record { done = []; whole = refl; set = refl }
-
 pub one_more_set : (before m n : PairMap) (key value rest behind : List ℕ) (all : List Pair) → pairs_in rest ≡ record { key = key; value = value } ∷ pairs_in behind → n ≡ maps.insert m key value → AreSetBefore before m (pairs_in rest) all → AreSetBefore before n (pairs_in behind) all
 one_more_set before m n key value rest behind all first is h =
     let p : Pair = record { key = key; value = value } in

@@ -2,7 +2,7 @@
 use Rattle.mig_policy.proofs.Common.{◌≡◌, ℕ, ◌+◌, ◌-◌, ◌<◌, ◌≤◌, Bool, true, false, not, List, [], ◌∷◌, ◌++◌, eqb-true, length, drop, nat_eq, nat_lt, cond, Option, Some, None, refl, sym, ap, ◌∙◌, arith, ◌||◌, common_steps, slice_split_none, fails_before_first, prefix_len-le-length, texts_in, torn_at, bad_key_at, fine_len, pairs_of, take, IfNone, position, position_or_len, slice_split_first, length-slice_split, split_at_first, passes_at_first}
 use Rattle.mig_policy.specs.PairMaps.{pairs_in}
 
-abbrev is_zero : ℕ → Bool
+abbrev pub is_zero : ℕ → Bool
 is_zero b = nat_eq b 0
 
 -- what holds anyway holds where there is no value
