@@ -37,6 +37,6 @@ pub use mig_pagestore::{Fill, FrameStore};
 pub use part_code::{
     EMULATOR_CONTEXT, EMULATOR_PAIRS, MOST_GDT_ENTRIES, MOST_PAIRS, PartCode, is_fixed,
 };
-pub use part_key::PartKey;
+pub use part_key::{CONTEXT_KEY, P2M_KEY, PartKey};
 pub use parts::Parts;
 pub use table::Entry;

@@ -33,7 +33,7 @@ pub use laws::{
 pub use legacy_fault::{LegacyCause, LegacyPlace};
 pub use record_type::{
     END, HVM_CONTEXT, MOST_BODY, MOST_POLICY_ENTRIES, PAGE_DATA, RecordType, STATIC_DATA_END,
-    VCPU_LIMIT, VERIFY, X86_PV_INFO, X86_PV_VCPU_BASIC, X86_PV_VCPU_EXTENDED, X86_PV_VCPU_MSRS,
-    X86_PV_VCPU_XSAVE, is_optional,
+    VCPU_LIMIT, VERIFY, X86_PV_INFO, X86_PV_P2M_FRAMES, X86_PV_VCPU_BASIC, X86_PV_VCPU_EXTENDED,
+    X86_PV_VCPU_MSRS, X86_PV_VCPU_XSAVE, is_optional,
 };
 pub use unsound::Unsound;

@@ -50,6 +50,8 @@ pub const PAGE_DATA: u32 = RecordType::PageData as u32;
 
 pub const X86_PV_INFO: u32 = RecordType::X86PvInfo as u32;
 
+pub const X86_PV_P2M_FRAMES: u32 = RecordType::X86PvP2mFrames as u32;
+
 pub const X86_PV_VCPU_BASIC: u32 = RecordType::X86PvVcpuBasic as u32;
 
 pub const X86_PV_VCPU_EXTENDED: u32 = RecordType::X86PvVcpuExtended as u32;

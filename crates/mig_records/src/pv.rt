@@ -5,20 +5,13 @@ ghost use Rattle.mig_records.specs.Faults.{fault_of_length};
 
 use crate::read::body_fault;
 use mig_bytes::{Memory, u32_le};
-use mig_guest::{Guest, PartCode, PartKey};
+use mig_guest::{Guest, P2M_KEY, PartCode};
 use mig_headers::{
     Cause, X86_PV_VCPU_BASIC, X86_PV_VCPU_EXTENDED, X86_PV_VCPU_MSRS, X86_PV_VCPU_XSAVE,
 };
 
 /// A P2M frame holds the machine frames of so many frame numbers.
 const IN_P2M_FRAME: u64 = 512;
-
-/// The list of P2M frames.
-const P2M_KEY: PartKey = PartKey {
-    code: 3,
-    key1: 0,
-    key2: 0,
-};
 
 /// What is wrong with the body of an X86_PV_INFO: `Pv32` for a guest of width 4, `BadPvInfo` for any other but one of
 /// width 8 and 4 levels of page tables.
