@@ -1,5 +1,5 @@
 -- An accepted guest is whole: each content that is spelled keeps it well formed, and its END asks for the rest.
-use Rattle.mig_restore_form.proofs.Common.{◌≡◌, ℕ, zero, suc, ◌<◌, ◌≤◌, Bool, true, false, List, [], ◌∷◌, ◌++◌, length, Option, Some, is_some, refl, sym, ap, subst, ◌∙◌, arith, eqb-true, none-some, same_Some, All, common_steps, AreBytes, le32, record_row_of, type_number, type_of_number, Kind, Pv, Hvm, RecordType, numbers_are_inverse, pfn_limit, word_has_data, type_has_data, PageType, IsInside, GuestOf, words, IsInOrder, shape_of, bodies_are_spelled, is_shaped, Opening, type_in_guest, put_entry, put_entries, put_content, IsBegun, GrewByRecord, FrameEntry, Content, StreamRecord, types_of, is_verified, is_ended, Sets, Lists, IsPage, IsEntry, AreEntries, HasContent, IsComplete, Follows, Accepted, Spells, All-head, All-tail, X86PvP2mFrames, Notab, bytes_back, blank, optional, ends, pages, sets, info, p2m_frames, static_end, verify, no_part, one_more, most_body, HasNoEmulators, IsGoodWord, bytes_front, IsOfBytes}
+use Rattle.mig_restore_form.proofs.Common.{◌≡◌, ℕ, zero, suc, ◌<◌, ◌≤◌, Bool, true, false, List, [], ◌∷◌, ◌++◌, length, Option, Some, is_some, refl, sym, ap, subst, ◌∙◌, arith, eqb-true, none-some, same_Some, All, common_steps, AreBytes, le32, record_row_of, type_number, Kind, Pv, Hvm, RecordType, numbers_are_inverse, pfn_limit, word_has_data, type_has_data, PageType, IsInside, GuestOf, words, IsInOrder, shape_of, bodies_are_spelled, is_shaped, Opening, type_in_guest, put_entry, put_entries, put_content, IsBegun, GrewByRecord, FrameEntry, Content, StreamRecord, types_of, is_verified, is_ended, Sets, Lists, IsPage, IsEntry, AreEntries, HasContent, IsComplete, Follows, Accepted, Spells, All-head, All-tail, X86PvP2mFrames, Notab, bytes_back, blank, optional, ends, pages, sets, info, p2m_frames, static_end, verify, no_part, one_more, most_body, HasNoEmulators, IsGoodWord, bytes_front, IsOfBytes, same_number}
 use Rattle.mig_order.specs.Order.IsInOrder.{optional as is_optional, ordered as is_ordered}
 use Rattle.mig_records.proofs.Reading.{AreOctets}
 use Rattle.mig_records.proofs.Small.{small_parts}
@@ -68,13 +68,10 @@ entries_grow kind top (w ∷ ws) bytes es all good (page, rest, e, others, cut, 
 
 -- ---- contents
 
-one_type : (this other : RecordType) → type_number this ≡ type_number other → this ≡ other
-one_type this other is = same_Some this other (sym (numbers_are_inverse.type_of this) ∙ ap type_of_number is ∙ numbers_are_inverse.type_of other)
-
 -- a record of a type that may stand here is one of this kind of guest
 of_this_kind : (o : Opening) (types : List ℕ) (this : RecordType) → IsInOrder o.version o.kind types (type_number this) → (record_row_of this).of_kind o.kind ≡ true
 of_this_kind o types this (is_optional above) = absurd (none-some this (sym (no_type (type_number this) above) ∙ numbers_are_inverse.type_of this))
-of_this_kind o types this (is_ordered other is supported of_kind keeps) = subst (λ (t : RecordType). (record_row_of t).of_kind o.kind ≡ true) (sym (one_type this other is)) of_kind
+of_this_kind o types this (is_ordered other is supported of_kind keeps) = subst (λ (t : RecordType). (record_row_of t).of_kind o.kind ≡ true) (sym (same_number this other is)) of_kind
 
 content_grows : (g : GuestOf) (kind : Kind) (top type : ℕ) (body : List ℕ) (c : Content) → kind ≡ g.kind → top ≡ g.top → AreBytes body → length body ≤ most_body
     → ((this : RecordType) → type ≡ type_number this → (record_row_of this).of_kind g.kind ≡ true) → HasContent kind top type body c → GrewByRecord g (put_content g c)

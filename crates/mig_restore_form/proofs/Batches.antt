@@ -1,5 +1,5 @@
 -- The body of a PAGE_DATA record: what judging lets pass is spelled as the format says, and what is spelled so passes.
-use Rattle.mig_restore_form.proofs.Common.{zero, suc, ◌≡◌, ℕ, ◌+◌, ◌*◌, ◌<◌, ◌↔◌, List, [], ◌∷◌, ◌++◌, length, Bool, true, false, cond, nat_eq, not, Option, Some, None, refl, sym, ap, subst, ◌∙◌, arith, append_assoc, length-append, Result, Ok, Err, eqb-true, eqb-false, eq-eqb, ne_eqb, le-ltb, not-false, common_steps, le32, le64, ◌>>=◌, part, tried, Judged, Passes, Faulty, part_whole, both_pass, same_passes, then_passes, tried_none, Truncated, Kind, word_pfn, word_has_data, words, FrameEntry, Content, type_in_word, entries_at, pages_at, IsPage, Pv, Hvm, PageType, type_in_guest, EachEntry, IsWithin, FrameOf, IsEntry, AreEntries, IsBatch, rows_fine, no_fault, type_of, type_has_data, Cause, Frames, Notab, get_or, count_by, option_or, both_none, BadLength, word_type, some_has_data, fault_of_count, fault_of_words, count_rows, data_len_of, fault_of_data, fault_of_list, words_at, entry_at, with_places, fault_of_level, fault_of_page, list_at, stopped, then_reads, level_of, type_or_none, entry, length-map-range_with_len}
+use Rattle.mig_restore_form.proofs.Common.{zero, suc, ◌≡◌, ℕ, ◌+◌, ◌*◌, ◌<◌, ◌↔◌, List, [], ◌∷◌, ◌++◌, length, Bool, true, false, cond, nat_eq, not, Option, Some, None, refl, sym, ap, subst, ◌∙◌, arith, append_assoc, length-append, Result, Ok, Err, eqb-true, eqb-false, eq-eqb, ne_eqb, le-ltb, not-false, common_steps, le32, le64, ◌>>=◌, part, tried, Judged, Passes, Faulty, part_whole, both_pass, same_passes, then_passes, tried_none, Truncated, Kind, word_pfn, word_has_data, words, FrameEntry, Content, type_in_word, entries_at, pages_at, IsPage, Pv, Hvm, PageType, type_in_guest, EachEntry, IsWithin, FrameOf, IsEntry, AreEntries, IsBatch, rows_fine, no_fault, type_of, type_has_data, Cause, Frames, Notab, get_or, count_by, option_or, both_none, BadLength, word_type, some_has_data, fault_of_count, fault_of_words, count_rows, data_len_of, fault_of_data, fault_of_list, words_at, entry_at, with_places, fault_of_level, fault_of_page, list_at, stopped, then_reads, level_of, type_or_none, entry, length-map-range_with_len, is_type_of}
 use Rattle.mig_bytes.specs.Judged.{Matches, AgreesWithJudging, each}
 use Rattle.mig_pvtables.proofs.Within.{table_within}
 use Rattle.mig_bytes.specs.declared.stop.Stop.{Stop}
@@ -7,6 +7,7 @@ use Rattle.std.specs.Result.{IsErrAnd}
 use Rattle.mig_records.proofs.WordFaults.{none_is_wrong, nothing_found}
 use Rattle.mig_restore_form.proofs.Parts.{taken}
 use Rattle.mig_bytes.specs.declared.stop.Stop.TheVariants.{Refused, ReadFault, Memory}
+use Rattle.mig_pagetypes.specs.declared.page_type.PageType.TheVariants.{Broken, Xalloc}
 
 -- the tests of a word and of its type agree
 pub carries : (w : ℕ) → word_has_data w ≡ type_has_data (type_in_word w)
@@ -24,6 +25,14 @@ place_at place (w ∷ ws) zero lt = ap (λ n. (n, w)) (let e : place ≡ place +
 place_at place (w ∷ ws) (suc k) lt = place_at (place + 1) ws k (omega (arith, lt)) ∙ ap (λ n. (n, get_or ws k 0)) (let e : place + 1 + k ≡ place + suc k = omega arith in e)
 
 -- ---- the page of a word
+
+-- a type of a guest of this kind stays
+pub type_stays : (kind : Kind) (t : PageType) → is_type_of kind t ≡ true → type_in_guest kind t ≡ t
+type_stays Pv t is = refl
+type_stays Hvm Notab is = refl
+type_stays Hvm Broken is = refl
+type_stays Hvm Xalloc is = refl
+type_stays Hvm _ is = absurd (cc)
 
 -- types without data are no tables
 no_level : (kind : Kind) (t : PageType) → type_has_data t ≡ false → level_of (type_in_guest kind t) ≡ None

@@ -1,6 +1,6 @@
 -- The body of a record, type by type: what judging lets pass is spelled as the format says; what is spelled so passes,
 -- and its length is one that its type allows.
-use Rattle.mig_restore_form.proofs.Common.{◌≡◌, ◌≢◌, ℕ, ◌≤◌, ◌^◌, List, [], ◌++◌, length, drop, length-append, Bool, true, false, Option, Some, None, refl, sym, ap, subst, ◌∙◌, arith, eqb-true, eq-eqb, le32, Judged, part, Passes, both_pass, part_passes, same_passes, part_whole, then_passes, record_row_of, type_number, type_of_number, is_optional, Cause, Truncated, Kind, RecordType, numbers_are_inverse, type_allows, IsInOrder, ordered, PartCode, shape_of, has_shape, fault_of_body, parts_of_body, IsBody, bodies_are_spelled, is_shaped, fault_of_pv_info, fault_of_p2m, IsP2m, Part, FrameEntry, Content, Nothing, Frames, Sets, Lists, said_at, lists_of, plain_at, entries_at, pages_at, code_of_type, coded_at, typed_at, body_at, HasContent, IsBatch, said_goes, said_passes, leb-true, P2mFrames, End, PageData, X86PvInfo, X86PvP2mFrames, Verify, le-leb, slice_get_past, record_types, sets_at, info_at, p2m_at, StaticDataEnd}
+use Rattle.mig_restore_form.proofs.Common.{◌≡◌, ◌≢◌, ℕ, ◌≤◌, ◌^◌, List, [], ◌++◌, length, drop, length-append, Bool, true, false, Option, Some, None, refl, sym, ap, subst, ◌∙◌, arith, eqb-true, eq-eqb, le32, Judged, part, Passes, both_pass, part_passes, same_passes, part_whole, then_passes, record_row_of, type_number, type_of_number, is_optional, Cause, Truncated, Kind, RecordType, numbers_are_inverse, type_allows, IsInOrder, ordered, PartCode, shape_of, has_shape, fault_of_body, parts_of_body, IsBody, bodies_are_spelled, is_shaped, fault_of_pv_info, fault_of_p2m, IsP2m, Part, FrameEntry, Content, Nothing, Frames, Sets, Lists, said_at, lists_of, plain_at, entries_at, pages_at, code_of_type, coded_at, typed_at, body_at, HasContent, IsBatch, said_goes, said_passes, leb-true, P2mFrames, End, PageData, X86PvInfo, X86PvP2mFrames, Verify, le-leb, slice_get_past, record_types, sets_at, info_at, p2m_at, StaticDataEnd, mandatory}
 use Rattle.mig_order.specs.Order.{optional}
 use Rattle.mig_records.proofs.PvLaws.{info_is_spelled, p2m_is_spelled, list_is}
 use Rattle.mig_restore_form.specs.Spelled.HasContent.{optional as has_optional, ends as has_ends, pages as has_pages, sets as has_sets, info as has_info, p2m_frames as has_lists, static_end as has_static_end, verify as has_verify}
@@ -104,10 +104,6 @@ module _ (kind : Kind) (top : ℕ) (this : RecordType) (len : ℕ) (i : List ℕ
       by : (o : Option PartCode) → code_of_type this ≡ o → Says kind top (type_number this) len i c rest
       by None is = marked this s allowed is h
       by (Some code) is = shaped code is (has_shape (shape_of code)) refl
-
-mandatory : (this : RecordType) → is_optional (type_number this) ≡ false
-mandatory End = refl
-mandatory _ = refl
 
 -- the body of an optional record, and of a type of the table
 pub optional_at : (kind : Kind) (top : ℕ) (type len : ℕ) (i : List ℕ) → 2 ^ 31 ≤ type → body_at kind top type len i ≡ plain_at Truncated (λ _. Nothing) len i

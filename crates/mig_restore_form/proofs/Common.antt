@@ -34,7 +34,7 @@ pub use Rattle.mig_guest.specs.declared.part_code.PartCode.TheVariants.{P2mFrame
 pub use Rattle.mig_guest.specs.declared.part_key.PartKey.{PartKey}
 pub use Rattle.mig_headers.proofs.FirstFaults.{both_none, neither_some, no_fault, rows_fine}
 pub use Rattle.mig_headers.proofs.HeaderLaws.{domain_is_spelled, image_is_spelled, unless_ok}
-pub use Rattle.mig_headers.proofs.RecordNumbers.{numbers_are_inverse}
+pub use Rattle.mig_headers.proofs.RecordNumbers.{numbers_are_inverse, mandatory, same_number}
 pub use Rattle.mig_headers.specs.Headers.{IsDomainHeader, IsImageHeader, fault_of_domain, fault_of_image, fault_of_marker, kind_of_number, unless_faulty}
 pub use Rattle.mig_headers.specs.RecordTypes.{is_optional, most_body, record_row_of, record_types, type_number, type_of_number}
 pub use Rattle.mig_headers.specs.declared.fault.Cause.{Cause}

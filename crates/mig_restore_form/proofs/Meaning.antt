@@ -1,7 +1,8 @@
 -- What one more entry, or one more record, means; and that of each frame number and of each part the last decides.
-use Rattle.mig_restore_form.proofs.Common.{is_ended, types_of, map-append, ◌||◌, ◌≡◌, ℕ, List, [], ◌∷◌, ◌++◌, Bool, true, false, cond, not, nat_eq, Option, Some, None, refl, sym, ap, ◌∙◌, arith, unwrap_or, common_steps, Kind, PageType, GuestOf, part_cmp, Part, PartMap, put_part, put_parts, leb-false, nat_le, ◌≤◌, ◌≢◌, ◌⊎◌, inl, inr, subst, All, p2m_key, set_p2m, word_pfn, type_in_word, FrameEntry, StreamRecord, Content, Nothing, Frames, Sets, Lists, Checks, code_number, type_in_guest, put_entry, put_entries, put_content, empty_guest, entries_in, entries_of, frame_in, last_bytes, parts_say_of_part, policy_says_of_part, says_of_part, leb-true, All-nil, All-cons, option_or, nat_cmp, eq_by_cmp, nat_cmp_total, PartKey, listed_over, is_policy, FrameMap, FrameOf, framed, tied, part_total, part_exact, blank, list_any-append, option_and_then, fold, Contains, list_any, replace_code, le_refl, All-append, Contains-append_left, Contains-append_right, fold-append, greater}
+use Rattle.mig_restore_form.proofs.Common.{is_ended, types_of, map-append, ◌||◌, ◌≡◌, ℕ, List, [], ◌∷◌, ◌++◌, Bool, true, false, cond, not, nat_eq, Option, Some, None, refl, sym, ap, ◌∙◌, arith, unwrap_or, common_steps, Kind, PageType, GuestOf, part_cmp, Part, PartMap, put_part, put_parts, nat_le, ◌≤◌, ◌≢◌, ◌⊎◌, inl, inr, subst, All, p2m_key, set_p2m, word_pfn, type_in_word, FrameEntry, StreamRecord, Content, Nothing, Frames, Sets, Lists, Checks, code_number, type_in_guest, put_entry, put_entries, put_content, empty_guest, entries_in, entries_of, frame_in, last_bytes, parts_say_of_part, policy_says_of_part, says_of_part, All-nil, All-cons, option_or, nat_cmp, eq_by_cmp, nat_cmp_total, PartKey, listed_over, is_policy, FrameMap, FrameOf, framed, tied, part_total, part_exact, blank, list_any-append, option_and_then, fold, Contains, list_any, replace_code, le_refl, All-append, Contains-append_left, Contains-append_right, fold-append, greater}
 use Rattle.mig_restore_form.specs.Mean.{ends_in, ends_of, put_entries_by, put_record, last_entry, same_key, last_said, sent, mean}
 use Rattle.std.specs.FinMap as fin
+use Rattle.mig_records.proofs.P2mFormed.{above}
 
 pub one_more_entry : (put : Kind → FrameMap → FrameEntry → FrameMap) (g h k : GuestOf) (es : List FrameEntry) (e : FrameEntry) → h ≡ record g { frames = put_entries_by put g.kind g.frames es } → k ≡ record h { frames = put h.kind h.frames e }
     → k ≡ record g { frames = put_entries_by put g.kind g.frames (es ++ e ∷ []) }
@@ -119,13 +120,6 @@ last_content_is kind records q other =
     folded_parts (empty_guest kind) records q other ∙ ap (unwrap_or (last_said q records)) (fin.get-empty part_cmp q)
 
 -- ---- of the ends of lists the greatest decides
-
-above : (m n : ℕ) → (m ≤ greater m n) × (n ≤ greater m n)
-above m n = by (nat_le m n) refl
-  where
-    by : (b : Bool) → nat_le m n ≡ b → (m ≤ cond b n m) × (n ≤ cond b n m)
-    by true is = (leb-true m n is, le_refl n)
-    by false is = (le_refl m, omega (arith, leb-false m n is))
 
 greater_is : (m n : ℕ) → (greater m n ≡ m) ⊎ (greater m n ≡ n)
 greater_is m n = elim (nat_le m n) as (λ b. (cond b n m ≡ m) ⊎ (cond b n m ≡ n)) [ true ↦ inr refl | false ↦ inl refl ]
