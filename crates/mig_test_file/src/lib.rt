@@ -1,8 +1,9 @@
 //! Tests of files that are read by place, and of frames whose pages stay in one.
 //!
 //! Responsible for: each public call of mig_file and mig_placed at its work; frames that are written out of a file, in any
-//! order of their places, as they are out of memory, also where a page ends with the file; and what is written where a read or
-//! a write fails. They stand in a crate of their own, since a crate with tests is proved twice.
+//! order of their places, as they are out of memory, also where a page ends with the file; what is written where a read or
+//! a write fails; and the places that mig_placing notes of an image. They stand in a crate of their own, since a crate with
+//! tests is proved twice.
 #![tactic(auto)]
 
 #[cfg(test)]
@@ -13,5 +14,7 @@ mod frames;
 mod images;
 #[cfg(test)]
 mod made;
+#[cfg(test)]
+mod placing;
 #[cfg(test)]
 mod sources;

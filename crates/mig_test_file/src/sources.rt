@@ -1,4 +1,5 @@
-use mig_bytes::{Got, ReadFailed, Source, skip, take_exact};
+use crate::made::{FailingFile, PAGES, place};
+use mig_bytes::{Failed, Got, ReadFailed, Source, skip, take_exact};
 use mig_file::{FileSource, MemFile, PageFile};
 use std::test::Fail;
 
@@ -46,5 +47,21 @@ fn a_source_ends_with_its_file(rt: HostRuntime) -> Result<(), Fail> {
     let mut buf = [0; 2];
     let mut src = FileSource::new(&file, 3);
     assert_eq!(rt; (src.read(&mut buf), src.pass(1)), (Ok(0), Ok(0)));
+    Ok(())
+}
+
+// A file isn't asked for no bytes: not where none are asked for, and not where none are left.
+#[test]
+fn a_file_isnt_asked_for_nothing(rt: HostRuntime) -> Result<(), Fail> {
+    let mut buf = [0; 2];
+    let file = FailingFile::new(rt.alloc(), place(1))?;
+    let mut src = FileSource::new(&file, place(1));
+    assert_eq!(rt;
+        (src.read(&mut []), src.read(&mut buf)),
+        (Ok(0), Err(Failed))
+    );
+    let ended = FailingFile::new(rt.alloc(), place(PAGES))?;
+    let mut src = FileSource::new(&ended, place(PAGES));
+    assert_eq!(rt; (src.read(&mut buf), src.rest()), (Ok(0), 0));
     Ok(())
 }
