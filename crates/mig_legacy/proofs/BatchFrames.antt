@@ -44,7 +44,7 @@ module _ {X Y V : Type 0} (R : X → Y → Type 0) (Q : V → LegacyContent → 
   cut_stops (Some i) b Memory h = tt
 
 -- an HVM guest's entries are judged without a top
-same_entries : (kind : Kind) (top : ℕ) (ws list : List ℕ) → kind ≡ Hvm → top ≡ 0 → list ≡ page_data_words ws → each (entry_at kind top) (with_places 0 list) ≡ each (entry_at Hvm 0) (with_places 0 (page_data_words ws))
+pub same_entries : (kind : Kind) (top : ℕ) (ws list : List ℕ) → kind ≡ Hvm → top ≡ 0 → list ≡ page_data_words ws → each (entry_at kind top) (with_places 0 list) ≡ each (entry_at Hvm 0) (with_places 0 (page_data_words ws))
 same_entries kind top ws list hvm zero is = ap (λ k. each (entry_at k top) (with_places 0 list)) hvm ∙ ap (λ n. each (entry_at Hvm n) (with_places 0 list)) zero ∙ ap (λ l. each (entry_at Hvm 0) (with_places 0 l)) is
 
 module _ {X : Type 0} (put : EntryStep) (g h : GuestOf) (n : ℕ) (hvm : g.kind ≡ Hvm) (zero : g.top ≡ 0) (a b c : Option (List ℕ)) (words : X) (items : X → List ℕ) (list : List ℕ) (is : list ≡ page_data_words (items words)) where

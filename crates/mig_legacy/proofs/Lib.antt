@@ -14,6 +14,7 @@ pub mod WordLaws
 pub mod Common
 pub mod Growth
 pub mod Chunked
+pub mod Noted
 pub mod Parts
 pub mod Batches
 pub mod Bodies

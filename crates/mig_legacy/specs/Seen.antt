@@ -5,9 +5,10 @@ use Rattle.mig_bytes.specs.declared.stop.Stop.{Stop}
 use Rattle.mig_bytes.specs.declared.stop.Stop.TheVariants.{Refused, ReadFault, Memory}
 use Rattle.mig_headers.specs.declared.fault.Cause.{Cause}
 use Rattle.mig_legacy.specs.Common.{Hvm, LegacyCause, Truncated, FrameMap, GuestOf, sent, put_content_by, put_record, EmulatorsOf, put_libxl_content, emulators_of, AreEmulators}
-use Rattle.mig_restore_form.specs.Mean.{IsBegun as IsGuestBegun}
+use Rattle.mig_restore_form.specs.Mean.{IsBegun as IsGuestBegun, put_entries}
 use Rattle.mig_restore.specs.Kept.{EntryStep, kept_guest}
 use Rattle.mig_legacy.specs.Legacy.{LegacyContent, LegacyChunk, LegacyTail, LegacyStream, device_model, has_value, records_in, pair_records, tail_records, device_records, image_records, store_records}
+use Rattle.mig_legacy.specs.Legacy.LegacyContent.{Frames}
 use Rattle.mig_legacy.specs.LegacyForm.{frames_sent}
 use Rattle.mig_legacy.specs.declared.read.ChunksSeen.{ChunksSeen}
 
@@ -55,6 +56,19 @@ pub record TakesLegacy (put : EntryStep) (old new : ChunksSeen) (c : LegacyConte
   pub chunks : new.chunks ≡ old.chunks
   pub requests : new.requests ≡ old.requests
   pub buffered : new.buffered ≡ old.buffered
+
+-- ---- what is noted of frames
+
+-- what the content of a chunk makes of frames
+abbrev pub put_chunk_frames : LegacyContent → FrameMap → FrameMap
+put_chunk_frames (Frames es) frames = put_entries Hvm frames es
+put_chunk_frames _ frames = frames
+
+-- where no frames were noted before some chunks, those that they send are noted behind them
+abbrev pub NotesChunks : {K : Type 0} → (K → List ℕ → Option (List ℕ) → FrameMap → Type 0) → K → K → Option (List ℕ) → Option (List ℕ) → List LegacyChunk → Type 0
+NotesChunks notes old new before after chunks = (all : List ℕ) → notes old all before maps.empty → notes new all after (sent Hvm (image_records chunks)).frames
+
+-- ---- the stream
 
 -- the reader has this stream behind it
 pub record IsLegacyTaken (kept : FrameMap → FrameMap) (seen : ChunksSeen) (s : LegacyStream) : Type 0 where

@@ -6,8 +6,8 @@ ghost use Rattle.mig_legacy.specs.Batches.{fault_of_batch};
 ghost use Rattle.mig_legacy.specs.LegacyForm.{length_form, words_form, batch_form, clock_of as clock_in, vcpus_form, clock_form, value_form, toolstack_form};
 ghost use Rattle.mig_legacy.specs.Legacy.{param_key as key_of_param};
 ghost use Rattle.mig_legacy.specs.Legacy.LegacyContent.{Nothing};
-ghost use Rattle.mig_restore.specs.Kept.{EntryStep};
-ghost use Rattle.mig_legacy.specs.Seen.{cut_short, put_in_guest, put_in_emulators};
+ghost use Rattle.mig_restore.specs.Kept.{EntryStep, NotesOn};
+ghost use Rattle.mig_legacy.specs.Seen.{cut_short, put_chunk_frames, put_in_guest, put_in_emulators};
 
 use crate::batch::{batch_fault, page_data_words};
 use crate::text::put;
@@ -113,7 +113,9 @@ pub(crate) fn take_batch<S: Source, F: KeepsFrames<S>>(
     ensures read { AgreesWithJudging (λ _ c. guest.new ≡ put_in_guest F.put guest.old c) (S.left src.old) (S.left src.new) (judged_as (batch_form count)) result }
     ensures grown { OnOk result (GrewByRecord guest.old guest.new) }
     ensures faults { RisesOnReadFault (S.faults src.old) (S.faults src.new) result }
+    ensures noted { AgreesWithJudging (λ _ c. NotesOn F.notes keeper.old keeper.new (S.left src.old) (S.left src.new) (put_chunk_frames c)) (S.left src.old) (S.left src.new) (judged_as (batch_form count)) result }
 {
+    F::goes_on();
     let words = take_words(alloc, src, count)?;
     let Ok(list) = page_data_words(alloc, &words) else {
         return Err(Stop::Memory);

@@ -6,6 +6,8 @@ ghost use Rattle.mig_bytes_form.specs.Form.{judged_as};
 ghost use Rattle.mig_legacy.specs.declared.chunk.ChunkKind.TheVariants as kinds;
 ghost use Rattle.mig_legacy.specs.LegacyForm.{most_chunks, start_causes, place_causes, start_form, type_form, content_form, chunk_form};
 ghost use Rattle.mig_legacy.specs.Legacy.{LegacyChunk, is_end, is_value_of};
+ghost use Rattle.mig_restore.specs.Kept.{NotesOn};
+ghost use Rattle.mig_legacy.specs.Seen.{NotesChunks, put_chunk_frames};
 ghost use Rattle.mig_legacy.specs.Seen.{IsLegacySeen, IsLegacyBegun, IsLegacyTaken, TakesLegacy};
 ghost use Rattle.mig_legacy.specs.Chunks.{IsWithinLimits};
 ghost use Rattle.mig_legacy.specs.Stream.{chunks_at, legacy_at, JudgesLegacy, ReadsLegacy};
@@ -146,11 +148,13 @@ impl ChunksSeen {
         requires begun { IsLegacyBegun self.old }
         requires sound { IsWithinLimits kind }
         ensures read { (chunks : List LegacyChunk) → IsLegacySeen F.kept self.old chunks → AgreesWithJudging (λ _ c. TakesLegacy F.put self.old self.new c) (S.left src.old) (S.left src.new) (judged_as (content_form chunks kind)) result }
+        ensures noted { (chunks : List LegacyChunk) → IsLegacySeen F.kept self.old chunks → AgreesWithJudging (λ _ c. NotesOn F.notes keeper.old keeper.new (S.left src.old) (S.left src.new) (put_chunk_frames c)) (S.left src.old) (S.left src.new) (judged_as (content_form chunks kind)) result }
         ensures begun { OnOk result (IsLegacyBegun self.new) }
         ensures chunks { OnOk result (self.new.chunks ≡ self.old.chunks) }
         ensures end { OnOk result (is_end kind ≡ true → self.new ≡ self.old) }
         ensures faults { RisesOnReadFault (S.faults src.old) (S.faults src.new) result }
     {
+        F::goes_on();
         match kind {
             ChunkKind::Batch(count) => take_batch(alloc, src, keeper, count, &mut self.guest),
             ChunkKind::VcpuMap => take_vcpus(src),
@@ -188,6 +192,8 @@ impl ChunksSeen {
         requires begun { IsLegacyBegun self.old }
         ensures read { (chunks : List LegacyChunk) → IsLegacySeen F.kept self.old chunks →
             AgreesWithJudging (λ over c. IsLegacySeen F.kept self.new (chunks ++ c ∷ []) × (over ≡ is_end c.kind)) (S.left src.old) (S.left src.new) (judged_as (chunk_form chunks)) result }
+        ensures noted { (chunks : List LegacyChunk) → IsLegacySeen F.kept self.old chunks →
+            AgreesWithJudging (λ _ c. NotesOn F.notes keeper.old keeper.new (S.left src.old) (S.left src.new) (put_chunk_frames c.content)) (S.left src.old) (S.left src.new) (judged_as (chunk_form chunks)) result }
         ensures begun { OnOk result (IsLegacyBegun self.new) }
         ensures few { IfOk result (λ over. over ≡ true → maps.len self.new.guest.frames ≤ most_frames) }
         ensures counted { OnOk result ((self.new.chunks ≡ self.old.chunks + 1) × (self.old.chunks < most_chunks)) }
@@ -225,6 +231,7 @@ fn take_chunks<S: Source, F: KeepsFrames<S>>(
     keeper: &mut F,
 ) -> Result<ChunksSeen, Stop<(LegacyPlace, LegacyCause)>>
     ensures read { AgreesWithJudging (IsLegacySeen F.kept) (S.left src.old) (S.left src.new) chunks_at result }
+    ensures noted { AgreesWithJudging (λ _ chunks. NotesChunks F.notes keeper.old keeper.new (S.left src.old) (S.left src.new) chunks) (S.left src.old) (S.left src.new) chunks_at result }
     ensures begun { IfOk result (λ seen. IsLegacyBegun seen) }
     ensures few { IfOk result (λ seen. maps.len seen.guest.frames ≤ most_frames) }
     ensures faults { RisesOnReadFault (S.faults src.old) (S.faults src.new) result }
@@ -247,11 +254,13 @@ fn take_parts<S: Source, F: KeepsFrames<S>>(
     keeper: &mut F,
 ) -> Result<ChunksSeen, Stop<(LegacyPlace, LegacyCause)>>
     ensures read { AgreesWithJudging (IsLegacyTaken F.kept) (S.left src.old) (S.left src.new) legacy_at result }
+    ensures noted { AgreesWithJudging (λ _ s. NotesChunks F.notes keeper.old keeper.new (S.left src.old) (S.left src.new) s.chunks) (S.left src.old) (S.left src.new) legacy_at result }
     ensures plain { IfOk result (λ seen. IsStreamedBare seen.guest) }
     ensures hvm { IfOk result (λ seen. seen.guest.kind ≡ Hvm) }
     ensures emulators { IfOk result (λ seen. AreEmulators seen.emulators) }
     ensures faults { RisesOnReadFault (S.faults src.old) (S.faults src.new) result }
 {
+    F::goes_on();
     if let Err(stop) = take_start(src) {
         return Err(stop.at(LegacyPlace::Start));
     }

@@ -1,6 +1,9 @@
 use Rattle.mig_legacy.proofs.Common.{◌≡◌, length, rules, sym, ap, subst, arith, All, IsGoodWord, page_data_words, judged_as, words_form, batch_form, stopped}
 use Rattle.mig_legacy.proofs.Batches.{behind_words, batch_is}
 use Rattle.mig_legacy.proofs.BatchFrames.{good_words, few_words, batch_read, batch_stopped}
+use Rattle.mig_bytes.proofs.Joins.{any_stop}
+use Rattle.mig_legacy.proofs.Noted.{batch_noted}
+use Rattle.mig_restore.proofs.Noted.{stops}
 use Rattle.mig_legacy.proofs.body.take_batch.Goals as goal
 
 pub take_entries-requires-clause-good : goal.take_entries-requires-clause-good
@@ -33,3 +36,15 @@ returns-clause-read g c =
     let ws = c.in_ok-words.words.items in
     let same : c.deref-2.result.now ≡ page_data_words ws = search rules in
     batch_stopped g.F.KeepsFrames.put c.args.guest.now c.take_entries.new.guest c.args.count c.requires.hvm c.requires.top _ _ _ c.in_ok-words.words (λ v. v.items) c.deref-2.result.now same c.in-Err.stop c.truncated.result c.truncated.ensures c.in_ok-words.ensures.read c.in-Err.ensures.read
+
+pub returns-in-Ok-take_entries-clause-noted : goal.returns-in-Ok-take_entries-clause-noted
+returns-in-Ok-take_entries-clause-noted g c =
+    let ws = c.in_ok-words.words.items in
+    let same : c.deref-2.result.now ≡ page_data_words ws = search rules in
+    batch_noted g.F.KeepsFrames.notes c.goes_on.ensures.read_on c.args.keeper.now c.take_entries.new.keeper c.args.guest.now c.args.count c.requires.hvm c.requires.top _ _ _ c.in_ok-words.words (λ v. v.items) c.deref-2.result.now same c.in_ok-words.ensures.read c.in-Ok-take_entries.ensures.noted
+
+pub returns-in_err-words-clause-noted : goal.returns-in_err-words-clause-noted
+returns-in_err-words-clause-noted g c = stops _ _ (λ s. s ≡ c.in_err-words.field-0.0) _ _ _ c.from_residual.result (search rules) (returns-in_err-words-clause-read g c)
+
+pub returns-clause-noted : goal.returns-clause-noted
+returns-clause-noted g c = any_stop _ _ _ _ _ _ (returns-clause-read g c)
