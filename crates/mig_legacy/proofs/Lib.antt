@@ -15,6 +15,7 @@ pub mod Common
 pub mod Growth
 pub mod Chunked
 pub mod Noted
+pub mod PlacedStreams
 pub mod Parts
 pub mod Batches
 pub mod Bodies

@@ -11,3 +11,4 @@ pub mod Stream
 pub mod Spelled
 pub mod Seen
 pub mod Meaning
+pub mod Placed

@@ -5,11 +5,12 @@
 //! byte order, and the guest that its chunks and its tail mean; the laws that join the judging with the spelling of the
 //! form, and those that say in its words what it means. Left to others: what a single word says (mig_pagetypes), the pages
 //! of a batch (mig_restore), outlines of guests (mig_outline), what pairs of texts mean (mig_policy), the device model
-//! (mig_libxl_form), contexts (mig_hvm), and how a refusal is printed (mig_tool_guest).
+//! (mig_libxl_form), contexts (mig_hvm), places in a file (mig_placing), and how a refusal is printed (mig_tool_guest).
 //!
 //! What the layers above rely on: `read_legacy` answers the guest that the accepted front of the input means, or the first
 //! fault with its place, and has taken just the accepted front, or all up to the end of the faulty part; `judge_legacy` does
-//! the same without keeping pages, and answers how many frames the guest has. The tests of chunks
+//! the same without keeping pages, and answers how many frames the guest has; `place_legacy` does it of a file, where the pages
+//! stay, and answers the outline of the guest and where in the file they stand. The tests of chunks
 //! read from no source and know no guest: each answers the first cause of its rows, with the least place; the data of a
 //! toolstack have no wrong field exactly where they are spelled as entries.
 #![tactic(auto)]
@@ -20,6 +21,7 @@ mod chunk;
 mod chunk_law;
 mod fault;
 mod law;
+mod placed;
 mod read;
 mod tail;
 mod text;
@@ -36,6 +38,7 @@ pub use law::{
     guest_is_hvm, last_entry_decides, last_pair_decides, last_part_decides, last_value_decides,
     legacy_is_accepted, never_both, one_front,
 };
+pub use placed::place_legacy;
 pub use read::{LegacyAnswer, judge_legacy, read_legacy};
 pub use text::put;
 pub use toolstack::{physmap_pairs, toolstack_fault};

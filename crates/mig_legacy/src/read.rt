@@ -207,7 +207,7 @@ impl ChunksSeen {
     }
 
     /// The guest, with the device model put into it.
-    fn finish(self) -> Result<Guest, Memory>
+    pub(crate) fn finish(self) -> Result<Guest, Memory>
         requires plain { IsStreamedBare self.guest }
         requires hvm { self.guest.kind ≡ Hvm }
         requires emulators { AreEmulators self.emulators }
@@ -248,7 +248,7 @@ fn take_chunks<S: Source, F: KeepsFrames<S>>(
 }
 
 /// Takes a whole stream, part after part.
-fn take_parts<S: Source, F: KeepsFrames<S>>(
+pub(crate) fn take_parts<S: Source, F: KeepsFrames<S>>(
     alloc: Global,
     src: &mut S,
     keeper: &mut F,
