@@ -3,7 +3,8 @@ itself (full disks, closed pipes, files that shrink).
 
 What is wanted: a read that fails gives status 3, a write of standard output that fails status 4, and a write of standard
 error status 4 where a line says what was found, each with its line. Standard output has nothing where the status isn't 0
-or 4, and with status 4 a proper prefix of what status 0 writes; of `save` no front of it is a stream, but where its line
+or 4, and with status 4 a proper prefix of what status 0 writes; `normalise` of a file, which reads pages again where it writes
+them, may have written one with status 3 too; of `save` no front of it is a stream, but where its line
 failed it is the whole stream. `relay` writes while it judges: with status 3 exactly what it passes on of the bytes that came
 is there, with status 4 what `save` has. `show` writes its text with status 1 too, once all is read, and with status 4 a proper
 prefix of that. An interrupted call is a failed one.
@@ -54,7 +55,17 @@ class Asked:
 
 def after_a_failed_read(it, what, got):
     """What isn't as it has to be where a read failed, behind those whose bytes were counted."""
-    return it.differences(what, got, program.no_read(it.words, it.data[:it.faults.told().bytes_read]))
+    if program.copies(it.words):
+        yield from after_a_failed_copy(it, what, got)
+    else:
+        yield from it.differences(what, got, program.no_read(it.words, it.data[:it.faults.told().bytes_read]))
+
+
+def after_a_failed_copy(it, what, got):
+    """The same of a command that writes pages as it reads them again: a part of its output may be there."""
+    yield from it.differences(what, got, program.NO_READ._replace(out=got.out))
+    if got.out and not program.is_front(got.out, it.want.out):
+        yield '%s, %s, %s: what was written is no proper prefix' % (it.name, program.named(it.words), what)
 
 
 def every(tool, faults):
@@ -196,7 +207,9 @@ def shrinking(tool, faults):
                 what = 'cut to %d bytes at read %d' % (left, number)
                 if not program.reads_by_place(it.words):
                     yield from it.differences(what, got, program.wanted(it.words, data[:max(left, number * most)]))
-                elif got != program.NO_READ:
+                elif got.status == program.READ_FAULT:
+                    yield from after_a_failed_read(it, what, got)
+                else:
                     yield from it.differences(what, got, it.want)
 
 

@@ -107,7 +107,6 @@ module _ (g : GuestOf) (e : EmulatorsOf) (are : AreEmulators e) where
   }
 
 module _ (g : GuestOf) (e : EmulatorsOf) (plain : IsStreamedBare g) (are : AreEmulators e) where
-
   hvm_done : g.kind ≡ Hvm → IsStreamed (with_emulators g e)
   hvm_done hvm = record {
     whole = record { formed = hvm_formed g e are plain.whole.formed hvm; faultless = hvm_faultless g (put_parts g.parts (emulator_parts e)) hvm (other_part g e are context_key refl) plain.whole.faultless };

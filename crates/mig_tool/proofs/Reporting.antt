@@ -1,5 +1,5 @@
 -- Whoever carries out a command keeps its promise: an input that it accepts is done, and one that it refuses is refused.
-use Rattle.mig_tool.proofs.Common.{◌≡◌, ℕ, List, Some, refl, subst, Refusal, Command, CarriedOut, Effects, IsOfInput, HasLegacyRefusal, HasOpenRefusal, HasStreamRefusal, HasWalkImageRefusal, HasWalkRefusal}
+use Rattle.mig_tool.proofs.Common.{◌≡◌, ◌⊎◌, ℕ, List, Option, Some, refl, subst, Refusal, Command, CarriedOut, Effects, IsOfInput, HasLegacyRefusal, HasOpenRefusal, HasStreamRefusal, HasWalkImageRefusal, HasWalkRefusal}
 use mathlib.Core.Logic.{inl, inr}
 use Rattle.mig_bytes.specs.Faults.{Rose}
 use Rattle.mig_canon.specs.CanonStream.{canon_any}
@@ -13,20 +13,62 @@ use Rattle.mig_tool_guest.specs.Addresses.{AddressReported, FrameInHost, FrameIn
 use Rattle.mig_tool_guest.specs.Fronts.{Accepting, Normalised, PartWritten, Restored, Verified, restored_text}
 use Rattle.mig_tool_guest.specs.Promises.{HasFront}
 use Rattle.mig_tool_guest.specs.Relays.{PassedOn, RelayBreaksOff}
-use Rattle.mig_tool_report.proofs.Settled.{IsSettled, keeps, settled_line, settled_text}
-use Rattle.mig_tool_report.specs.Promises.{KeepsPromise, writes_text}
+use Rattle.mig_tool_report.proofs.Settled.{IsSettled, keeps, settled_copy, settled_line, settled_text}
+use Rattle.mig_tool_report.specs.Promises.{KeepsPromise, copies_text, writes_text}
 use Rattle.mig_tool_report.specs.Report.{ok_line, walked_line}
 use Rattle.mig_tool_report.specs.Statuses.{Refusing}
 use Rattle.mig_tool_report.specs.declared.command.Command.TheVariants.{Convert, Exercise, Normalise, Restore, Save, Verify, Walk, WalkImage, Relay, Show}
 use Rattle.mig_tool_report.specs.declared.status.Status.{Status}
+use Rattle.mig_tool_report.specs.declared.status.Status.TheVariants as statuses
 use Rattle.mig_tool_save.proofs.SaveInputs.{not_refused, paused}
 use Rattle.mig_tool_save.specs.Promises.{save_promise}
 use Rattle.mig_tool_save.specs.Saves.{HasSaveRefusal}
-use Rattle.mig_tool.specs.Promises.{promise_of}
+use Rattle.mig_tool.specs.Promises.{promise_of, promise_of_file}
 
 -- what the command that it is came to
 pub of_same : (this command : Command) (e : Effects) (status : Status) → this ≡ command → CarriedOut (promise_of this) e status → CarriedOut (promise_of command) e status
 of_same this command e status same came = subst (λ (d : Command). CarriedOut (promise_of d) e status) same came
+
+-- and of a file
+pub of_same_file : (this command : Command) (e : Effects) (status : Status) → this ≡ command → CarriedOut (promise_of_file this) e status → CarriedOut (promise_of_file command) e status
+of_same_file this command e status same came = subst (λ (d : Command). CarriedOut (promise_of_file d) e status) same came
+
+-- who writes a text without reading the file once more keeps what is promised of a copy too
+text_copied : (Accepts : List ℕ → Type 0) (Refuses : Refusing) (Text Part : List ℕ → (left old new : Option (List ℕ)) → Type 0) (e : Effects) (status : Status) → CarriedOut (writes_text Accepts Refuses Text Part) e status
+    → CarriedOut (copies_text Accepts Refuses Text Part) e status
+text_copied Accepts Refuses Text Part e status came = record {
+  said = came.said;
+  known = came.known;
+  kept = λ never. came.kept (λ may. never (turned may));
+  read = came.read;
+  write = came.write;
+  line = came.line;
+  own_line = came.own_line;
+  out_faults = came.out_faults;
+  report_faults = came.report_faults;
+  besides = λ failed. inl (came.kept (unwritten failed));
+}
+  where
+    turned : (status ≡ statuses.Done) ⊎ (status ≡ statuses.WriteFault) → (status ≡ statuses.Done) ⊎ ((status ≡ statuses.WriteFault) ⊎ (status ≡ statuses.ReadFault))
+    turned (inl done) = inl done
+    turned (inr fault) = inr (inl fault)
+
+    unwritten : status ≡ statuses.ReadFault → (status ≡ statuses.Done) ⊎ (status ≡ statuses.WriteFault) → ⊥
+    unwritten failed (inl done) = cc
+    unwritten failed (inr fault) = cc
+
+-- so what is done of an input as it comes is what is promised of a file
+pub as_it_comes : (command : Command) (e : Effects) (status : Status) → CarriedOut (promise_of command) e status → CarriedOut (promise_of_file command) e status
+as_it_comes Normalise e status came = text_copied (HasFront AcceptedStream) HasStreamRefusal (Normalised AcceptedStream) (PartWritten AcceptedStream canon_any) e status came
+as_it_comes Convert e status came = text_copied (HasFront AcceptedLegacy) HasLegacyRefusal (Normalised AcceptedLegacy) (PartWritten AcceptedLegacy canon_any) e status came
+as_it_comes (Restore base) e status came = came
+as_it_comes Verify e status came = came
+as_it_comes Save e status came = came
+as_it_comes (Exercise seed n) e status came = came
+as_it_comes (Walk id at) e status came = came
+as_it_comes (WalkImage id at) e status came = came
+as_it_comes Relay e status came = came
+as_it_comes Show e status came = came
 
 -- ---- of streams and legacy streams
 
@@ -110,3 +152,18 @@ settled Save = record {
 
 pub keeps_command : (command : Command) (e : Effects) (status : Status) → CarriedOut (promise_of command) e status → KeepsPromise (promise_of command) e status
 keeps_command command e status came = keeps (promise_of command) (settled command) e status came
+
+settled_file : (command : Command) → IsSettled (promise_of_file command)
+settled_file Normalise = settled_copy (HasFront AcceptedStream) HasStreamRefusal (Normalised AcceptedStream) (PartWritten AcceptedStream canon_any) (settled Normalise)
+settled_file (Restore base) = settled (Restore base)
+settled_file Verify = settled Verify
+settled_file Convert = settled_copy (HasFront AcceptedLegacy) HasLegacyRefusal (Normalised AcceptedLegacy) (PartWritten AcceptedLegacy canon_any) (settled Convert)
+settled_file Save = settled Save
+settled_file (Exercise seed n) = settled (Exercise seed n)
+settled_file (Walk id at) = settled (Walk id at)
+settled_file (WalkImage id at) = settled (WalkImage id at)
+settled_file Relay = settled Relay
+settled_file Show = settled Show
+
+pub keeps_file_command : (command : Command) (e : Effects) (status : Status) → CarriedOut (promise_of_file command) e status → KeepsPromise (promise_of_file command) e status
+keeps_file_command command e status came = keeps (promise_of_file command) (settled_file command) e status came

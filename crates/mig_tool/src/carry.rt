@@ -3,12 +3,13 @@ ghost use Rattle.mig_file.specs.Files.{failed_in, left_in};
 ghost use Rattle.mig_tool_report.specs.Words.{IsBase, IsFrameNumber};
 ghost use Rattle.mig_tool_report.specs.declared.command.Command.TheVariants as commands;
 ghost use Rattle.mig_tool_report.specs.Promises.{CarriedOut, effects, input_effect, sink_effect};
-ghost use Rattle.mig_tool.specs.Promises.{promise_of};
+ghost use Rattle.mig_tool.specs.Promises.{promise_of, promise_of_file};
 
 use mig_bytes::{Sink, Source};
 use mig_file::{FileSource, PageFile};
 use mig_tool_guest::{
-    convert, normalise, relay, restore, show, verify, verify_file, walk, walk_image,
+    convert, convert_file, normalise, normalise_file, relay, restore, show, verify, verify_file,
+    walk, walk_image,
 };
 use mig_tool_report::{Command, Status};
 use mig_tool_save::{exercise_told, save};
@@ -51,10 +52,12 @@ pub(crate) fn carry_out_file<P: PageFile, K: Sink, R: Sink>(
 ) -> Status
     requires base { (base : ℕ) → command ≡ commands.Restore base → IsBase base }
     requires frames { (seed n : ℕ) → command ≡ commands.Exercise seed n → IsFrameNumber n }
-    ensures { CarriedOut (promise_of command) (effects (input_effect (left_in P.bytes) failed_in input.old input.new)
+    ensures { CarriedOut (promise_of_file command) (effects (input_effect (left_in P.bytes) failed_in input.old input.new)
         (sink_effect K.written K.faults out.old out.new) (sink_effect R.written R.faults report.old report.new)) result }
 {
     match command {
+        Command::Normalise => normalise_file(alloc, input, out, report),
+        Command::Convert => convert_file(alloc, input, out, report),
         Command::Verify => verify_file(alloc, input, report),
         _ => carry_out(alloc, command, input, out, report),
     }

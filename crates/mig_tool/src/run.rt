@@ -3,7 +3,7 @@ ghost use Rattle.mig_tool_report.specs.Promises.{KeepsPromise, TellsUsage, effec
 ghost use Rattle.mig_tool_report.specs.Report.{usage_line};
 ghost use Rattle.mig_tool_report.specs.Words.{texts_of, Names};
 ghost use Rattle.mig_tool_report.specs.declared.command.Command.{Command};
-ghost use Rattle.mig_tool.specs.Promises.{promise_of};
+ghost use Rattle.mig_tool.specs.Promises.{promise_of, promise_of_file};
 
 use crate::carry::{carry_out, carry_out_file};
 use mig_bytes::{Sink, Source};
@@ -37,7 +37,8 @@ pub fn run<S: Source, K: Sink, R: Sink>(
 }
 
 /// Does what the words say, as `run` does, of a file that is read from a place on. What it needs no page of, it reads none
-/// of: `verify` reads those of page tables alone, where the stream has no VERIFY.
+/// of: `verify` reads those of page tables alone, where the stream has no VERIFY; and `normalise` of an HVM guest and
+/// `convert` read each page where it is written, and keep none.
 pub fn run_file<P: PageFile, K: Sink, R: Sink>(
     alloc: Global,
     words: &[String],
@@ -51,7 +52,7 @@ pub fn run_file<P: PageFile, K: Sink, R: Sink>(
 
     // Of words that name a command the promise of the command is kept.
     ensures kept { (command : Command) → Names (texts_of words.now) command
-        → KeepsPromise (promise_of command) (effects (input_effect (left_in P.bytes) failed_in input.old input.new) (sink_effect K.written K.faults out.old out.new) (sink_effect R.written R.faults report.old report.new)) result }
+        → KeepsPromise (promise_of_file command) (effects (input_effect (left_in P.bytes) failed_in input.old input.new) (sink_effect K.written K.faults out.old out.new) (sink_effect R.written R.faults report.old report.new)) result }
 {
     match command_in(words) {
         Some(command) => carry_out_file(alloc, command, input, out, report),
@@ -61,5 +62,8 @@ pub fn run_file<P: PageFile, K: Sink, R: Sink>(
 
 /// Whether what these words name takes less of a file where it is read by place.
 pub(crate) fn reads_by_place(words: &[String]) -> bool {
-    matches!(command_in(words), Some(Command::Verify))
+    matches!(
+        command_in(words),
+        Some(Command::Normalise | Command::Convert | Command::Verify)
+    )
 }

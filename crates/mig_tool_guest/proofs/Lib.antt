@@ -9,3 +9,4 @@ pub mod Once
 pub mod Relaying
 pub mod Showing
 pub mod Tallied
+pub mod Placed

@@ -26,7 +26,7 @@ accepted_legacy input rest stream guest accepts is = record { stream = stream; s
 
 -- what was written of a guest that was read from an accepted front
 module _ (Accepts : Accepting) (input rest : List ℕ) (left old new : Option (List ℕ)) (guest : GuestOf) (accepted : Accepts input guest rest) (left_is : left ≡ Some rest) where
-  whole_text : IsCarried guest → Appends old new (canon_any guest) → Normalised Accepts input left old new
+  pub whole_text : IsCarried guest → Appends old new (canon_any guest) → Normalised Accepts input left old new
   whole_text carried wrote = record {
     guest = guest;
     rest = rest;
@@ -38,7 +38,7 @@ module _ (Accepts : Accepting) (input rest : List ℕ) (left old new : Option (L
     alone = λ other too. canon_is_one_to_one other guest too carried;
   }
 
-  text_part : AppendsPart old new (canon_any guest) → PartWritten Accepts canon_any input left old new
+  pub text_part : AppendsPart old new (canon_any guest) → PartWritten Accepts canon_any input left old new
   text_part wrote = record { guest = guest; rest = rest; accepted = accepted; left_is = left_is; wrote = wrote }
 
 module _ (told left old new : Option (List ℕ)) where

@@ -18,7 +18,7 @@ pub use Rattle.mig_relay.specs.Relaying.{IsCutPart, IsWrittenPart, PassedPart, P
 pub use Rattle.mig_relay.specs.Streams.{IsOpenRefused, open_stream_at}
 pub use Rattle.mig_relay.specs.declared.answer.Relayed.{Relayed}
 pub use Rattle.mig_tool_report.specs.Outcome.{IsUnwritten, line_of, status_of}
-pub use Rattle.mig_tool_report.specs.Promises.{CarriedOut, ComesTo, Effects, IsDoneOrStarved, Promise, effects, input_effect, reports_line, sink_effect, unreached, writes_text}
+pub use Rattle.mig_tool_report.specs.Promises.{CarriedOut, ComesTo, Effects, IsDoneOrStarved, IsPartCopied, Promise, copies_text, effects, input_effect, reports_line, sink_effect, unreached, writes_text}
 pub use Rattle.mig_tool_report.specs.Report.{Reports, ok_line, relayed_line, walked_line, write_fault_line}
 pub use Rattle.mig_tool_report.specs.Statuses.{EndsWithOwnLine, InputRises, OutcomeSays, OutputRises, PutsLineOrFault, Refusing}
 pub use Rattle.mig_tool_report.specs.declared.outcome.Outcome.{Outcome}

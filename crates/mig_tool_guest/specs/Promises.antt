@@ -1,6 +1,6 @@
 -- What each command that reads a guest, or passes its stream on, promises.
 use Rattle.std.specs.Prelude.{◌≡◌, ◌⊎◌, ℕ, List, ⊤, Some}
-use Rattle.mig_tool_guest.specs.Common.{Appends, AppendsPart, Rose, GuestOf, canon_any, AcceptedStream, PassedPart, IsDoneOrStarved, Promise, reports_line, writes_text, ok_line, relayed_line, walked_line, EndsWithOwnLine, PutsLineOrFault}
+use Rattle.mig_tool_guest.specs.Common.{Appends, AppendsPart, Rose, GuestOf, canon_any, AcceptedStream, PassedPart, IsDoneOrStarved, Promise, copies_text, reports_line, writes_text, ok_line, relayed_line, walked_line, EndsWithOwnLine, PutsLineOrFault}
 use Rattle.mig_legacy.specs.Spelled.{AcceptedLegacy}
 use Rattle.mig_tool_report.specs.Report.{checked_legacy_line, checked_line}
 use Rattle.mig_tool_report.specs.declared.status.Status.TheVariants as statuses
@@ -25,9 +25,16 @@ pub record HasPassableFront (input : List ℕ) : Type 0 where
 abbrev pub normalise_promise : Promise
 normalise_promise = writes_text (HasFront AcceptedStream) HasStreamRefusal (Normalised AcceptedStream) (PartWritten AcceptedStream canon_any)
 
+-- of a file it reads the pages once more, where it writes them
+abbrev pub normalise_file_promise : Promise
+normalise_file_promise = copies_text (HasFront AcceptedStream) HasStreamRefusal (Normalised AcceptedStream) (PartWritten AcceptedStream canon_any)
+
 -- `convert` does so with a legacy stream
 abbrev pub convert_promise : Promise
 convert_promise = writes_text (HasFront AcceptedLegacy) HasLegacyRefusal (Normalised AcceptedLegacy) (PartWritten AcceptedLegacy canon_any)
+
+abbrev pub convert_file_promise : Promise
+convert_file_promise = copies_text (HasFront AcceptedLegacy) HasLegacyRefusal (Normalised AcceptedLegacy) (PartWritten AcceptedLegacy canon_any)
 
 -- `restore` takes an accepted stream, and writes the image of its guest's host
 abbrev pub restore_promise : ℕ → Promise

@@ -58,7 +58,7 @@ fn write_canonical<K: Sink>(guest: &Guest, out: &mut K) -> Outcome
 }
 
 /// Reads a stream, and writes it in its canonical form.
-fn normalised<S: Source, K: Sink>(alloc: Global, input: &mut S, out: &mut K) -> Outcome
+pub(crate) fn normalised<S: Source, K: Sink>(alloc: Global, input: &mut S, out: &mut K) -> Outcome
     ensures { ComesTo normalise_promise (effects (input_effect S.left S.faults input.old input.new) (sink_effect K.written K.faults out.old out.new) unreached) result }
 {
     match read_any(alloc, input) {

@@ -22,6 +22,6 @@ mod shown;
 pub use addresses::{walk, walk_image};
 pub use checks::{check, check_legacy};
 pub use commands::{convert, normalise, restore, verify};
-pub use files::verify_file;
+pub use files::{convert_file, normalise_file, verify_file};
 pub use passing::relay;
 pub use shown::show;

@@ -5,11 +5,20 @@ use Rattle.mig_tool_report.specs.Report.{ok_line}
 use Rattle.mig_tool_report.specs.declared.command.Command.TheVariants as commands
 use Rattle.mig_tool_guest.specs.Fronts.{Verified}
 use Rattle.mig_tool_guest.specs.Promises.{HasFront}
-use Rattle.mig_tool.proofs.Reporting.{of_same}
+use Rattle.mig_tool.proofs.Reporting.{as_it_comes, of_same_file}
 use Rattle.mig_tool.proofs.carry.carry_out_file.Goals as goal
+
+pub returns-in-Normalise : goal.returns-in-Normalise
+returns-in-Normalise g c = of_same_file (commands.Normalise) _ _ _ (sym c.in-Normalise.is) c.normalise_file.ensures
+
+pub returns-in-Convert : goal.returns-in-Convert
+returns-in-Convert g c = of_same_file (commands.Convert) _ _ _ (sym c.in-Convert.is) c.convert_file.ensures
 
 pub returns-in-Verify : goal.returns-in-Verify
 returns-in-Verify g c =
-    of_same (commands.Verify) _ _ _ (sym c.in-Verify.is)
+    of_same_file (commands.Verify) _ _ _ (sym c.in-Verify.is)
     (beside ok_line (HasFront AcceptedStream) HasStreamRefusal Verified
     _ (sink_effect g.K.Sink.written g.K.Sink.faults c.args.out.now c.args.out.now) _ _ (record { untouched = refl; quiet = refl }) c.verify_file.ensures)
+
+pub returns-in_default : goal.returns-in_default
+returns-in_default g c = as_it_comes c.args.command _ _ c.carry_out.ensures

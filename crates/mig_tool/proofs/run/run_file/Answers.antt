@@ -1,7 +1,7 @@
 use Rattle.mig_tool.proofs.Common.{arith, refl, Effects, effects, input_effect, sink_effect}
 use Rattle.mig_file.specs.Files.{failed_in, left_in}
 use Rattle.mig_tool_report.proofs.Naming.{same_command}
-use Rattle.mig_tool.proofs.Reporting.{keeps_command, of_same}
+use Rattle.mig_tool.proofs.Reporting.{keeps_file_command, of_same_file}
 use Rattle.mig_tool.proofs.run.run_file.Goals as goal
 
 pub returns-in-Some-clause-usage : goal.returns-in-Some-clause-usage
@@ -11,7 +11,7 @@ pub returns-in-Some-clause-kept : goal.returns-in-Some-clause-kept
 returns-in-Some-clause-kept g c = λ command is.
     let e : Effects = effects (input_effect (left_in g.P.PageFile.bytes) failed_in c.args.input.now c.carry_out_file.new.input) (sink_effect g.K.Sink.written g.K.Sink.faults c.args.out.now c.carry_out_file.new.out)
     (sink_effect g.R.Sink.written g.R.Sink.faults c.args.report.now c.carry_out_file.new.report) in
-    keeps_command command e c.carry_out_file.result (of_same c.in-Some.command command e c.carry_out_file.result (same_command _ c.in-Some.command command c.in-Some.ensures.some is) c.carry_out_file.ensures)
+    keeps_file_command command e c.carry_out_file.result (of_same_file c.in-Some.command command e c.carry_out_file.result (same_command _ c.in-Some.command command c.in-Some.ensures.some is) c.carry_out_file.ensures)
 
 pub returns-in-None-clause-usage : goal.returns-in-None-clause-usage
 returns-in-None-clause-usage g c = λ none. record {
