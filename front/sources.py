@@ -147,16 +147,19 @@ class Plain(Regular):
         self.size = max(status.st_size - self.base, 0)
 
     def at(self, offset, count):
-        data = bytearray()
-        while len(data) < count:
-            try:
-                more = os.pread(self.fd, count - len(data), self.base + offset + len(data))
-            except OSError as fault:
-                raise errors.Unreadable(why(fault)) from None
+        data = self.some_at(offset, count)
+        while data and len(data) < count:
+            more = self.some_at(offset + len(data), count - len(data))
             if not more:
                 break
             data += more
-        return bytes(data)
+        return data
+
+    def some_at(self, offset, count):
+        try:
+            return os.pread(self.fd, count, self.base + offset)
+        except OSError as fault:
+            raise errors.Unreadable(why(fault)) from None
 
     def length_to(self, offset):
         return min(self.size, offset)

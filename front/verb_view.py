@@ -1,0 +1,161 @@
+"""`mig view`: a save as one HTML file that one can look at, or with --json what that is drawn from. It judges nothing: records come from
+the program's `show`, and what `mig info` tells stands at the top."""
+import json
+import sys
+
+from front import errors, forms, places, program, sent, sources, verb_info, verdict, write
+from front.frames import Frames
+from front.parts import RECORD, stream_of, tree_of
+from front.progress import LINE
+from front.text import put_lines
+from front.words import INPUT, in_json, verb, writes_over
+
+VIEW = """\
+PAGE is one HTML file, which any browser opens without a network: what `mig info` tells, the records as a strip and as a table, the
+frame numbers as a map, and of a live save its rounds. It says of each page of the guest whether it is all zeros, and nothing else of
+the guest's memory. PAGE is standard output where it is left out, and else written beside its place and renamed when all is well.
+
+The stream is judged as `mig show` does it, so what needs the whole guest isn't looked at; `mig check` tells that. Of a stream that is
+refused the page has what stands in front of the refused part, and the status is 1. Of what is no save, and of an old save, no page is
+written. It is read once, and no page is kept in memory.
+
+With --json PAGE is the JSON object from which the page is drawn; docs/view.schema.json in the sources tells what stands in it."""
+SCHEMA = 1
+OLD = 'not told: an old save has no such records; what `mig convert` makes of it has'
+
+
+class Page(write.Output):
+    """Where the page goes."""
+
+    @staticmethod
+    def standard():
+        if sys.stdout.isatty():
+            raise errors.Refused(errors.USAGE, 'a page is no text for a terminal: give it a name with -o')
+        return 1
+
+
+def records_of(text):
+    """The records that `show` lists."""
+    _, listed = tree_of(text)
+    return [json.loads(record[0].decode()) for record in RECORD.finditer(listed)] if listed else []
+
+
+def placed(records, begins, is_wrapped):
+    """Gives each record its number in its layer, as a refusal names it, and its place in the file."""
+    numbers = {'libxl': 0, 'libxc': 0}
+    place = begins + (places.LIBXL_HEADER if is_wrapped else places.IMAGE_HEADERS)
+    for record in records:
+        record.update(number=numbers[record['layer']], offset=place)
+        numbers[record['layer']] += 1
+        place += places.HEAD + record['length'] + -record['length'] % 8
+        if is_wrapped and record['name'] == 'LIBXC_CONTEXT':
+            place += places.IMAGE_HEADERS
+    return place
+
+
+def frames_of(records, read):
+    """What was sent of each frame number in these records, each of which is told how many of its pages are zeros."""
+    frames = Frames()
+    for index, record in enumerate(records):
+        if index in read.words:
+            zeros = read.zeros[index]
+            record['zeros'] = sum(zeros)
+            frames.add(index, record['offset'], read.words[index], zeros)
+        elif record['name'] == 'VERIFY':
+            frames.verify(index, record['offset'])
+    return frames
+
+
+def live(frames, length, of_pages):
+    """What the rounds came to; no rounds where the numbers were sent in no order."""
+    pause = frames.at_the_pause()
+    pause['bytes'] += length - of_pages
+    return {'rounds': frames.rounds.told, 'times': frames.sent_times(), 'pause': pause}
+
+
+def map_of(frames, per):
+    """The map of the frames."""
+    return {'per': per, 'is_whole': frames.is_whole, 'counts': frames.counts(), 'spans': frames.spans(per)}
+
+
+class View:
+    """What the page of one save is drawn from."""
+
+    def __init__(self, told, records, frames, length):
+        self.told, self.records, self.frames, self.length = told, records, frames, length
+
+    def facts(self, per=1):
+        """It as one object, with so many frame numbers in a cell, or more."""
+        of_pages = sum(places.HEAD + record['length'] for record in self.records if record['name'] == 'PAGE_DATA')
+        found = {'schema': SCHEMA, 'info': self.told.facts(), 'length': self.length, 'records': self.records, 'frames': None}
+        if self.frames:
+            found['frames'] = map_of(self.frames, max(per, self.frames.per_cell()))
+            found['live'] = live(self.frames, self.length, of_pages)
+        return found
+
+
+def read(name, source):
+    """What is told of a source, and what its page is drawn from; nothing where it has none."""
+    form = forms.form_of(source)
+    if form.kind == forms.LEGACY:
+        return verb_info.Info.of(verdict.Verdict.of(name, verb_info.NOT_TOLD, errors.REFUSED, OLD, form.words)), None
+    early = verdict.without_program(name, form)
+    if early:
+        return verb_info.without_judging(verb_info.Info.of(early)), None
+    told, ahead = verb_info.domain_of(source, form), source.at(form.begins, verb_info.AHEAD)
+    is_wrapped = ahead.startswith(forms.LIBXL_MAGIC)
+    said, text, read = sent.beside(program.find(), source, form.begins, is_wrapped, verb_info.MOST_TEXT)
+    if len(text) > verb_info.MOST_TEXT or text.count(b'{') > sent.MOST_RECORDS:
+        said, text = program.Answer(errors.NO_MEMORY, verb_info.TOO_MANY), b''
+    found = verdict.of_answer(name, source, form, 'show', said)
+    told = verb_info.Info.of(found, verb_info.size_of(source), stream=stream_of(text, source, form.begins, ahead), **told)
+    return told, drawn(told, text, read, form.begins, is_wrapped)
+
+
+def drawn(told, text, read, begins, is_wrapped):
+    """What the page is drawn from, of a stream that was listed and read."""
+    if not told.stream:
+        return None
+    records = records_of(text)
+    if not read.fits(records):
+        raise RuntimeError('the places of the records are not those that `show` tells')
+    length = placed(records, begins, is_wrapped) - begins
+    return View(told, records, frames_of(records, read) if read.is_whole else None, length)
+
+
+def text_of(words, view):
+    """What is written."""
+    return json.dumps(view.facts()).encode() + b'\n'
+
+
+def seen(words):
+    """What is told of the save, of which PAGE has got its name where it has a page."""
+    with sources.source_for(words.input) as source:
+        output = Page(words.output, words.force)
+        try:
+            told, view = read(words.input, source)
+            if view:
+                write.put(output.fd, text_of(words, view))
+                output.place()
+        finally:
+            output.close()
+    return told
+
+
+def view(words):
+    if not words.json:
+        raise errors.Refused(errors.USAGE, '--json is wanted')
+    LINE.is_terminal = LINE.is_terminal and words.output != '-'
+    told = seen(words)
+    if told.found.status or told.found.follows:
+        put_lines(list(told.found.lines())[told.found.status == errors.OK:], sys.stderr)
+    return told.found.status
+
+
+def offer(verbs):
+    words = verb(verbs, 'view', 'write a page that shows the records, the frames and the rounds of a save', view, VIEW + '\n\n' + INPUT,
+                 {errors.REFUSED: 'PAGE has what stands in front of the refused part'})
+    words.add_argument('input', metavar='SAVE')
+    words.add_argument('-o', '--output', dest='output', metavar='PAGE', default='-', help='write PAGE, and not to standard output')
+    writes_over(words)
+    in_json(words, 'write the object from which the page is drawn')
