@@ -3,11 +3,11 @@ the program's `show`, and what `mig info` tells stands at the top."""
 import json
 import sys
 
-from front import errors, forms, places, program, sent, sources, verb_info, verdict, write
+from front import errors, forms, page, places, program, sent, sources, verb_info, verdict, write
 from front.frames import Frames
 from front.parts import RECORD, stream_of, tree_of
 from front.progress import LINE
-from front.text import put_lines
+from front.text import put_lines, shown
 from front.words import INPUT, in_json, verb, writes_over
 
 VIEW = """\
@@ -21,6 +21,8 @@ written. It is read once, and no page is kept in memory.
 
 With --json PAGE is the JSON object from which the page is drawn; docs/view.schema.json in the sources tells what stands in it."""
 SCHEMA = 1
+SEVERAL = 'several types'                            # the name of neighbouring records of more types than one
+FEW_RECORDS, MOST_LINES = 4096, 60                   # records that are never taken together, and lines at the top of a page
 OLD = 'not told: an old save has no such records; what `mig convert` makes of it has'
 
 
@@ -60,9 +62,9 @@ def frames_of(records, read):
         if index in read.words:
             zeros = read.zeros[index]
             record['zeros'] = sum(zeros)
-            frames.add(index, record['offset'], read.words[index], zeros)
+            frames.add(record['number'], record['offset'], read.words[index], zeros)
         elif record['name'] == 'VERIFY':
-            frames.verify(index, record['offset'])
+            frames.verify(record['number'], record['offset'])
     return frames
 
 
@@ -123,9 +125,48 @@ def drawn(told, text, read, begins, is_wrapped):
     return View(told, records, frames_of(records, read) if read.is_whole else None, length)
 
 
+def together(records, count):
+    """The records, so many neighbours as one."""
+    for at in range(0, len(records), count):
+        some = records[at:at + count]
+        names = {record['name'] for record in some}
+        last = some[-1]
+        one = {**some[0], 'together': len(some), 'length': last['offset'] + places.HEAD + last['length'] + -last['length'] % 8 - some[0]['offset']}
+        if len(names) > 1:
+            one['name'] = SEVERAL
+        for name in 'words', 'pages', 'zeros':
+            if any(name in record for record in some):
+                one[name] = sum(record.get(name, 0) for record in some)
+        yield one
+
+
+def verdict_of(told):
+    """What the page says at its top."""
+    found = told.found
+    if found.status == errors.OK:
+        behind = '; %d bytes follow the end' % found.follows if found.follows else ''
+        return 'Each part of the stream is well formed%s. Whether the guest is whole `mig check` tells.' % behind
+    return '%s. %s' % (found.line, '%s%s; %s.' % (found.where(), found.means, found.do) if found.means else '')
+
+
+def page_of(view):
+    """The page, in which records and frames are taken together as far as its length asks for it."""
+    per = count = 1
+    while True:
+        drawn = view.facts(per)
+        if count > 1:
+            drawn['records'] = list(together(view.records, count))
+        lines = [line for line in view.told.lines() if ': ' in line][:MOST_LINES]
+        text = page.page_of(shown(view.told.found.name), verdict_of(view.told), view.told.found.status == errors.OK, lines, drawn)
+        if len(text) <= page.MOST_BYTES:
+            return text
+        per = 2 * drawn['frames']['per'] if drawn['frames'] else per
+        count *= 2 if len(drawn['records']) > FEW_RECORDS else 1
+
+
 def text_of(words, view):
     """What is written."""
-    return json.dumps(view.facts()).encode() + b'\n'
+    return json.dumps(view.facts()).encode() + b'\n' if words.json else page_of(view)
 
 
 def seen(words):
@@ -143,8 +184,6 @@ def seen(words):
 
 
 def view(words):
-    if not words.json:
-        raise errors.Refused(errors.USAGE, '--json is wanted')
     LINE.is_terminal = LINE.is_terminal and words.output != '-'
     told = seen(words)
     if told.found.status or told.found.follows:
