@@ -214,6 +214,11 @@ function table(records, chosen) {
     const place = shown.findIndex(it => it.index === chosen.index);
     if (place >= 0 && (place < from || place >= from + ROWS)) from = Math.floor(place / ROWS) * ROWS;
     draw();
+    const row = document.querySelector('#records tr.chosen'), box = by('records').parentNode;
+    if (!row) return;
+    const top = row.offsetTop - by('records').tHead.offsetHeight, bottom = row.offsetTop + row.offsetHeight;
+    if (top < box.scrollTop) box.scrollTop = top;
+    if (bottom > box.scrollTop + box.clientHeight) box.scrollTop = bottom - box.clientHeight;
   });
   look();
 }
@@ -228,7 +233,8 @@ function recordsOf(data) {
   }};
   strip(records, chosen);
   table(records, chosen);
-  if (records.length) chosen.choose(0);
+  const last = records[records.length - 1];
+  if (last) chosen.choose(last.isCut ? last.index : 0);
 }
 
 // ---- frames
@@ -428,7 +434,8 @@ function roundsOf(data) {
     fill('rounds', [['round', false], ['first record', false], ['offset', false], ['frame numbers', false], ['pages', false], ['bytes', false], ['share', false], ['', true]],
       rounds.map((it, index) => [index + 1, number(it.record), number(it.offset), number(it.entries), number(it.pages), number(it.bytes), share(it.bytes, all),
         it.verify ? 'sent again to be compared (VERIFY)' : cut && index === rounds.length - 1 ? 'refused behind this' : '']));
-    bars(rounds, saved);
+    if (rounds.length > 1) bars(rounds, saved);
+    else by('rounds-bars').style.display = 'none';
   }
   const times = live ? Object.entries(live.times) : [];
   by('times').hidden = !times.length;
@@ -448,7 +455,7 @@ function bars(rounds, saved) {
     svg.append('g').selectAll('rect').data(rounds).join('rect').attr('x', (_, index) => x(index + 1)).attr('width', Math.max(1, x.bandwidth()))
       .attr('y', it => y(it.bytes)).attr('height', it => y(0) - y(it.bytes)).attr('fill', it => colour(it.verify ? 'xalloc' : 'data'))
       .append('title').text((it, index) => 'round ' + (index + 1) + ': ' + amount(it.bytes));
-    svg.append('line').attr('x1', left).attr('x2', width - 8).attr('y1', y(saved)).attr('y2', y(saved)).attr('stroke', colour('mark')).attr('stroke-dasharray', '5 4').attr('class', 'saved');
+    svg.append('line').attr('x1', left).attr('x2', width - 8).attr('y1', y(saved)).attr('y2', y(saved)).attr('stroke-dasharray', '5 4').attr('class', 'saved');
     svg.append('text').attr('x', width - 12).attr('y', y(saved) - 4).attr('text-anchor', 'end').text('a save at the pause alone: ' + amount(saved));
   };
   new ResizeObserver(draw).observe(svg.node());

@@ -22,17 +22,16 @@ ARGUMENTS = ('--headless=new', '--no-sandbox', '--disable-gpu', '--disable-dev-s
 class Browser:
     """A browser with one page; to be used by `with`."""
 
-    def __init__(self, is_dark=False, width=1280, height=2400):
+    def __init__(self):
         self.folder = tempfile.mkdtemp(prefix='mig-view-')
         self.driver = subprocess.Popen([DRIVER, '--port=0'], stdout=subprocess.PIPE, stderr=subprocess.DEVNULL,
                                        env={**os.environ, 'HOME': self.folder})
         self.port = next(int(found[1]) for found in map(STARTED.search, iter(self.driver.stdout.readline, b'')) if found)
-        words = [*ARGUMENTS, '--window-size=%d,%d' % (width, height), '--user-data-dir=' + self.folder, 'about:blank']
+        words = [*ARGUMENTS, '--window-size=1280,2400', '--user-data-dir=' + self.folder, 'about:blank']
         wanted = {'browserName': 'chrome', 'goog:loggingPrefs': {'browser': 'ALL', 'performance': 'ALL'},
                   'goog:chromeOptions': {'binary': CHROMIUM, 'args': words}}
         self.session = ''
         self.session = '/session/' + self.call('/session', {'capabilities': {'alwaysMatch': wanted}})['sessionId']
-        self.of_chromium('Emulation.setEmulatedMedia', {'features': [{'name': 'prefers-color-scheme', 'value': 'dark' if is_dark else 'light'}]})
 
     def __enter__(self):
         return self
@@ -54,6 +53,12 @@ class Browser:
         with urllib.request.build_opener(urllib.request.ProxyHandler({})).open(asked, timeout=SECONDS) as answer:
             return json.loads(answer.read().decode())['value']
 
+    def is_shown(self, width, height, is_dark=False):
+        """Shows the page so wide and so high, light or dark."""
+        self.of_chromium('Emulation.setDeviceMetricsOverride', {'width': width, 'height': height, 'deviceScaleFactor': 1, 'mobile': False})
+        self.of_chromium('Emulation.setEmulatedMedia', {'features': [{'name': 'prefers-color-scheme', 'value': 'dark' if is_dark else 'light'}]})
+        self.run('const done = arguments[0]; requestAnimationFrame(() => requestAnimationFrame(done));', kind='async')
+
     def of_chromium(self, command, words):
         return self.call('/goog/cdp/execute', {'cmd': command, 'params': words})
 
@@ -73,7 +78,8 @@ class Browser:
 
     def rows(self, table):
         """The cells of a table's body."""
-        return self.run("return [...document.querySelectorAll('#' + arguments[0] + ' tbody tr')].map(row => [...row.cells].map(cell => cell.textContent))", table)
+        return self.run("""return [...document.querySelectorAll('#' + arguments[0] + ' tbody tr')].map(
+            row => [...row.cells].map(cell => cell.textContent))""", table)
 
     def element(self, selector):
         return self.call('/element', {'using': 'css selector', 'value': selector})[ELEMENT]
@@ -88,9 +94,10 @@ class Browser:
         return self.call('/se/log', {'type': kind})
 
     def asked_of_the_network(self):
-        """The addresses that were asked for."""
+        """The addresses that the page asked for, its own among them; not what the browser's first page does."""
         events = [json.loads(entry['message'])['message'] for entry in self.logged('performance')]
-        return [event['params']['request']['url'] for event in events if event['method'] == 'Network.requestWillBeSent']
+        asked = [event['params'] for event in events if event['method'] == 'Network.requestWillBeSent']
+        return [one['request']['url'] for one in asked if not one['documentURL'].startswith('chrome:')]
 
     def screenshot(self):
         return base64.b64decode(self.call('/screenshot'))
