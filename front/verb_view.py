@@ -2,8 +2,9 @@
 the program's `show`, and what `mig info` tells stands at the top."""
 import json
 import sys
+from itertools import islice
 
-from front import errors, forms, page, places, program, sent, sources, verb_info, verdict, write
+from front import errors, forms, page, places, program, resolve, sent, sources, verb_info, verdict, write
 from front.frames import Frames
 from front.parts import RECORD, stream_of, tree_of
 from front.progress import LINE
@@ -15,9 +16,10 @@ PAGE is one HTML file, which any browser opens without a network: what `mig info
 frame numbers as a map, and of a live save its rounds. It says of each page of the guest whether it is all zeros, and nothing else of
 the guest's memory. PAGE is standard output where it is left out, and else written beside its place and renamed when all is well.
 
-The stream is judged as `mig show` does it, so what needs the whole guest isn't looked at; `mig check` tells that. Of a stream that is
-refused the page has what stands in front of the refused part, and the status is 1. Of what is no save, and of an old save, no page is
-written. It is read once, and no page is kept in memory.
+The verdict at its top is that of `mig check`; of a packed file, and of a pipe, which are read once, it is that of `mig show`, which
+doesn't look at what needs the whole guest. Of a stream that is refused the page has what stands in front of the refused part, or all
+where the guest isn't whole, and the status is 1. Of what is no save, and of an old save, no page is written. No page of the guest is
+kept in memory.
 
 With --json PAGE is the JSON object from which the page is drawn; docs/view.schema.json in the sources tells what stands in it."""
 SCHEMA = 1
@@ -81,19 +83,41 @@ def map_of(frames, per):
 
 
 class View:
-    """What the page of one save is drawn from."""
+    """What the page of one save is drawn from: what `info` tells, what `check` says where it was asked, records and frames."""
 
-    def __init__(self, told, records, frames, length):
-        self.told, self.records, self.frames, self.length = told, records, frames, length
+    def __init__(self, told, judged, records, frames, length):
+        self.told, self.judged, self.records, self.frames, self.length = told, judged, records, frames, length
 
     def facts(self, per=1):
         """It as one object, with so many frame numbers in a cell, or more."""
         of_pages = sum(places.HEAD + record['length'] for record in self.records if record['name'] == 'PAGE_DATA')
-        found = {'schema': SCHEMA, 'info': self.told.facts(), 'length': self.length, 'records': self.records, 'frames': None}
+        found = {'schema': SCHEMA, 'info': self.told.facts(), 'verdict': self.judged and self.judged.facts(), 'length': self.length,
+                 'records': self.records, 'frames': None}
         if self.frames:
             found['frames'] = map_of(self.frames, max(per, self.frames.per_cell()))
             found['live'] = live(self.frames, self.length, of_pages)
         return found
+
+    def lines(self):
+        """What stands at the top of the page: what `info` tells, without what is told elsewhere on it."""
+        section = ''
+        for line in self.told.lines():
+            if line == self.told.found.line:
+                return
+            name, _, value = line.partition(': ')
+            section = section if line.startswith(' ') else name.rstrip(':')
+            if value and name.strip() not in ('file', 'parts'):
+                yield line + ', says the configuration' * (section == 'configuration' and name.strip() == 'vCPUs')
+
+    def verdict(self):
+        """The verdict at its top, and whether it is one of a whole guest or stream."""
+        found = self.judged or self.told.found
+        if found.status:
+            return '%s. %s' % (found.line, '%s%s; %s.' % (found.where(), found.means, found.do) if found.means else ''), False
+        behind = ' %d bytes follow the end of the stream.' % found.follows if found.follows else ''
+        if self.judged:
+            return 'A well formed stream of a whole guest, says mig check: %s.%s' % (found.line, behind), True
+        return 'Each part of the stream is well formed.%s Whether the guest is whole mig check tells.' % behind, True
 
 
 def read(name, source):
@@ -111,10 +135,15 @@ def read(name, source):
         said, text = program.Answer(errors.NO_MEMORY, verb_info.TOO_MANY), b''
     found = verdict.of_answer(name, source, form, 'show', said)
     told = verb_info.Info.of(found, verb_info.size_of(source), stream=stream_of(text, source, form.begins, ahead), **told)
-    return told, drawn(told, text, read, form.begins, is_wrapped)
+    judged = None
+    if found.status == errors.OK and source.is_walkable and not source.packed:  # a check of a file by place reads little of it
+        judged = verdict.judged(name, program.find(resolve.CHECK), source)
+        if judged.status not in (errors.OK, errors.REFUSED):
+            return told._replace(found=judged), None
+    return told, drawn(told, judged, text, read, form.begins, is_wrapped)
 
 
-def drawn(told, text, read, begins, is_wrapped):
+def drawn(told, judged, text, read, begins, is_wrapped):
     """What the page is drawn from, of a stream that was listed and read."""
     if not told.stream:
         return None
@@ -122,7 +151,7 @@ def drawn(told, text, read, begins, is_wrapped):
     if not read.fits(records):
         raise RuntimeError('the places of the records are not those that `show` tells')
     length = placed(records, begins, is_wrapped) - begins
-    return View(told, records, frames_of(records, read) if read.is_whole else None, length)
+    return View(told, judged, records, frames_of(records, read) if read.is_whole else None, length)
 
 
 def together(records, count):
@@ -140,15 +169,6 @@ def together(records, count):
         yield one
 
 
-def verdict_of(told):
-    """What the page says at its top."""
-    found = told.found
-    if found.status == errors.OK:
-        behind = '; %d bytes follow the end' % found.follows if found.follows else ''
-        return 'Each part of the stream is well formed%s. Whether the guest is whole `mig check` tells.' % behind
-    return '%s. %s' % (found.line, '%s%s; %s.' % (found.where(), found.means, found.do) if found.means else '')
-
-
 def page_of(view):
     """The page, in which records and frames are taken together as far as its length asks for it."""
     per = count = 1
@@ -156,8 +176,7 @@ def page_of(view):
         drawn = view.facts(per)
         if count > 1:
             drawn['records'] = list(together(view.records, count))
-        lines = [line for line in view.told.lines() if ': ' in line][:MOST_LINES]
-        text = page.page_of(shown(view.told.found.name), verdict_of(view.told), view.told.found.status == errors.OK, lines, drawn)
+        text = page.page_of(shown(view.told.found.name), *view.verdict(), islice(view.lines(), MOST_LINES), drawn)
         if len(text) <= page.MOST_BYTES:
             return text
         per = 2 * drawn['frames']['per'] if drawn['frames'] else per
@@ -170,7 +189,7 @@ def text_of(words, view):
 
 
 def seen(words):
-    """What is told of the save, of which PAGE has got its name where it has a page."""
+    """What is said of the save, of which PAGE has got its name where it has a page."""
     with sources.source_for(words.input) as source:
         output = Page(words.output, words.force)
         try:
@@ -180,15 +199,16 @@ def seen(words):
                 output.place()
         finally:
             output.close()
-    return told
+    return view.judged if view and view.judged else told
 
 
 def view(words):
     LINE.is_terminal = LINE.is_terminal and words.output != '-'
-    told = seen(words)
-    if told.found.status or told.found.follows:
-        put_lines(list(told.found.lines())[told.found.status == errors.OK:], sys.stderr)
-    return told.found.status
+    said = seen(words)
+    found = said.found if isinstance(said, verb_info.Info) else said
+    if found.status or found.follows:
+        put_lines(list(found.lines())[found.status == errors.OK:], sys.stderr)
+    return found.status
 
 
 def offer(verbs):

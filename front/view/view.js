@@ -67,24 +67,28 @@ function swatch(item, fillColour) {
 
 // ---- records
 
-// The records with where each ends, and behind them what was refused.
+// The refusal of `check`, or that of `show`; nothing where the save was accepted.
+const refusalOf = data => [data.info, data.verdict].find(it => it && it.result === 'refused');
+
+// The records with where each ends, and among them what was refused.
 function placed(data) {
-  const begins = data.info.begins || 0, ends = begins + data.length;
-  const records = data.records.map((record, index) => {
+  const ends = (data.info.begins || 0) + data.length, refusal = refusalOf(data), isCut = data.info.result === 'refused';
+  const records = data.records.map(record => {
     const size = record.together ? record.length : HEAD + Math.ceil(record.length / PADDED) * PADDED;
-    return Object.assign({index, end: record.offset + size}, record);
+    return Object.assign({end: record.offset + size}, record);
   });
-  if (data.info.result === 'refused') {
-    const offset = data.info.offset === undefined ? ends : data.info.offset;
+  if (refusal) {
+    const offset = refusal.offset === undefined ? ends : refusal.offset, at = d3.bisector(it => it.offset).right(records, offset);
     const most = Math.max(data.info.size && !data.info.packed ? data.info.size : 0, offset + Math.max(1, data.length / 40));
-    records.push({index: records.length, layer: '', name: 'refused: ' + data.info.place + ' ' + data.info.cause_name, type: '', number: '',
-      offset, end: most, length: '', words: '', pages: '', zeros: '', isCut: true});
+    records.splice(at, 0, {layer: '', name: 'refused: ' + refusal.place + ' ' + refusal.cause_name, type: '', number: '', offset, length: '',
+      words: '', pages: '', zeros: '', isCut: true, isLast: isCut, end: isCut || !at ? most : records[at - 1].end});
   }
+  records.forEach((record, index) => { record.index = index; });
   return records;
 }
 
 function toldOf(record) {
-  if (record.isCut) return record.name + ', at byte ' + number(record.offset) + ' (' + hex(record.offset) + '): what follows was not read as a part of the save';
+  if (record.isCut) return record.name + ', at byte ' + number(record.offset) + ' (' + hex(record.offset) + ')' + (record.isLast ? ': what follows was not read as a part of the save' : '');
   const many = record.together ? number(record.together) + ' records from ' : '';
   const told = [many + record.name + ' (' + record.layer + ' record ' + number(record.number) + ', type ' + hex(record.type) + ')',
     'at byte ' + number(record.offset) + ' (' + hex(record.offset) + ')', number(record.length) + ' bytes'];
@@ -233,8 +237,7 @@ function recordsOf(data) {
   }};
   strip(records, chosen);
   table(records, chosen);
-  const last = records[records.length - 1];
-  if (last) chosen.choose(last.isCut ? last.index : 0);
+  if (records.length) chosen.choose(Math.max(0, records.findIndex(it => it.isCut)));
 }
 
 // ---- frames
