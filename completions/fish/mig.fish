@@ -1,6 +1,6 @@
 # Completion of mig for fish: verbs, the options of each, and else file names; made by tests/documents/completions.py.
 
-set -l verbs check compare convert digest exercise info normalise relay restore save show total walk
+set -l verbs check compare convert digest exercise info normalise relay restore save show total view walk
 set -l none "not __fish_seen_subcommand_from $verbs help"
 
 complete -c mig -n "$none" -f -a check -d 'say of each file whether it is a whole, well formed save'
@@ -15,13 +15,14 @@ complete -c mig -n "$none" -f -a restore -d 'write the image of a guest as it st
 complete -c mig -n "$none" -f -a save -d 'save the host in a guest image live, while a script changes it'
 complete -c mig -n "$none" -f -a show -d 'write the records of each file as JSON, up to the part that is refused'
 complete -c mig -n "$none" -f -a total -d 'count what `mig check --json` told on many hosts, and list what was not accepted'
+complete -c mig -n "$none" -f -a view -d 'write a page that shows the records, the frames and the rounds of a save'
 complete -c mig -n "$none" -f -a walk -d 'say which frame an address means to a vCPU'
 complete -c mig -n "$none" -f -a help -d 'tell more of a verb'
 complete -c mig -n "$none" -f -l version -d 'print the release, and which programs run and why'
 complete -c mig -l help -s h -d 'print how it is used'
 complete -c mig -n "__fish_seen_subcommand_from help; and not __fish_seen_subcommand_from $verbs" -f -a "$verbs"
 
-complete -c mig -n '__fish_seen_subcommand_from check compare convert digest exercise info normalise relay restore save show total walk' -l memory -x -d 'the most memory that the programs which hold guests may take, all together (80 % of what is available)'
+complete -c mig -n '__fish_seen_subcommand_from check compare convert digest exercise info normalise relay restore save show total view walk' -l memory -x -d 'the most memory that the programs which hold guests may take, all together (80 % of what is available)'
 complete -c mig -n '__fish_seen_subcommand_from check convert digest info normalise restore show' -l include -x -d 'of the files below folders take those with such a name'
 complete -c mig -n '__fish_seen_subcommand_from check convert digest info normalise restore show' -l exclude -x -d 'of the files below folders take none with such a name'
 complete -c mig -n '__fish_seen_subcommand_from check convert digest info normalise restore show' -l files-from -r -d 'take the paths too that FILE, or -, names, one a line'
@@ -35,11 +36,11 @@ complete -c mig -n '__fish_seen_subcommand_from check' -l host -d 'with --json: 
 complete -c mig -n '__fish_seen_subcommand_from check' -l skip-seen -r -d 'with --json: pass over what FILE, of earlier such lines, tells of and is unchanged; FILE need not be there'
 complete -c mig -n '__fish_seen_subcommand_from convert normalise restore' -s t -l target-directory -x -a '(__fish_complete_directories)' -d 'write one result for each PATH in DIR'
 complete -c mig -n '__fish_seen_subcommand_from convert normalise restore' -l skip-existing -d 'with -t: pass over what has its result in DIR'
-complete -c mig -n '__fish_seen_subcommand_from convert normalise relay restore save' -l force -d 'write over OUT where it is there'
+complete -c mig -n '__fish_seen_subcommand_from convert normalise relay restore save view' -l force -d 'write over OUT where it is there'
 complete -c mig -n '__fish_seen_subcommand_from convert normalise' -l xl -d 'put xl\'s header back in front, so that `xl restore` takes OUT'
 complete -c mig -n '__fish_seen_subcommand_from digest' -l check -d 'each PATH is a list of digests: say of each digest whether it is that of its file'
 complete -c mig -n '__fish_seen_subcommand_from digest' -s q -d 'with --check: print nothing of what is well'
-complete -c mig -n '__fish_seen_subcommand_from exercise' -f
+complete -c mig -n '__fish_seen_subcommand_from exercise view' -f
 complete -c mig -n '__fish_seen_subcommand_from info' -l json -d 'print one JSON object for each file'
 complete -c mig -n '__fish_seen_subcommand_from info' -l table -d 'print a line for each file, in columns'
 complete -c mig -n '__fish_seen_subcommand_from relay' -l xl -d 'pass xl\'s header on in front'
@@ -49,3 +50,5 @@ complete -c mig -n '__fish_seen_subcommand_from show' -l names -d 'put each text
 complete -c mig -n '__fish_seen_subcommand_from total' -l of -r -d 'look for each file that LIST, or -, names'
 complete -c mig -n '__fish_seen_subcommand_from total' -s 0 -d 'with --of: each path ends with NUL, and with --left too'
 complete -c mig -n '__fish_seen_subcommand_from total' -l left -d 'with --of: print the files alone that are still to be judged'
+complete -c mig -n '__fish_seen_subcommand_from view' -s o -l output -x -d 'write PAGE, and not to standard output'
+complete -c mig -n '__fish_seen_subcommand_from view' -l json -d 'write the object from which the page is drawn'
