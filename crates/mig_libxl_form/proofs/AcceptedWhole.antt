@@ -1,6 +1,6 @@
 -- An accepted guest is whole, with the parts of its emulators: its image means a whole guest, and each record that is spelled
 -- leaves the emulators well formed.
-use Rattle.mig_libxl_form.proofs.Common.{◌≡◌, ℕ, ◌≤◌, ◌<◌, true, false, List, [], ◌∷◌, ◌++◌, length, nat_eq, Option, Some, None, refl, sym, ap, subst, ◌∙◌, arith, ◌||◌, eqb-true, length-append, AreBytes, Spells, no_part, one_more, pairs_are_read, Pair, Pv, PartKey, GuestOf, IsImage, ImageOf, LibxlRecord, LibxlContent, is_libxl_ended, image_in, image_among, Context, EmulatorsOf, no_emulators, put_libxl_content, add_pairs, AreEmulators, IsStreamedBare, HasLibxlContent, EmulatorsFit, FollowsLibxl, Bare, Wrapped, drop_at, none-some, same_Some, spelled_with, IsStreamed, has_emulator, IsFront, IsLibxlRecord, IsStream, AcceptedStream, optional, ends, pairs, context, StreamOf, image_of_stream, guest_of, most_pairs, most_body, All-drop, All-take, IsWhole, false≢true, or_parts, take_at, SpellPairs, blank, IsOfBytes, mean, mean_kind}
+use Rattle.mig_libxl_form.proofs.Common.{◌≡◌, ℕ, ◌≤◌, true, false, List, [], ◌∷◌, ◌++◌, length, nat_eq, Option, Some, None, refl, sym, ap, subst, ◌∙◌, arith, ◌||◌, eqb-true, length-append, AreBytes, Spells, no_part, one_more, pairs_are_read, Pair, Pv, PartKey, GuestOf, IsImage, ImageOf, LibxlRecord, LibxlContent, is_libxl_ended, image_in, image_among, Context, EmulatorsOf, no_emulators, put_libxl_content, add_pairs, AreEmulators, IsStreamedBare, HasLibxlContent, EmulatorsFit, FollowsLibxl, Bare, Wrapped, none-some, same_Some, spelled_with, IsStreamed, has_emulator, IsFront, IsLibxlRecord, IsStream, AcceptedStream, optional, ends, pairs, context, StreamOf, image_of_stream, guest_of, most_pairs, most_body, IsWhole, false≢true, or_parts, SpellPairs, blank, IsOfBytes, mean, mean_kind}
 use Rattle.mig_restore_form.proofs.AcceptedWhole.{accepted_whole}
 use Rattle.mig_libxl_form.specs.Emulators.{emulators_of}
 use Rattle.mig_libxl_form.proofs.EmulatorGuests.{guest_done}
@@ -8,14 +8,9 @@ use Rattle.mig_libxl_form.proofs.Formed.{context_kept, pairs_kept, none_yet}
 use Rattle.mig_libxl_form.specs.Carried.{IsCarried}
 use Rattle.mig_libxl_form.specs.Spelled.IsLibxlRecord.{image as an_image, body as a_body}
 use Rattle.mig_libxl_form.proofs.Among.{ended_more, emulator_more, emulators_more, among_more, among_first}
+use Rattle.mig_records.proofs.BodyBytes.{bytes_front, bytes_back}
 
 -- ---- bytes
-
-front_bytes : (xs ys : List ℕ) → AreBytes (xs ++ ys) → AreBytes xs
-front_bytes xs ys h = subst AreBytes (take_at xs ys (length xs) refl) (All-take (λ b. b < 256) (length xs) (xs ++ ys) h)
-
-back_bytes : (xs ys : List ℕ) → AreBytes (xs ++ ys) → AreBytes ys
-back_bytes xs ys h = subst AreBytes (drop_at xs ys (length xs) refl) (All-drop (λ b. b < 256) (length xs) (xs ++ ys) h)
 
 -- ---- the image
 
@@ -92,21 +87,21 @@ module _ (records : List LibxlRecord) (k : Keeps records) where
   content_kept _ _ c (optional type body high) small fits all = nothing_kept (record { type = type; content = c }) refl refl
   content_kept type _ c ends small fits all = nothing_kept (record { type = type; content = c }) refl refl
   content_kept type _ c (pairs front text key ps is spelled) small fits all =
-      emulator_kept (record { type = type; content = c }) refl refl (pairs_added (emulators_of records) k.emulators key front text ps is spelled fits (back_bytes front text all))
+      emulator_kept (record { type = type; content = c }) refl refl (pairs_added (emulators_of records) k.emulators key front text ps is spelled fits (bytes_back front text all))
   content_kept type _ c (context front bytes key is) small fits all =
-      emulator_kept (record { type = type; content = c }) refl refl (context_set (emulators_of records) k.emulators key front bytes is small (back_bytes front bytes all))
+      emulator_kept (record { type = type; content = c }) refl refl (context_set (emulators_of records) k.emulators key front bytes is small (bytes_back front bytes all))
 
   is_kept : (r : LibxlRecord) (text : List ℕ) → IsLibxlRecord r text → EmulatorsFit records r.content → (r.type ≡ 1 → image_among records ≡ None) → AreBytes text → Keeps (records ++ r ∷ [])
   is_kept r _ (an_image head text image is spelled) fits one all =
       others_kept r refl
-      (λ other there. subst (λ i. IsStreamedBare (meant i)) (same_Some image other (sym (among_first records r (one refl)) ∙ there)) (image_plain text image [] (back_bytes head text all) spelled))
+      (λ other there. subst (λ i. IsStreamedBare (meant i)) (same_Some image other (sym (among_first records r (one refl)) ∙ there)) (image_plain text image [] (bytes_back head text all) spelled))
   is_kept _ text (a_body type body _ c is small says) fits one all =
-      content_kept type body c says small fits (front_bytes body is.padding (back_bytes is.head (body ++ is.padding) (subst AreBytes is.whole all)))
+      content_kept type body c says small fits (bytes_front body is.padding (bytes_back is.head (body ++ is.padding) (subst AreBytes is.whole all)))
 
 spelled_kept : (bytes : List ℕ) (records : List LibxlRecord) → AreBytes bytes → Spells FollowsLibxl bytes records → Keeps records
 spelled_kept _ _ all no_part = none_kept
 spelled_kept _ _ all (one_more bytes records r text before f) =
-    is_kept records (spelled_kept bytes records (front_bytes bytes text all) before) r text f.is f.fits f.one_image (back_bytes bytes text all)
+    is_kept records (spelled_kept bytes records (bytes_front bytes text all) before) r text f.is f.fits f.one_image (bytes_back bytes text all)
 
 -- a PV guest has no emulators where the stream ends
 alone : (bytes : List ℕ) (records : List LibxlRecord) (image : ImageOf) → Spells FollowsLibxl bytes records → is_libxl_ended records ≡ true → image_among records ≡ Some image → image.opening.kind ≡ Pv → has_emulator records ≡ false
@@ -128,8 +123,8 @@ accepted_done input guest rest all a = subst IsStreamed (sym a.means) (by a.stre
     by (Bare image) is there =
         guest_done (meant a.image) no_emulators (subst (λ i. IsStreamedBare (meant i)) (same_Some image a.image there) (image_plain input image rest all is)) none_yet (λ _. refl)
     by (Wrapped records) is there =
-        let behind = back_bytes is.header (is.bytes ++ rest) (subst AreBytes is.whole all) in
-        let k = spelled_kept is.bytes records (front_bytes is.bytes rest behind) is.spelled in
+        let behind = bytes_back is.header (is.bytes ++ rest) (subst AreBytes is.whole all) in
+        let k = spelled_kept is.bytes records (bytes_front is.bytes rest behind) is.spelled in
         guest_done (meant a.image) (emulators_of records) (k.image a.image there) k.emulators
         (λ pv. k.none (alone is.bytes records a.image is.spelled is.ended there (sym (mean_kind a.image.opening.kind a.image.records) ∙ pv)))
 

@@ -7,6 +7,8 @@ use Rattle.mig_headers.specs.declared.fault.Place.TheVariants.{LibxlRecord as At
 use Rattle.mig_restore_form.proofs.Converse.{image_is_accepted}
 use Rattle.mig_libxl_form.specs.Spelled.IsLibxlRecord.{image as an_image, body as a_body}
 use Rattle.mig_libxl_form.proofs.Bodies.{FineFields, fields_fine, fine_fields, body_says, body_goes, length_fits, has_no_image}
+use Rattle.mig_pvtables.proofs.Searches.{none_of}
+use Rattle.std.proofs.Common.{rules}
 
 -- ---- the head
 
@@ -14,10 +16,6 @@ record FineOrder (records : List LibxlRecord) (type : ℕ) : Type 0 where
   few : length records < most_records
   one_image : type ≡ 1 → image_among records ≡ None
   complete : type ≡ 0 → IsLibxlComplete records
-
-none_is : {X : Type 0} (o : Option X) → is_some o ≡ false → o ≡ None
-none_is None h = refl
-none_is (Some x) h = let no : true ≡ false = h in cc
 
 complete_is : (records : List LibxlRecord) (o : Option ImageOf) → image_among records ≡ o → is_none o ≡ false → (is_pv o && has_emulator records) ≡ false → IsLibxlComplete records
 complete_is records None is h p = let no : true ≡ false = h in cc
@@ -32,7 +30,7 @@ order_fine records type fine =
     let rows = rows_fine (order_rows records type) fine in
     record {
       few = leb-false most_records (length records) rows.0;
-      one_image = λ one. none_is (image_among records) (grind (arith, common_steps, rows.1.1.0, one));
+      one_image = λ one. none_of (image_among records) (grind (arith, common_steps, rows.1.1.0, one));
       complete = λ zero. complete_is records (image_among records) refl (grind (arith, common_steps, rows.1.1.0, zero)) (grind (arith, common_steps, rows.1.0, zero));
     }
 
@@ -48,18 +46,7 @@ found_same records i rest r q is f = subst (λ (x : LibxlRecord). Found FollowsL
 
 -- an image in another input
 image_moved : {input other rest more : List ℕ} {im : ImageOf} (is : IsImage input im.opening im.records rest) → other ≡ is.image_header ++ (is.domain_header ++ (is.bytes ++ more)) → IsImage other im.opening im.records more
-image_moved is whole = record {
-  image_header = is.image_header;
-  domain_header = is.domain_header;
-  major = is.major;
-  minor = is.minor;
-  bytes = is.bytes;
-  whole = whole;
-  is_image_header = is.is_image_header;
-  is_domain_header = is.is_domain_header;
-  spelled = is.spelled;
-  ended = is.ended;
-}
+image_moved is whole = search rules
 
 -- the front that an image takes
 image_alone : (input : List ℕ) (im : ImageOf) (rest : List ℕ) → IsImage input im.opening im.records rest → (text : List ℕ) × (input ≡ text ++ rest) × IsImage text im.opening im.records []
