@@ -1,12 +1,11 @@
 -- Bodies of which only the length is asked, and what each type of record is judged by.
-use Rattle.mig_relay_bodies.proofs.Common.{◌≡◌, ◌≢◌, ℕ, zero, suc, ◌+◌, ◌*◌, true, false, not, nat_eq, List, [], ◌∷◌, length, drop, Option, Some, None, refl, sym, ap, subst, ◌∙◌, arith, inl, ◌/◌, option_or, eq-eqb, fault_of_key, fault_of_entries, fault_of_table, PartCode, first_fault, Cause, BadLength, IsKnown, Entry, Entries, Verdict, ◌%◌, layout, CpuidLeaf, Msr, Truncated}
+use Rattle.mig_relay_bodies.proofs.Common.{◌≡◌, ◌≢◌, ℕ, ◌+◌, ◌*◌, true, false, not, nat_eq, List, [], ◌∷◌, length, Option, Some, None, refl, sym, ap, subst, ◌∙◌, arith, inl, ◌/◌, option_or, eq-eqb, fault_of_entries, fault_of_table, first_fault, Cause, BadLength, IsKnown, Entry, Entries, Verdict, ◌%◌, layout, CpuidLeaf, Msr, Truncated}
 use Rattle.std.proofs.lemmas.Bool.{and_parts, eqb-true}
 use Rattle.mig_bytes.proofs.Joins.{part_whole}
 use Rattle.mig_bytes.specs.Judged.{Judged, ◌>>=◌, part, tried, said_at}
 use Rattle.mig_bytes.specs.Judged.Judged.{Passes, Faulty}
 use Rattle.mig_bytes.specs.Walk.Reaches.{here}
-use Rattle.mig_records.specs.declared.layout.Layout.{Layout}
-use Rattle.mig_headers.proofs.RecordNumbers.{numbers_are_inverse}
+use Rattle.mig_headers.proofs.RecordNumbers.{numbers_are_inverse, mandatory}
 use Rattle.mig_headers.specs.RecordTypes.{record_row_of, type_number, type_of_number, is_optional}
 use Rattle.mig_headers.specs.declared.kind.Kind.{Kind}
 use Rattle.mig_headers.specs.declared.record_type.RecordType.{RecordType}
@@ -21,6 +20,7 @@ use Rattle.mig_restore_form.specs.Record.Content.{Nothing}
 use Rattle.mig_records.specs.Faults.{type_allows}
 use Rattle.mig_relay_bodies.specs.Bodies.{fault_of_typed, fault_of_record_body, typed_content, record_content}
 use Rattle.mig_relay_bodies.specs.Laws.{BodiesAreParts}
+use Rattle.mig_records.proofs.Rows.{no_key_fault}
 
 -- ---- bodies of which only the length is asked
 
@@ -28,19 +28,15 @@ length_fits : (len wanted : ℕ) → len ≡ wanted → first_fault ((not (nat_e
 length_fits len wanted is = let e : nat_eq len wanted ≡ true = eq-eqb len wanted is in rw e refl
 
 -- no key of the entries is refused
-no_keys : (code : PartCode) (l : Layout) → ((key1 key2 : ℕ) → fault_of_key code key1 key2 ≡ None) → (n : ℕ) (bytes : List ℕ) → fault_of_entries code l n bytes ≡ None
-no_keys code l free zero bytes = refl
-no_keys code l free (suc n) bytes = rw (free _ _) (no_keys code l free n (drop (l.key1_width + l.key2_width + l.value_width) bytes))
-
 cpuid_fine : (body : List ℕ) → length body % 24 ≡ 0 → fault_of_table CpuidLeaf (layout false 4 4 16) body ≡ None
 cpuid_fine body whole =
     ap (λ o. option_or o (fault_of_entries CpuidLeaf (layout false 4 4 16) (length body / 24) body)) (length_fits (length body) (0 + 24 * (length body / 24)) (omega (arith, whole)))
-    ∙ no_keys CpuidLeaf (layout false 4 4 16) (λ _ _. refl) (length body / 24) body
+    ∙ no_key_fault CpuidLeaf (layout false 4 4 16) (λ _ _. refl) (length body / 24) body
 
 msr_fine : (body : List ℕ) → length body % 16 ≡ 0 → fault_of_table Msr (layout false 4 0 12) body ≡ None
 msr_fine body whole =
     ap (λ o. option_or o (fault_of_entries Msr (layout false 4 0 12) (length body / 16) body)) (length_fits (length body) (0 + 16 * (length body / 16)) (omega (arith, whole)))
-    ∙ no_keys Msr (layout false 4 0 12) (λ _ _. refl) (length body / 16) body
+    ∙ no_key_fault Msr (layout false 4 0 12) (λ _ _. refl) (length body / 16) body
 
 -- a type that isn't among those whose bodies are looked into
 pub record IsPlain (this : RecordType) : Type 0 where
@@ -102,10 +98,6 @@ mark_at : (len : ℕ) (i : List ℕ) → nat_eq len 0 ≡ true → Passes Nothin
 mark_at len i none =
     ap (λ (j : Judged Cause (List ℕ)). j >>= λ b. tried None b.1 >>= λ _. Passes Nothing b.1) (sym (part_whole Truncated 0 [] i refl))
     ∙ ap (λ n. said_at Truncated (λ _. None) (λ _. Nothing) n i) (sym (eqb-true len 0 none))
-
-mandatory : (this : RecordType) → is_optional (type_number this) ≡ false
-mandatory End = refl
-mandatory _ = refl
 
 module _ (kind : Kind) (top len : ℕ) (i : List ℕ) where
   typed_part : (this : RecordType) → this ≢ PageData → (record_row_of this).supported ≡ true → (record_row_of this).allows len ≡ true → typed_at kind top (Some this) len i ≡ said_at Truncated (fault_of_typed (Some this)) (typed_content (Some this)) len i
