@@ -1,5 +1,5 @@
 -- The parts of some codes of a host: they make a well formed guest, and their records are those of the host's view.
-use Rattle.mig_dirtysave_parts.proofs.Common.{ℕ, ◌+◌, ◌-◌, ◌<◌, ◌≤◌, ◌^◌, Bool, true, false, cond, List, [], ◌∷◌, length, Option, Some, None, option_map, arith, ◌==◌, eqb-true, part_total, part_exact, Pv, Hvm, PartKey, FrameOf, IsFormed, IsPart, context_key, part_cmp, ◌≢◌, AllByRecursion, append_assoc, inl, inr, Kind, PartCode, Tsc, is_policy, HostOf, IsHostPart, IsValid, pfn_in, row_of, code_number, Part, FitsPolicy, same_parts, empty_formed, tied, one_code, shape_of, Record, info_records, p2m_records, records_of, records_in_order, static_bodies, last_records, AreRecordsWithin, blanked_context, blanked_shared, is_used_somewhere, renamed_part, renamed_context, view, guest_in, top_of, pv_part, each_policy, top_is, is_early, is_setting, kept_parts, parts_alone, IsContextFront, context_record, closing_records, most_policy_entries, append-nil, length-append, length-take-le, map, and_parts, leb-true, or_cases, length-replicate, HvmContext, HvmParam, CpuidLeaf, Msr, is_emulator_code, canonical_bodies, contents_by_shape, parts_at, SayAll, p2m_record, p2m_short, IsRecordWithin, get_each, to_each, stays_each, blanked_part, renamed, hvm_view, hvm_part, HoldsParts}
+use Rattle.mig_dirtysave_parts.proofs.Common.{ℕ, ◌+◌, ◌-◌, ◌<◌, ◌≤◌, ◌^◌, Bool, true, false, cond, List, [], ◌∷◌, length, Option, Some, None, option_map, arith, ◌==◌, eqb-true, part_total, part_exact, Pv, Hvm, PartKey, FrameOf, IsFormed, IsPart, context_key, part_cmp, ◌≢◌, AllByRecursion, append_assoc, inl, inr, Kind, PartCode, Tsc, is_policy, HostOf, IsHostPart, IsValid, pfn_in, row_of, code_number, Part, FitsPolicy, same_parts, empty_formed, tied, one_code, shape_of, Record, info_records, p2m_records, records_of, records_in_order, static_bodies, last_records, AreRecordsWithin, blanked_context, blanked_shared, is_used_somewhere, renamed_part, renamed_context, view, guest_in, top_of, pv_part, each_policy, top_is, is_early, is_setting, kept_parts, parts_alone, IsContextFront, context_record, closing_records, most_policy_entries, append-nil, length-append, length-take-le, map, leb-true, or_cases, length-replicate, HvmContext, HvmParam, CpuidLeaf, Msr, is_emulator_code, canonical_bodies, contents_by_shape, parts_at, SayAll, p2m_record, p2m_short, IsRecordWithin, get_each, to_each, stays_each, blanked_part, renamed, hvm_view, hvm_part, HoldsParts}
 use Rattle.mig_host_view.proofs.Common.{◌≡◌, ◌++◌, replicate, refl, sym, ap, subst, ◌∙◌, ne_eqb, GuestOf}
 use Rattle.std.specs.Ordering.{eq_by_cmp, nat_cmp}
 use Rattle.byteorder.specs.Endian.{little_bytes}
@@ -12,6 +12,7 @@ use Rattle.mig_records.proofs.Canonical.{canonical_bodies_say}
 use Rattle.mig_host_view.specs.Normalised.{cut_by, part_seen, normalised_of}
 use Rattle.mig_dirtysave_parts.proofs.Walks.{kept_at}
 use Rattle.std.specs.FinMap as maps
+use Rattle.mig_host_view.proofs.ViewedHvm.{context_is}
 
 -- ---- the parts of some codes
 
@@ -149,14 +150,6 @@ module _ (h : HostOf) where
       seen_at Hvm q (code_number code) is nine four seven ∙ sym (kept_at is_setting h.parts q ∙ ap (λ b. cond b (maps.get h.parts q) None) (ap is_setting is ∙ of)))
 
   module _ (valid : IsValid h) (front : List ℕ) (f : IsContextFront h.parts front) where
-    -- the context is the only part of its code
-    context_is : (key : PartKey) (x : List ℕ) → maps.get h.parts key ≡ Some x → key.code ≡ 9 → key ≡ context_key
-    context_is key x found code =
-        let is = valid.parts key x found in
-        let keys = subst (λ c. (row_of c).keys key.key1 key.key2 ≡ true) (sym (one_code HvmContext is.code (sym code ∙ is.number))) is.keys in
-        let (a, b) = and_parts (key.key1 == 0) (key.key2 == 0) keys in let one = eqb-true key.key1 0 a in let two = eqb-true key.key2 0 b in
-        λ i. record { code = code i; key1 = one i; key2 = two i }
-
     abbrev cut : List ℕ
     cut = front ++ replicate 8 0
 
@@ -175,7 +168,7 @@ module _ (h : HostOf) where
         ap (maps.get (hvm_view h).parts) same ∙ to_each part_total part_exact part_seen h.parts context_key f.context f.there ∙ ap Some cut_seen
     alike_at q nine false is None at = get_each part_total part_exact part_seen h.parts q ∙ ap (option_map (part_seen q)) at
     alike_at q nine false is (Some x) at =
-        let same = context_is q x at nine in
+        let same = context_is h valid q x at nine in
         let no : true ≡ false = sym ((eq_by_cmp_equiv part_total).refl q) ∙ ap (eq_by_cmp part_cmp q) same ∙ is in cc
 
     context_seen : records_of HvmContext (hvm_view h) ≡ context_record front ∷ []

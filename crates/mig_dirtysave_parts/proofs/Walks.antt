@@ -2,22 +2,9 @@
 use Rattle.mig_dirtysave_parts.proofs.Common.{tied, GuestOf, Kind, is_setting, kept_parts, parts_alone, ordering_reverse, IsNextKey, part_len, SameSettings}
 use Rattle.mig_guest.proofs.Common.{◌≡◌, ℕ, ◌<◌, ◌≤◌, List, [], ◌∷◌, length, filter, Bool, true, false, cond, Option, Some, None, IsSome, IfSome, refl, sym, ap, subst, ◌∙◌, arith, find, eq_by_cmp, is_eq, is_lt, Ordering, Less, Equal, Greater, get-insert, get-retain_keys, same_map, eq_by_cmp_equiv, option_map, part_cmp, IsAbove, Part, PartMap}
 use Rattle.mig_guest.specs.declared.part_key.PartKey.{PartKey}
-use Rattle.mig_guest.proofs.PartCursor.{less, not_itself}
+use Rattle.mig_guest.proofs.PartCursor.{less, is_above, above, is_key_above, not_itself}
 use Rattle.mig_guest.proofs.PartOrder.{part_total, part_exact}
 use Rattle.std.specs.FinMap as maps
-
--- the key is still ahead
-abbrev pub is_above : Option PartKey → PartKey → Bool
-is_above None k = true
-is_above (Some a) k = is_lt (part_cmp a k)
-
-above : (after : Option PartKey) (k : PartKey) → IsAbove after k → is_above after k ≡ true
-above None k h = refl
-above (Some a) k h = ap is_lt h
-
-is_key_above : (after : Option PartKey) (k : PartKey) → is_above after k ≡ true → IsAbove after k
-is_key_above None k h = tt
-is_key_above (Some a) k h = less _ h
 
 above_both : (after : Option PartKey) (k q : PartKey) → IsAbove after k → part_cmp k q ≡ Less → IsAbove after q
 above_both None k q h l = tt

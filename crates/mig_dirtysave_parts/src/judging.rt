@@ -1,17 +1,10 @@
 ghost use Rattle.std.specs.Prelude.{◌≡◌, IfOk};
 ghost use Rattle.mig_dirtysave_parts.specs.SaveTexts.{IsContextFront, unsound_in, judged_with};
 
-use mig_guest::PartKey;
+use mig_guest::CONTEXT_KEY;
 use mig_guest::mig_machine_api::Machine;
 use mig_headers::{HVM_CONTEXT, Unsound};
 use mig_hvm::scan_context;
-
-/// The key of the context.
-const CONTEXT: PartKey = PartKey {
-    code: HVM_CONTEXT,
-    key1: 0,
-    key2: 0,
-};
 
 /// What stands in the context of an HVM machine's host before its END, or the first thing that is wrong with the host, where
 /// `tables` is the first that is wrong with its tables.
@@ -19,7 +12,7 @@ pub fn judge<M: Machine>(machine: &M, tables: Option<Unsound>) -> Result<&[u8], 
     ensures front { IfOk result (λ front. IsContextFront (M.state machine.now).host.parts front.now) }
     ensures first { unsound_in result ≡ judged_with tables (M.state machine.now).host.parts }
 {
-    let Some(context) = machine.part(CONTEXT) else {
+    let Some(context) = machine.part(CONTEXT_KEY) else {
         return Err(Unsound::Missing(u64::from(HVM_CONTEXT)));
     };
     if let Some(unsound) = tables {

@@ -4,6 +4,14 @@ use Rattle.mig_host_view.proofs.ViewedParts.{hvm_part}
 use Rattle.mig_host_view.proofs.ViewedFrames.{top_is, each_policy, is_frame, frame_below, frame_type, few_inner}
 use Rattle.std.specs.FinMap as maps
 
+-- the context is the only part of its code
+pub context_is : (h : HostOf) → IsValid h → (key : PartKey) (x : List ℕ) → maps.get h.parts key ≡ Some x → key.code ≡ 9 → key ≡ context_key
+context_is h valid key x found code =
+    let is = valid.parts key x found in
+    let keys = subst (λ c. (row_of c).keys key.key1 key.key2 ≡ true) (sym (one_code HvmContext is.code (sym code ∙ is.number))) is.keys in
+    let (a, b) = and_parts (key.key1 == 0) (key.key2 == 0) keys in let one = eqb-true key.key1 0 a in let two = eqb-true key.key2 0 b in
+    λ i. record { code = code i; key1 = one i; key2 = two i }
+
 module _ (h : HostOf) (valid : IsValid h) (sound : IsSound h) (hvm : h.kind ≡ Hvm) where
   abbrev inner : GuestOf
   inner = guest_in h
@@ -14,18 +22,11 @@ module _ (h : HostOf) (valid : IsValid h) (sound : IsSound h) (hvm : h.kind ≡ 
   abbrev pub cut : GuestOf
   cut = record inner { parts = each_value part_seen h.parts }
 
-  context_is : (key : PartKey) (x : List ℕ) → maps.get h.parts key ≡ Some x → key.code ≡ 9 → key ≡ context_key
-  context_is key x found code =
-      let is = valid.parts key x found in
-      let keys = subst (λ c. (row_of c).keys key.key1 key.key2 ≡ true) (sym (one_code HvmContext is.code (sym code ∙ is.number))) is.keys in
-      let (a, b) = and_parts (key.key1 == 0) (key.key2 == 0) keys in let one = eqb-true key.key1 0 a in let two = eqb-true key.key2 0 b in
-      λ i. record { code = code i; key1 = one i; key2 = two i }
-
   cut_part : (key : PartKey) (x : List ℕ) → maps.get h.parts key ≡ Some x → IsPart h.kind (width_of cut) key (part_seen key x)
   cut_part key x found =
       subst (λ (k : Kind). IsPart k (width_of cut) key (part_seen key x)) (sym hvm)
       (hvm_part h.width (width_of cut) key x (subst (λ (k : Kind). IsHostPart k h.width key x) hvm (valid.parts key x found))
-      (λ nine. sound.context x (ap (maps.get h.parts) (sym (context_is key x found nine)) ∙ found)))
+      (λ nine. sound.context x (ap (maps.get h.parts) (sym (context_is h valid key x found nine)) ∙ found)))
 
   cut_policies : (code : ℕ) → FitsPolicy code h.parts → FitsPolicy code cut.parts
   cut_policies code fits = omega (arith, fits, count_each part_total part_exact part_seen (λ k. k.code == code) h.parts)
