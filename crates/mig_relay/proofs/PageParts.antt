@@ -1,5 +1,5 @@
 -- The front, the words and the pages of a PAGE_DATA are parts, one after another.
-use Rattle.mig_relay.proofs.Common.{◌≡◌, ℕ, ◌*◌, List, [], ◌∷◌, ◌++◌, true, false, Option, Some, None, refl, sym, ap, ◌∙◌, append_assoc, append-nil, length, le32, Judged, ◌>>=◌, part, tried, placed, said_at, Passes, Faulty, Cause, Truncated, Record, word_has_data, fault_of_count, words, RecordHead, StreamRecord, FrameEntry, Content, Frames, Opening, before, fault_of_page, with_places, entry_at, AtPadding, judged_next, with_body, entry_of_word, fault_of_list, words_at, pages_at, behind_list, front_list, good_list, list_stage, pages_behind, words_behind}
+use Rattle.mig_relay.proofs.Common.{◌≡◌, ℕ, ◌*◌, List, [], ◌∷◌, ◌++◌, true, false, Option, Some, None, refl, sym, ap, ◌∙◌, append_assoc, append-nil, length, le32, Judged, ◌>>=◌, part, tried, placed, said_at, Passes, Faulty, Cause, Truncated, Record, word_has_data, fault_of_count, words, RecordHead, StreamRecord, FrameEntry, Frames, Opening, before, fault_of_page, with_places, entry_at, AtPadding, judged_next, with_body, entry_of_word, fault_of_list, words_at, pages_at, behind_list, front_list, good_list, list_stage, pages_behind, words_behind}
 use Rattle.mig_bytes.specs.Judged.{each}
 
 module _ (o : Opening) (records : List StreamRecord) (head : RecordHead) where
@@ -9,11 +9,6 @@ module _ (o : Opening) (records : List StreamRecord) (head : RecordHead) where
   -- what is wrong with the words
   abbrev wrong : List ℕ → Option Cause
   wrong ws = fault_of_list o.kind (before o records).top head.len ws
-
-  -- what stands behind a part of a body is judged on
-  behind : {X : Type 0} (j : Judged Cause X) (k : X × List ℕ → Judged Cause Content) → with_body o records head (j >>= k) ≡ (placed (Record (length records)) j >>= λ a. with_body o records head (k a))
-  behind (Passes x rest) k = refl
-  behind (Faulty c rest) k = refl
 
   -- no page is left
   pub pages_over : (stood : List FrameEntry) (i : List ℕ) → pages_behind o records head [] stood i ≡ judged_next (AtPadding o records head (Frames stood)) i

@@ -1,5 +1,5 @@
 -- What comes next in a stream is a part of so many bytes, and what is judged behind it.
-use Rattle.mig_relay.proofs.Common.{◌≡◌, ◌≢◌, ℕ, ◌<◌, nat_le, nat_lt, ◌==◌, Bool, cond, List, [], ◌∷◌, ◌++◌, length, take, drop, true, false, Option, Some, None, refl, sym, ap, ◌∙◌, arith, length-append, length-take-le, take-append-drop, lt-ltb, ltb-true, ltb-false, le-leb, ne_eqb, eq-eqb, padding_len, le32, be64, Judged, ◌>>=◌, part, tried, placed, said_at, plain_at, Passes, Faulty, onward, said_part, no_bytes, part_whole, over, goes_on, LibxlRecord, LibxlContent, Image, Pairs, Context, marker_of, fault_of_marker, fault_of_libxl, Cause, Truncated, Place, ImageHeader, LibxlHeader, is_libxl_ended, emulator_key, fault_of_libxl_head, libxl_head_at, StreamOf, Bare, Wrapped, open_image_at, open_bare, open_content, open_inner, open_body, fault_of_libxl_body, pairs_in, head_in, RecordHead, Opening, StreamRecord, is_ended, ImageOf, image_of, AtMarker, AtVersion, AtHead, BeginsWithPart, Alone, Behind, AtLibxlHeader, AtLibxlHead, AtLibxlBody, AtLibxlPadding, AtStart, InImage, AtEnd, spot, carry, image_record, is_ident, fault_of_first, lt-leb, libxl_padded}
+use Rattle.mig_relay.proofs.Common.{◌≡◌, ◌≢◌, ℕ, ◌<◌, nat_le, nat_lt, ◌==◌, Bool, cond, List, [], ◌∷◌, ◌++◌, length, take, drop, true, false, Option, Some, None, refl, sym, ap, ◌∙◌, arith, length-append, length-take-le, take-append-drop, lt-ltb, ltb-true, ltb-false, le-leb, ne_eqb, eq-eqb, padding_len, le32, Judged, ◌>>=◌, part, tried, placed, said_at, plain_at, Passes, Faulty, onward, said_part, no_bytes, part_whole, over, goes_on, LibxlRecord, LibxlContent, Image, Pairs, Context, marker_of, fault_of_marker, fault_of_libxl, Cause, Truncated, Place, ImageHeader, LibxlHeader, is_libxl_ended, emulator_key, fault_of_libxl_head, libxl_head_at, StreamOf, Bare, Wrapped, open_image_at, open_bare, open_content, open_inner, open_body, fault_of_libxl_body, pairs_in, head_in, RecordHead, Opening, StreamRecord, is_ended, ImageOf, image_of, AtMarker, AtVersion, AtHead, BeginsWithPart, Alone, Behind, AtLibxlHeader, AtLibxlHead, AtLibxlBody, AtLibxlPadding, AtStart, InImage, AtEnd, spot, carry, image_record, is_ident, fault_of_first, lt-leb, libxl_padded}
 use Rattle.std.proofs.Common.{drop_at}
 use Rattle.mig_libxl_form.specs.Content.LibxlContent.{Nothing}
 use Rattle.mig_headers.specs.declared.fault.Place.TheVariants.{LibxlRecord as AtRecord}
@@ -35,9 +35,6 @@ unfolding open_stream_at
 short_start i less =
     rw (lt-leb 8 (length i) less) (alone_is i ∙ rw (lt-ltb (length i) 8 less) refl)
 
-same_ident : (bytes rest : List ℕ) → length bytes ≡ 8 → be64 (bytes ++ rest) 0 ≡ be64 bytes 0
-same_ident bytes rest eight = marker_of bytes rest eight
-
 whole_start : (bytes rest : List ℕ) → length bytes ≡ 8 → open_stream_at (bytes ++ rest) ≡ first (bytes ++ rest)
 unfolding open_stream_at
 whole_start bytes rest eight = by (is_ident bytes) refl
@@ -46,8 +43,8 @@ whole_start bytes rest eight = by (is_ident bytes) refl
     long = le-leb 8 (length (bytes ++ rest)) (omega (arith, length-append bytes rest, eight))
 
     by : (b : Bool) → is_ident bytes ≡ b → open_stream_at (bytes ++ rest) ≡ first (bytes ++ rest)
-    by true is = rw (long, same_ident bytes rest eight, is, part_whole {C = Cause} Truncated 8 bytes rest eight, is) (ap open_wrapped (drop_at bytes rest 8 eight) ∙ sym (ap (λ b. cond b (spot AtLibxlHeader rest) (spot (InImage Alone AtVersion) rest)) is))
-    by false is = rw (long, same_ident bytes rest eight, is) (alone_is (bytes ++ rest) ∙ rw (part_whole {C = Cause} Truncated 8 bytes rest eight, is) (marked (fault_of_marker bytes)))
+    by true is = rw (long, marker_of bytes rest eight, is, part_whole {C = Cause} Truncated 8 bytes rest eight, is) (ap open_wrapped (drop_at bytes rest 8 eight) ∙ sym (ap (λ b. cond b (spot AtLibxlHeader rest) (spot (InImage Alone AtVersion) rest)) is))
+    by false is = rw (long, marker_of bytes rest eight, is) (alone_is (bytes ++ rest) ∙ rw (part_whole {C = Cause} Truncated 8 bytes rest eight, is) (marked (fault_of_marker bytes)))
       where
         marked : (g : Option Cause) → (placed ImageHeader (tried g rest >>= λ _. Passes bytes rest) >>= λ b. spot (InImage Alone AtVersion) b.1) ≡ (placed ImageHeader (tried g rest >>= λ _. Passes bytes rest) >>= λ b. start_follows b.0 b.1)
         marked (Some c) = refl

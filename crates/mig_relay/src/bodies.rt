@@ -9,12 +9,9 @@ ghost use Rattle.mig_relay.specs.declared.state.Coming.TheVariants as comes;
 use crate::answer::{RelayAnswer, Step};
 use crate::state::{Coming, Relay, answer};
 use mig_bytes::{Sink, Source, pad_len, take_part, u32_le};
-use mig_headers::{Cause, Place, RecordType};
+use mig_headers::{Cause, Place, X86_PV_P2M_FRAMES};
 use mig_libxl_form::RecordsBehind;
 use mig_records::RecordHead;
-
-/// The type of the records that list P2M frames.
-const X86_PV_P2M_FRAMES: u32 = RecordType::X86PvP2mFrames as u32;
 
 /// The most bytes of a piece.
 const PIECE: usize = 4096;
