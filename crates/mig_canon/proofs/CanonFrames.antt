@@ -1,5 +1,5 @@
 -- The body of each batch of frames says these frames.
-use Rattle.mig_canon.proofs.Common.{◌≡◌, ℕ, zero, suc, ◌+◌, ◌-◌, ◌*◌, ◌≤◌, ◌<◌, ◌^◌, min, List, [], ◌∷◌, ◌++◌, length, take, drop, map, replicate, Bool, true, false, Option, Some, None, refl, sym, ap, subst, ◌∙◌, arith, length-append, drop-drop, is_some, All, nat_lt, type_in_guest, range_with_len, nat_cmp-IsAntisymmetric, little_bytes, Kind, Hvm, Pv, GuestOf, IsFormed, Frame, batch, batches, page_in, words_of, pages_of, frames_in, common_steps, All-nil, All-cons, All-head, All-tail, length-drop, take_all, nat_cmp_total, little_number-reads_back, PageType, words_len, IsSendable, told, ◌/◌, ◌%◌, unwrap_or, IsInside, little_number, is_type_of, IsPage, IsEntry, AreEntries, IsGoodWord, IsBatch, all_found, pfn_limit, length-take, Notab, Broken, Xalloc}
+use Rattle.mig_canon.proofs.Common.{◌≡◌, ℕ, zero, suc, ◌+◌, ◌-◌, ◌*◌, ◌≤◌, ◌<◌, ◌^◌, min, List, [], ◌∷◌, ◌++◌, length, take, drop, map, replicate, Bool, true, false, Option, Some, None, refl, sym, ap, subst, ◌∙◌, arith, length-append, drop-drop, is_some, All, nat_lt, range_with_len, nat_cmp-IsAntisymmetric, little_bytes, Kind, Hvm, Pv, GuestOf, IsFormed, Frame, batch, batches, page_in, words_of, pages_of, frames_in, common_steps, All-nil, All-cons, All-head, All-tail, length-drop, take_all, nat_cmp_total, little_number-reads_back, PageType, words_len, IsSendable, told, ◌/◌, ◌%◌, unwrap_or, IsInside, little_number, is_type_of, IsPage, IsEntry, AreEntries, IsGoodWord, IsBatch, all_found, pfn_limit, length-take, Notab}
 use Rattle.mig_records_pages.specs.PageData.{frame_word_in, body_of}
 use Rattle.std.proofs.Math.Seq.{take-add}
 use Rattle.mig_bytes.specs.Fields.{le32, le64}
@@ -11,14 +11,7 @@ use Rattle.mig_guest.specs.Tables.{EachEntry, IsWithin}
 use Rattle.mig_canon.proofs.CanonMaps.{IsKept}
 use Rattle.mig_canon.proofs.CanonParts.{le32_first}
 use Rattle.std.specs.FinMap as maps
-
--- a type of a guest of this kind stays
-stays : (kind : Kind) (t : PageType) → is_type_of kind t ≡ true → type_in_guest kind t ≡ t
-stays Pv t is = refl
-stays Hvm Notab is = refl
-stays Hvm Broken is = refl
-stays Hvm Xalloc is = refl
-stays Hvm _ is = absurd (cc)
+use Rattle.mig_restore_form.proofs.Batches.{type_stays}
 
 pub all_fine : (g : GuestOf) (kind : Kind) → g.kind ≡ kind → IsFormed g → All (IsSendable kind g.top) (frames_in g)
 all_fine g kind of_kind formed = all_found nat_cmp_total nat_cmp-IsAntisymmetric (IsSendable kind g.top) (frames_in g) (maps.entries_sorted g.frames) (λ q v is.
@@ -28,14 +21,14 @@ all_fine g kind of_kind formed = all_found nat_cmp_total nat_cmp-IsAntisymmetric
       inside = subst (λ (k : Kind). IsInside k g.top q) of_kind frame.inside;
       in_step = frame.is.in_step;
       whole = frame.is.whole;
-      type = stays kind v.type (subst (λ (k : Kind). is_type_of k v.type ≡ true) of_kind frame.type);
+      type = type_stays kind v.type (subst (λ (k : Kind). is_type_of k v.type ≡ true) of_kind frame.type);
       entries = frame.entries;
     })
 
 pub all_kept : (g : GuestOf) (kind : Kind) → g.kind ≡ kind → IsFormed g → All (IsKept kind) (frames_in g)
 all_kept g kind of_kind formed = all_found nat_cmp_total nat_cmp-IsAntisymmetric (IsKept kind) (frames_in g) (maps.entries_sorted g.frames) (λ q v is.
     let frame = formed.frames q v (maps.get-entries g.frames q ∙ is) in
-    (stays kind v.type (subst (λ (k : Kind). is_type_of k v.type ≡ true) of_kind frame.type), frame.is.there))
+    (type_stays kind v.type (subst (λ (k : Kind). is_type_of k v.type ≡ true) of_kind frame.type), frame.is.there))
 
 -- ---- a word
 

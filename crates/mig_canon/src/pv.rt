@@ -4,16 +4,9 @@ ghost use Rattle.mig_canon.specs.Canon.{info_records, p2m_body, p2m_records, vcp
 
 use crate::parts::write_piece;
 use mig_bytes::{Sink, WriteFailed, put_all};
-use mig_guest::{Guest, PartCode, PartKey};
+use mig_guest::{Guest, P2M_KEY, PartCode, PartKey};
 use mig_headers::{Kind, VCPU_LIMIT, X86_PV_INFO};
 use mig_records::{shape_of, write_head, write_numbers, write_padding, write_record};
-
-/// The key of the P2M frames.
-const P2M_KEY: PartKey = PartKey {
-    code: 3,
-    key1: 0,
-    key2: 0,
-};
 
 /// Appends the X86_PV_INFO of a PV guest; nothing for HVM.
 #[tactic(auto, using(mig_bytes::proofs::Texts::puts_same, mig_records::proofs::RecordTexts::text_one))]
