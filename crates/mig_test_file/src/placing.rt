@@ -1,5 +1,6 @@
 use mig_file::{FileSource, MemFile, PageFile};
 use mig_headers::Kind;
+use mig_legacy::place_legacy;
 use mig_pagetypes::{FrameWord, PageType};
 use mig_placing::place_image;
 use std::alloc::Global;
@@ -99,5 +100,42 @@ fn an_image_without_its_end_isnt_placed(rt: HostRuntime) -> Result<(), Fail> {
     let mut src = FileSource::new(&file, 0);
     assert!(rt; place_image(alloc, &mut src).is_err());
     assert_eq!(rt; src.rest(), 0);
+    Ok(())
+}
+
+// The width of the P2M, a batch of three words (one that stands for nothing, frame 5, and XTAB for frame 7), frame 5's page of
+// the value 4, the end of the chunks, the tail, and a context with a header of 24 bytes and its end. No device model follows.
+fn legacy(alloc: Global) -> Result<Vec<u8>, Fail> {
+    let mut text = vec![in alloc; 0, 1, 0, 0, 0, 0, 0, 0]?;
+    text.extend_from_slice(&3u32.to_le_bytes())?;
+    for word in [0xF000_0000u64, 5, 0xF000_0007] {
+        text.extend_from_slice(&word.to_le_bytes())?;
+    }
+    text.extend_from_slice(&[4; 4096])?;
+    text.extend_from_slice(&[0; 4])?;
+    text.extend_from_slice(&[7; 24])?;
+    text.extend_from_slice(&40u32.to_le_bytes())?;
+    text.extend_from_slice(&[1, 0, 0, 0, 24, 0, 0, 0])?;
+    text.extend_from_slice(&[0x11; 24])?;
+    text.extend_from_slice(&[0; 8])?;
+    Ok(text)
+}
+
+// Its page stands behind 36 bytes, can't be read, and hasn't to be.
+#[test]
+fn a_legacy_stream_is_placed(rt: HostRuntime) -> Result<(), Fail> {
+    let alloc = rt.alloc();
+    let file = MemFile::new(legacy(alloc)?, vec![in alloc; 36]?);
+    let mut src = FileSource::new(&file, 0);
+    let Ok(placed) = place_legacy(alloc, &mut src) else {
+        return Err("it is refused".into());
+    };
+    assert_eq!(rt; src.rest(), 0);
+    assert_eq!(rt; (placed.outline.frames(), placed.places.len()), (1, 1));
+    let word = FrameWord {
+        pfn: 37,
+        kind: PageType::Notab,
+    };
+    assert_eq!(rt; placed.places.next(0), Some((5, word)));
     Ok(())
 }
