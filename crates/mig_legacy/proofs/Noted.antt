@@ -1,5 +1,5 @@
 -- What is noted of frames goes on with the parts of a legacy stream.
-use Rattle.mig_legacy.proofs.Common.{◌≡◌, ◌≢◌, ℕ, List, [], ◌∷◌, ◌++◌, Option, Some, None, Result, Ok, Err, refl, sym, ap, subst, ◌∙◌, Judged, ◌>>=◌, placed, Passes, AgreesWithJudging, then_reads, Stop, LegacyCause, LegacyPlace, Hvm, GuestOf, FrameMap, FrameEntry, put_entries_by, put_entry, each, entry_at, with_places, sent, sent_kind, page_data_words, judged_as, start_form, tail_form, Start, Tail, Device, words_form, batch_form, content_form, chunk_form, device_at, device_form, ChunkKind, End, Batch, LegacyContent, Nothing, Frames, Value, Clock, Pairs, LegacyChunk, LegacyStream, image_records, put_in_guest, passes_is_spelled}
+use Rattle.mig_legacy.proofs.Common.{◌≡◌, ◌≢◌, ℕ, List, [], ◌∷◌, ◌++◌, Option, Some, None, Result, Ok, refl, sym, ap, subst, ◌∙◌, Judged, ◌>>=◌, placed, Passes, AgreesWithJudging, then_reads, Stop, LegacyCause, Hvm, GuestOf, FrameMap, put_entries_by, put_entry, each, entry_at, with_places, sent, sent_kind, page_data_words, judged_as, start_form, tail_form, Start, Tail, Device, words_form, batch_form, content_form, device_at, device_form, ChunkKind, End, Batch, LegacyContent, Nothing, Frames, Value, Clock, Pairs, LegacyChunk, image_records, put_in_guest, passes_is_spelled}
 use Rattle.std.specs.FinMap as maps
 use Rattle.mig_bytes.proofs.Fronts.{TakesFronts}
 use Rattle.mig_bytes.proofs.Joins.{placed_passes, same_passes}

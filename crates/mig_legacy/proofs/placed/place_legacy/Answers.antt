@@ -1,4 +1,4 @@
-use Rattle.mig_legacy.proofs.Common.{◌≡◌, ◌∙◌, ap, subst, rules}
+use Rattle.mig_legacy.proofs.Common.{◌∙◌, ap, subst, rules}
 use Rattle.std.specs.FinMap as maps
 use Rattle.mig_file.specs.Files.{left_at}
 use Rattle.mig_legacy.proofs.PlacedStreams.{legacy_placed}

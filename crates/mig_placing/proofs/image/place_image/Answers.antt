@@ -1,4 +1,4 @@
-use Rattle.mig_restore.proofs.Common.{◌≡◌, ◌∙◌, ap, sym, subst, rules}
+use Rattle.mig_restore.proofs.Common.{◌∙◌, ap, subst, rules}
 use Rattle.std.specs.FinMap as maps
 use Rattle.mig_file.specs.Files.{left_at}
 use Rattle.mig_placing.proofs.Images.{image_placed}
