@@ -9,6 +9,10 @@ import sys
 
 from front import resolve
 
+TYPE_CHECKING = False                                # a checker of types takes it for true; typing itself is slow to load
+if TYPE_CHECKING:
+    from typing import Callable, List
+
 MOST_INPUT, SECONDS = 64 << 20, 600
 
 
@@ -16,7 +20,7 @@ class NoAnswer(Exception):
     """Why nothing is answered."""
 
 
-def run(name, words, tell):
+def run(name: str, words: 'List[str]', tell: 'Callable[[str], None]') -> int:
     """Runs the sources of the program of this name on standard input; the program's status."""
     if shutil.which('rt') is None:
         raise NoAnswer("--unproved takes the command rt of the Rattle kit, which isn't on this machine")

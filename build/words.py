@@ -5,6 +5,10 @@ from collections import namedtuple
 
 from front import resolve
 
+TYPE_CHECKING = False                                # a checker of types takes it for true; typing itself is slow to load
+if TYPE_CHECKING:
+    from typing import List
+
 # Its words, what standard output and standard error get with status 0, and which functions of the crates do it.
 Command = namedtuple('Command', 'words output report done_by')
 NOTHING = 'nothing'
@@ -41,7 +45,7 @@ NUMBERS = {'BASE': (1, 2 ** 40 - 2 ** 24), 'SEED': (0, 2 ** 64 - 1), 'FRAMES': (
 DECIMAL, ADDRESS = re.compile('0|[1-9][0-9]{0,19}'), re.compile('0|[1-9a-f][0-9a-f]{0,15}')
 
 
-def fits(word, name):
+def fits(word: str, name: str) -> bool:
     """Whether a word is one that the usage line names so."""
     if name == 'ADDRESS':
         return ADDRESS.fullmatch(word) is not None
@@ -51,7 +55,7 @@ def fits(word, name):
     return DECIMAL.fullmatch(word) is not None and least <= int(word) <= most
 
 
-def names_a_command(name, words):
+def names_a_command(name: str, words: 'List[str]') -> bool:
     """Whether the words name a command of the program of this name."""
     if name == resolve.CHECK:
         return words in ([], ['legacy'])

@@ -4,6 +4,21 @@ from collections import namedtuple
 
 from front import errors, headers
 
+TYPE_CHECKING = False                                # a checker of types takes it for true; typing itself is slow to load
+if TYPE_CHECKING:
+    from typing import Callable, Optional, Protocol, Tuple, Union
+
+    Header = Union[headers.XlHeader, headers.LibvirtHeader]
+
+    class Source(Protocol):
+        """What the bytes of a file are looked at by: front/sources.py has several."""
+
+        def at(self, offset: int, count: int) -> bytes:
+            ...
+
+        def length_to(self, offset: int) -> int:
+            ...
+
 STREAM, LEGACY, IMAGE, BROKEN, NONE = 'stream', 'legacy', 'image', 'broken', 'none'
 LIBXL_MAGIC, LIBXC_MAGIC = b'LibxlFmt', b'\xff' * 8
 IMAGE_MAGICS = b'XGIMAGE1', b'XGIMAGE2'               # of guest images of version 1 and 2
@@ -31,31 +46,31 @@ OTHERS = (
 Form = namedtuple('Form', 'kind words begins header why')
 
 
-def found(kind, words, begins=0, header=None, why=''):
+def found(kind: str, words: 'Optional[str]', begins: int = 0, header: 'Optional[Header]' = None, why: str = '') -> Form:
     """The form of a file. (python3.6 knows no defaults of a namedtuple.)"""
     return Form(kind, words, begins, header, why)
 
 
-def packer_of(front):
+def packer_of(front: bytes) -> 'Optional[str]':
     """The program that packed a file with these first bytes, or None."""
     return next((name for magic, name in PACKERS.items() if front.startswith(magic)), None)
 
 
-def starts_like(front, magic):
+def starts_like(front: bytes, magic: bytes) -> bool:
     """Whether these are the first bytes of something that begins so; at least half of the magic has to be there."""
     return front.startswith(magic) or len(front) >= len(magic) // 2 and magic.startswith(front)
 
 
-def is_like_legacy(front):
+def is_like_legacy(front: bytes) -> bool:
     """Whether a file may be a legacy stream, whose form has no magic: a number of frame numbers of 8 bytes that is below 2^32,
     and a chunk's type. Where the number is 0, which is ignored too, another chunk than the last one has to follow."""
     if len(front) < 12:
         return False
     count, chunk = struct.unpack('<Qi', front[:12])
-    return count < 1 << 32 and -20 <= chunk <= 1024 and (count or chunk) != 0
+    return bool(count < 1 << 32 and -20 <= chunk <= 1024 and (count or chunk) != 0)
 
 
-def is_text(front):
+def is_text(front: bytes) -> bool:
     try:
         text = front.decode('utf-8', 'strict' if len(front) < LOOK else 'ignore')
     except UnicodeDecodeError:
@@ -63,7 +78,7 @@ def is_text(front):
     return all(letter.isprintable() or letter in '\t\n\r\f' for letter in text)
 
 
-def looks_like(front):
+def looks_like(front: bytes) -> str:
     """In words, what a file is that is no save."""
     if not front:
         return 'empty'
@@ -79,7 +94,7 @@ def looks_like(front):
     return 'begins with the bytes %s' % ' '.join('%02x' % byte for byte in front[:8])
 
 
-def bare_form(front, begins, before=''):
+def bare_form(front: bytes, begins: int, before: str = '') -> 'Optional[Form]':
     """The form of what begins with these bytes, behind a header or by itself."""
     if starts_like(front, LIBXL_MAGIC):
         return found(STREAM, before + 'libxl stream', begins)
@@ -88,7 +103,7 @@ def bare_form(front, begins, before=''):
     return None
 
 
-def headed_form(name, header, source):
+def headed_form(name: str, header: 'Header', source: 'Source') -> Form:
     """The form of a file with a toolstack's header: what stands behind the header is that which it says."""
     there = source.at(header.stream_begins, 8)
     if not there and source.length_to(header.stream_begins) < header.stream_begins:
@@ -100,10 +115,13 @@ def headed_form(name, header, source):
     return bare._replace(header=header)
 
 
-HEADERS = ((headers.XL_MAGIC, 'xl save', headers.xl_header), (headers.LIBVIRT_MAGIC, 'libvirt save', headers.libvirt_header))
+HEADERS = (
+    (headers.XL_MAGIC, 'xl save', headers.xl_header),
+    (headers.LIBVIRT_MAGIC, 'libvirt save', headers.libvirt_header),
+)  # type: Tuple[Tuple[bytes, str, Callable[[bytes], Header]], ...]
 
 
-def form_of(source):
+def form_of(source: 'Source') -> Form:
     """Which form a source has. It gives its bytes by `at(offset, count)`, fewer where it ends before."""
     front = source.at(0, LOOK)
     for magic, words, read in HEADERS:

@@ -14,6 +14,10 @@ from collections import namedtuple
 
 from front import errors
 
+TYPE_CHECKING = False                                # a checker of types takes it for true; typing itself is slow to load
+if TYPE_CHECKING:
+    from typing import Union
+
 XL_MAGIC = b'Xen saved domain, xl format\n \0 \r'
 XL_NUMBERS = struct.Struct('<IIII')
 XL_LENGTH = len(XL_MAGIC) + XL_NUMBERS.size
@@ -29,20 +33,20 @@ class XlHeader(namedtuple('XlHeader', 'mandatory optional length')):
     """What xl's header says, without the configuration itself."""
 
     @property
-    def stream_begins(self):
-        return XL_LENGTH + self.length
+    def stream_begins(self) -> int:
+        return XL_LENGTH + int(self.length)
 
     @property
-    def is_legacy(self):
+    def is_legacy(self) -> bool:
         return not self.mandatory & STREAM_V2
 
 
-def refuse_if(test, why):
+def refuse_if(test: 'Union[bool, int]', why: str) -> None:
     if test:
         raise errors.BadHeader(why)
 
 
-def xl_header(front):
+def xl_header(front: bytes) -> XlHeader:
     """What the first bytes of a file say as xl's header."""
     refuse_if(len(front) < XL_LENGTH, "xl's header is cut short: the input has %d bytes" % len(front))
     byte_order, mandatory, optional, length = XL_NUMBERS.unpack_from(front, len(XL_MAGIC))
@@ -53,11 +57,11 @@ def xl_header(front):
     return XlHeader(mandatory, optional, length)
 
 
-def configuration_cut(there, length):
+def configuration_cut(there: int, length: int) -> errors.BadHeader:
     return errors.BadHeader("the domain's configuration is cut short: it has %d of %d bytes" % (there, length))
 
 
-def xl_header_before_v2(header, configuration):
+def xl_header_before_v2(header: XlHeader, configuration: bytes) -> bytes:
     """The bytes of xl's header before a stream of version 2, with this configuration."""
     numbers = XL_NUMBERS.pack(BYTE_ORDER, header.mandatory | STREAM_V2, header.optional, len(configuration))
     return XL_MAGIC + numbers + configuration
@@ -67,15 +71,15 @@ class LibvirtHeader(namedtuple('LibvirtHeader', 'version length')):
     """What libvirt's header says, without the XML text."""
 
     @property
-    def stream_begins(self):
-        return LIBVIRT_LENGTH + self.length
+    def stream_begins(self) -> int:
+        return LIBVIRT_LENGTH + int(self.length)
 
     @property
-    def is_legacy(self):
-        return self.version == 1
+    def is_legacy(self) -> bool:
+        return bool(self.version == 1)
 
 
-def libvirt_header(front):
+def libvirt_header(front: bytes) -> LibvirtHeader:
     """What the first bytes of a file say as libvirt's header."""
     refuse_if(len(front) < LIBVIRT_LENGTH, "libvirt's header is cut short: the input has %d bytes" % len(front))
     header = LibvirtHeader(*LIBVIRT_NUMBERS.unpack_from(front, len(LIBVIRT_MAGIC)))

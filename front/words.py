@@ -8,6 +8,10 @@ import textwrap
 from front import errors
 from front.text import put_lines, shown
 
+TYPE_CHECKING = False                                # a checker of types takes it for true; typing itself is slow to load
+if TYPE_CHECKING:
+    from typing import Any, Callable, List, Mapping, Optional, Tuple, Union
+
 WIDTH = 120
 STATUSES = {
     errors.OK: 'each file was accepted',
@@ -40,7 +44,7 @@ a stream of Xen 4.5 or older, also packed by gzip, zstd or xz."""
 OUT = 'OUT is written beside its place and renamed when all is well; `-` is standard output.'
 
 
-def statuses_of(own=()):
+def statuses_of(own: 'Union[Mapping[Any, str], Tuple[()]]' = ()) -> str:
     """The statuses, with what a verb adds to some of them."""
     told = {**STATUSES, **{status: '; '.join(filter(None, (STATUSES.get(status), says))) for status, says in dict(own).items()}}
     lines = ['exit status:']
@@ -50,22 +54,22 @@ def statuses_of(own=()):
     return '\n'.join([*lines, '', ANSWERS])
 
 
-def number(least, most=None):
-    def parse(text):
+def number(least: int, most: 'Optional[int]' = None) -> 'Callable[[str], int]':
+    def parse(text: str) -> int:
         if not re.fullmatch('[0-9]+', text) or int(text) < least or most is not None and int(text) > most:
             raise argparse.ArgumentTypeError('a number from %d %s is wanted' % (least, 'on' if most is None else 'to %d' % most))
         return int(text)
     return parse
 
 
-def size(text):
+def size(text: str) -> int:
     told = re.fullmatch('([0-9]+)([KMGT]?)', text)
     if not told or not int(told[1]):
         raise argparse.ArgumentTypeError('a size is wanted, as 512M or 8G')
     return int(told[1]) << 10 * ' KMGT'.index(told[2] or ' ')
 
 
-def address(text):
+def address(text: str) -> int:
     digits = text[2:] if text[:2] in ('0x', '0X') else text
     if not re.fullmatch('[0-9A-Fa-f]+', digits) or int(digits, 16) >= 1 << 64:
         raise argparse.ArgumentTypeError('an address of 64 bits to base 16 is wanted')
@@ -75,11 +79,11 @@ def address(text):
 class Words(argparse.ArgumentParser):
     """What it says is written as all lines are."""
 
-    def _get_option_tuples(self, option_string):
+    def _get_option_tuples(self, option_string: str) -> 'List[Any]':
         """A word that begins with -- is an option only where it is one whole. (python3.6 takes no `-j4` with allow_abbrev=False.)"""
         return [] if option_string.startswith('--') else super()._get_option_tuples(option_string)
 
-    def parse_known_args(self, args=None, namespace=None):
+    def parse_known_args(self, args: 'Any' = None, namespace: 'Any' = None) -> 'Any':
         """Of a verb that takes many files, those behind an option are taken too; behind `--` none is an option. What a verb doesn't know
         ends here, where its own usage is at hand."""
         found, left = super().parse_known_args(args, namespace)
@@ -90,22 +94,23 @@ class Words(argparse.ArgumentParser):
             self.error('unrecognized arguments: ' + ' '.join(map(shown, left)))
         return found, left
 
-    def _print_message(self, message, file=None):
+    def _print_message(self, message: str, file: 'Any' = None) -> None:
         put_lines(message.splitlines(), file or sys.stderr)
 
 
-def verb(verbs, name, says, run, more='', statuses=()):
+def verb(verbs: 'Any', name: str, says: str, run: 'Callable[[Any], int]', more: str = '',
+         statuses: 'Union[Mapping[Any, str], Tuple[()]]' = ()) -> Words:
     """Offers a verb, which a function does, with what its help says besides, and what its statuses mean besides."""
     words = verbs.add_parser(name, help=says, description='%s%s.' % (says[0].upper(), says[1:]),
                              epilog='\n\n'.join(filter(None, (more, statuses_of(statuses)))),
-                             formatter_class=argparse.RawDescriptionHelpFormatter)
+                             formatter_class=argparse.RawDescriptionHelpFormatter)  # type: Words
     words.add_argument('--memory', metavar='SIZE', type=size,
                        help='the most memory that the programs which hold guests may take, all together (80 %% of what is available)')
     words.set_defaults(run=run)
     return words
 
 
-def takes_files(words, says=None):
+def takes_files(words: Words, says: 'Optional[str]' = None) -> None:
     """The words of a verb that takes many files."""
     words.add_argument('paths', metavar='PATH', nargs='*', help=says)
     words.add_argument('--include', metavar='GLOB', action='append', help='of the files below folders take those with such a name')
@@ -115,20 +120,20 @@ def takes_files(words, says=None):
     words.set_defaults(usage_fault=words.error)
 
 
-def at_once(words):
+def at_once(words: Words) -> None:
     """The word of a verb that takes several files at once."""
     words.add_argument('-j', dest='jobs', metavar='N', type=number(1), default=1, help='up to N files at once, as far as memory allows')
 
 
-def writes_over(words):
+def writes_over(words: Words) -> None:
     """The word of a verb that writes OUT."""
     words.add_argument('--force', action='store_true', help='write over OUT where it is there')
 
 
-def takes_header(words, says):
+def takes_header(words: Words, says: str) -> None:
     """The word of a verb that passes xl's header on."""
     words.add_argument('--xl', action='store_true', help=says)
 
 
-def in_json(words, says='print one JSON object'):
+def in_json(words: 'Any', says: str = 'print one JSON object') -> None:
     words.add_argument('--json', action='store_true', help=says)

@@ -2,8 +2,12 @@
 import os
 import subprocess
 
+TYPE_CHECKING = False                                # a checker of types takes it for true; typing itself is slow to load
+if TYPE_CHECKING:
+    from typing import List, Optional
 
-def words_over(name, stands_on, folders):
+
+def words_over(name: str, stands_on: 'List[str]', folders: 'List[str]') -> 'Optional[List[str]]':
     """The words that check a crate of this name, where its libraries stand in one of these folders, as NAME.rlib, and those below
     them in any; None where one of them isn't there."""
     kit = os.path.dirname(subprocess.run(['rt', 'doc'], stdout=subprocess.PIPE, check=True).stdout.decode().strip())

@@ -54,29 +54,29 @@ PLACES = {
 }
 
 
-def refusal(place, *words):
+def refusal(place: str, *words: object) -> str:
     """The line of a refusal: a place with its number, if it has one, a cause and the cause's arguments."""
     text, causes = PLACES[place]
     if '{}' in text:
         text, words = text.format(words[0]), words[1:]
-    cause, arguments = causes[words[0]], [CONTEXT.get(word, str(word)) for word in words[1:]]
+    cause, arguments = causes[str(words[0])], [CONTEXT.get(str(word), str(word)) for word in words[1:]]
     return REFUSED.format(text, ' '.join([cause, *arguments]))
 
 
-def line_of(name, *words):
+def line_of(name: str, *words: object) -> str:
     """The line of this name with these words, which are its numbers, or a refusal's place and cause."""
     plain = {'usage': USAGE, 'check_usage': CHECK_USAGE, 'read_fault': READ_FAULT, 'write_fault': WRITE_FAULT, 'memory': MEMORY}
     if name in plain:
         return plain[name]
     if name == 'refused':
-        return refusal(*words)
+        return refusal(str(words[0]), *words[1:])
     text = DONE[name]
     if text.count('{}') != len(words):
         raise ValueError('%s has %d words' % (name, text.count('{}')))
     return text.format(*words)
 
 
-def of_check(line):
+def of_check(line: str) -> str:
     """The line that mig_check writes of a stream of which `verify` writes this one: it compares nothing."""
     numbers = re.fullmatch(DONE['differing'].replace('{}', r'(\w+)'), line)
     return line_of('uncompared', *numbers.groups()[:4]) if numbers else line

@@ -251,8 +251,8 @@ def fish_options():
 def fish():
     told = {**{name: says for name, (_, says) in verbs().items()}, "help": HELP_OF_HELP}
     offered = "\n".join('complete -c mig -n "$none" -f -a %s -d %s' % (name, fish_quoted(says)) for name, says in told.items())
-    return FISH.format(made=MADE, verbs=" ".join(verbs()), offered=offered, version=fish_quoted(said(action_of(main.Version))), help=fish_quoted(HELP),
-                       options=fish_options())
+    return FISH.format(made=MADE, verbs=" ".join(verbs()), offered=offered, version=fish_quoted(said(action_of(main.Version))),
+                       help=fish_quoted(HELP), options=fish_options())
 
 
 def fish_of(name):

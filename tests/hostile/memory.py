@@ -141,7 +141,8 @@ def long_streams():
     count = LONGEST // 16 - 1
     some = struct.pack('<QQ', 7, 1) * (count // 3)
     parameters = struct.pack('<IIQ', 10, 8 + 16 * count, count), some, some, some, struct.pack('<QQ', 7, 1) * (count % 3)
-    yield 'parameters twice', [STATIC, *[listed('libxc', 10, 'HVM_PARAMS', 8 + 16 * count)] * 2, CONTEXT, END], [front, *parameters, *parameters, context, end]
+    yield ('parameters twice', [STATIC, *[listed('libxc', 10, 'HVM_PARAMS', 8 + 16 * count)] * 2, CONTEXT, END],
+           [front, *parameters, *parameters, context, end])
     shown = listed('libxc', 1, 'PAGE_DATA', 8 + 512 * 4104, words=512, pages=512)
     yield 'pages', [STATIC, *[shown] * 100, CONTEXT, END], [front, *(page_record(512 * number) for number in range(100)), context, end]
     many = [b'key\0' + b'v' * 4091 + b'\0'] * (LONGEST // 4096 - 1)

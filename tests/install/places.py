@@ -13,8 +13,8 @@ TOOL = None                                          # the mig_tool that is trie
 sys.path[:0] = [TOP, os.path.join(TOP, 'tests')]
 from build.words import CHECK_USAGE  # noqa: E402
 from front import resolve  # noqa: E402
-from front.text import shown  # noqa: E402
-from tried import check_of, program, skipped  # noqa: E402
+from front.text import shown  # noqa: E402,F401  (others have it from here)
+from tried import check_of, program, skipped  # noqa: E402,F401
 
 COPIED = 'bin', 'build', 'completions', 'docs', 'examples', 'front', 'systemd'
 PROGRAMS = 'mig', *resolve.NAMES, 'xl-stream'
