@@ -15,7 +15,7 @@ if TYPE_CHECKING:
 
 PAGE_DATA = 1                                        # a type of record in an image
 PAGE, WORD, COUNT = 4096, 8, 8                       # bytes of a page, of a word, and of the number of words with what is reserved
-PAGES_AT_ONCE = 256                                  # so many are read at once
+PAGES_AT_ONCE = 64                                   # so many are read at once, which a core has in its own cache
 MOST_BODY = 1 << 27                                  # bytes of a body; `show` refuses a longer one
 MOST_ENTRIES = 1 << 25                               # frame numbers that are kept, 9 bytes each
 MOST_RECORDS = 1 << 17                               # that are listed
