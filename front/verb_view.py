@@ -8,6 +8,7 @@ from front import errors, forms, page, places, program, resolve, sent, sources, 
 from front.frames import Frames
 from front.parts import RECORD, stream_of, tree_of
 from front.progress import LINE
+from front.sharing import Memory
 from front.text import put_lines, shown
 from front.words import INPUT, in_json, verb, writes_over
 
@@ -130,8 +131,9 @@ def read(name, source):
         return verb_info.without_judging(verb_info.Info.of(early)), None
     told, ahead = verb_info.domain_of(source, form), source.at(form.begins, verb_info.AHEAD)
     is_wrapped = ahead.startswith(forms.LIBXL_MAGIC)
-    said, text, read = sent.beside(program.find(), source, form.begins, is_wrapped, verb_info.MOST_TEXT)
-    if len(text) > verb_info.MOST_TEXT or text.count(b'{') > sent.MOST_RECORDS:
+    with Memory(1).taken(verb_info.MOST_TAKEN):
+        said, text, read = sent.beside(program.find(), source, form.begins, is_wrapped, verb_info.MOST_TEXT)
+    if len(text) > verb_info.MOST_TEXT or text.count(b'{') > sent.MOST_RECORDS + 1 or said.line == 'fault: memory':
         said, text = program.Answer(errors.NO_MEMORY, verb_info.TOO_MANY), b''
     found = verdict.of_answer(name, source, form, 'show', said)
     told = verb_info.Info.of(found, verb_info.size_of(source), stream=stream_of(text, source, form.begins, ahead), **told)
