@@ -174,11 +174,12 @@ def together(records, count):
 def page_of(view):
     """The page, in which records and frames are taken together as far as its length asks for it."""
     per = count = 1
+    said, is_whole = view.verdict()
     while True:
         drawn = view.facts(per)
         if count > 1:
             drawn['records'] = list(together(view.records, count))
-        text = page.page_of(shown(view.told.found.name), *view.verdict(), islice(view.lines(), MOST_LINES), drawn)
+        text = page.page_of(shown(view.told.found.name), said, is_whole, islice(view.lines(), MOST_LINES), drawn)
         if len(text) <= page.MOST_BYTES:
             return text
         per = 2 * drawn['frames']['per'] if drawn['frames'] else per
