@@ -155,6 +155,8 @@ class Shared:
                 sources.write_all(self.into, data)
             except BrokenPipeError:
                 self.is_wanted = False
+            except OSError as fault:
+                raise errors.Unreadable(sources.why(fault)) from None
         return data
 
     def pass_over(self, count: int) -> None:

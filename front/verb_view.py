@@ -137,6 +137,8 @@ def read(name, source):
         said, text = program.Answer(errors.NO_MEMORY, verb_info.TOO_MANY), b''
     found = verdict.of_answer(name, source, form, 'show', said)
     told = verb_info.Info.of(found, verb_info.size_of(source), stream=stream_of(text, source, form.begins, ahead), **told)
+    if found.status not in (errors.OK, errors.REFUSED):
+        return told, None
     judged = None
     if found.status == errors.OK and source.is_walkable and not source.packed:  # a check of a file by place reads little of it
         judged = verdict.judged(name, program.find(resolve.CHECK), source)
