@@ -1,12 +1,7 @@
 -- Runs of pages, one frame longer.
-use Rattle.mig_placed.proofs.Common.{◌≡◌, ℕ, ◌+◌, ◌-◌, ◌*◌, ◌<◌, List, [], ◌∷◌, ◌++◌, length, take, drop, Option, Some, None, IfSome, true, refl, sym, ap, ◌∙◌, arith, append-nil, drop-drop, take-add, ValueMap, FrameWord, Frame, page_in, pages_of, frames_after, drop_next, flat_next, pages_next, IsThere, IsFirstCell, IsRunFrom}
-use Rattle.std.specs.Prelude.{is_some}
+use Rattle.mig_placed.proofs.Common.{◌≡◌, ℕ, ◌+◌, ◌-◌, ◌*◌, ◌<◌, List, [], ◌∷◌, ◌++◌, length, take, drop, Option, Some, refl, sym, ap, ◌∙◌, arith, append-nil, drop-drop, take-add, ValueMap, FrameWord, Frame, page_in, pages_of, frames_after, drop_next, flat_next, pages_next, IsFirstCell, IsRunFrom}
 use Rattle.mig_placed.specs.declared.runs.Run.{Run}
 use Rattle.mig_placed.proofs.Seen.{frame_told, first_placed, no_page, page_len, page_there}
-
--- before the first frame
-pub run_none : (cells : ValueMap) (from : ℕ) → IsRunFrom cells from (record { at = 0; pages = 0; frames = 0; behind = from })
-run_none cells from = record { behind = λ file. refl; size = λ file. refl; bytes = λ all fits. refl }
 
 module _ (cells : ValueMap) (from : ℕ) (run : Run) (is : IsRunFrom cells from run) (e : ℕ × FrameWord) (first : IsFirstCell cells run.behind e) where
   abbrev frame : Option (List ℕ) → Frame
@@ -60,10 +55,3 @@ module _ (cells : ValueMap) (from : ℕ) (run : Run) (is : IsRunFrom cells from 
         ∙ ap (λ l. l ++ take 4096 (drop (e.1.pfn - 1) all)) (is.bytes all (omega (arith, fits)))
         ∙ ap (λ l. pages_of (take run.frames (frames_after (Some all) cells from)) ++ l) (sym (page_there all e.1.pfn some (omega (arith, fits, at)))) ∙ sym (more (Some all));
   }
-
--- what was read of a run
-pub run_read : (file : Option (List ℕ)) (cells : ValueMap) (from : ℕ) (run : Run) (read : List ℕ) → IsRunFrom cells from run → length read ≡ 4096 * run.pages → IfSome file (λ all. IsThere all run.at read)
-    → is_some file ≡ true → read ≡ pages_of (take run.frames (frames_after file cells from))
-run_read None cells from run read is size there told = absurd (cc)
-run_read (Some all) cells from run read is size there told =
-    sym there.1 ∙ ap (λ n. take n (drop run.at all)) size ∙ is.bytes all (omega (arith, there.0, size))

@@ -1,5 +1,5 @@
 -- How what writers of frames append joins, and what their errors say.
-use Rattle.std.proofs.Common.{◌≡◌, ◌≤◌, ◌<◌, ℕ, ◌+◌, ◌-◌, ◌*◌, Bool, false, List, ◌∷◌, ◌++◌, length, replicate, take, drop, Option, Result, Ok, Err, sym, ap, subst, ◌∙◌, arith, append-nil, append_assoc, length-append}
+use Rattle.std.proofs.Common.{◌≡◌, ◌≤◌, ◌<◌, ℕ, ◌+◌, ◌-◌, ◌*◌, false, List, ◌∷◌, ◌++◌, length, replicate, take, drop, Option, Result, Ok, Err, sym, ap, subst, ◌∙◌, arith, append-nil, append_assoc, length-append}
 use Rattle.std.proofs.Math.Seq.{take-append-add}
 use Rattle.std.proofs.lemmas.List.{take-append-le, length-take}
 use Rattle.std.specs.Io.KnownBytes.{Appends}
@@ -67,10 +67,6 @@ some_of_more i n count fs le some =
     omega (arith, some, ap length (flat_parted page_in i n count fs le), length-append (pages_of (take i fs)) (pages_of (take n (drop i fs)) ++ behind), length-append (pages_of (take n (drop i fs))) behind)
 
 -- ---- causes
-
--- nothing was counted before
-pub cause_behind : {X : Type 0} (a b c : ℕ) (fails : Bool) (r : Result X CopyFailed) → b ≡ a → CopyHasCause b c fails r → CopyHasCause a c fails r
-cause_behind a b c fails r same h = subst (λ n. CopyHasCause n c fails r) same h
 
 -- frames that can be got fail only where a write does
 pub kept_cause : (X Y : Type 0) (a b : ℕ) (e : CopyFailed) → CopyHasCause {X = X} a b false (Err e) → FaultHasCause {T = Y} {E = WriteFailed} a b (Err record {})
