@@ -9,6 +9,10 @@ from front.progress import LINE
 from front.text import escape_output, put_lines, tell
 from front.words import Words, statuses_of
 
+TYPE_CHECKING = False                                # a checker of types takes it for true; typing itself is slow to load
+if TYPE_CHECKING:
+    from typing import Any, List, Optional
+
 HERE, BEGIN, END = os.path.dirname(os.path.abspath(__file__)), 'verb_', '.py'
 SAYS = """Checks, normalises, converts, restores and compares saves of Xen guests, passes streams on and lists their records, by the
 proved programs mig_tool and mig_check."""
@@ -17,18 +21,18 @@ proved programs mig_tool and mig_check."""
 class Version(argparse.Action):
     """Says which release this is, and which programs run."""
 
-    def __call__(self, parser, *_):
+    def __call__(self, parser: argparse.ArgumentParser, *_: object) -> None:
         from front import version
         put_lines(version.lines(), sys.stdout)
         parser.exit()
 
 
-def verbs():
+def verbs() -> 'List[str]':
     """The names of all verbs."""
     return sorted(name[len(BEGIN):-len(END)] for name in os.listdir(HERE) if name.startswith(BEGIN) and name.endswith(END))
 
 
-def parser(names):
+def parser(names: 'List[str]') -> Words:
     """What reads the words of these verbs."""
     words = Words(prog='mig', description=SAYS, formatter_class=argparse.RawDescriptionHelpFormatter,
                   epilog='`mig help VERB` tells more of each.\n\n' + statuses_of())
@@ -40,7 +44,7 @@ def parser(names):
     return words
 
 
-def parsed(arguments):
+def parsed(arguments: 'List[str]') -> 'Any':
     """What the words say. Where a verb stands in front, no other one is loaded."""
     known = verbs()
     if arguments[:1] == ['help']:
@@ -48,7 +52,7 @@ def parsed(arguments):
     return parser(arguments[:1] if arguments[:1] and arguments[0] in known else known).parse_args(arguments)
 
 
-def untold(why=None):
+def untold(why: 'Optional[str]' = None) -> int:
     """The status where lines couldn't be written; what still waits to be is dropped."""
     nowhere = os.open(os.devnull, os.O_WRONLY)
     os.dup2(nowhere, 1)
@@ -60,7 +64,7 @@ def untold(why=None):
     return errors.WRITE_FAULT
 
 
-def open_closed():
+def open_closed() -> None:
     """Gives a standard stream that is closed its number again, so that no other file gets it; reads and writes fail there."""
     for fd, flags in (0, os.O_WRONLY), (1, os.O_RDONLY), (2, os.O_RDONLY):
         try:
@@ -71,13 +75,14 @@ def open_closed():
     sys.stderr = sys.stderr or open(2, 'w', closefd=False, errors='backslashreplace')
 
 
-def ended(arguments):
+def ended(arguments: 'List[str]') -> int:
     """Calls the verb; the status that it ends with, and what ends it is told."""
     try:
         words = parsed(arguments)
         program.catch_signals(program.RUNNING.stop)
         program.RUNNING.memory = words.memory or program.RUNNING.memory
-        return words.run(words)
+        status = words.run(words)  # type: int
+        return status
     except (errors.Untold, BrokenPipeError):
         raise
     except errors.Failed as failed:
@@ -94,7 +99,7 @@ def ended(arguments):
         return errors.FAULTY
 
 
-def main(arguments):
+def main(arguments: 'List[str]') -> int:
     guarding.no_core_files()
     open_closed()
     escape_output()

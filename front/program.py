@@ -10,21 +10,35 @@ from front.guarding import guard, memory_to_take
 from front.progress import LINE
 from front.text import shown
 
+TYPE_CHECKING = False                                # a checker of types takes it for true; typing itself is slow to load
+if TYPE_CHECKING:
+    from typing import Any, Callable, Dict, List, Optional, Protocol, Sequence, Set, Tuple
+
+    class Input(Protocol):
+        """What a program's standard input is made from: front/sources.py has several."""
+
+        def input_from(self, offset: int) -> int:
+            ...
+
+        def ended(self, accepted: bool) -> Optional[str]:
+            ...
+
 BUILDER = os.path.join(resolve.TOP, 'bin', 'build-mig_tool')
 PIPE = subprocess.PIPE
 HUGE_PAGES = 'glibc.malloc.hugetlb'                  # of glibc 2.35 and newer; others pass it over
-KEEPS_NO_PAGES = ['relay'], ['show'], [], ['legacy']  # words of mig_tool, and of mig_check all
+# Words of mig_tool, and of mig_check all.
+KEEPS_NO_PAGES = ['relay'], ['show'], [], ['legacy']  # type: Tuple[List[str], ...]
 SIGNALS = signal.SIGINT, signal.SIGTERM, signal.SIGHUP
 
 
-def catch_signals(handler):
+def catch_signals(handler: 'Callable[[int, Any], None]') -> None:
     """Has a function called where a signal asks for an end; one that was ignored from the start, as under nohup, stays so."""
     for number in SIGNALS:
         if signal.getsignal(number) != signal.SIG_IGN:
             signal.signal(number, handler)
 
 
-def surroundings(words):
+def surroundings(words: 'List[str]') -> 'Optional[Dict[str, str]]':
     """A program's environment for these words. Its pages come in two thirds of the time where the C library asks for huge ones, which it
     does where GLIBC_TUNABLES says so; what is said there of huge pages already stays."""
     told = os.environ.get('GLIBC_TUNABLES', '')
@@ -36,28 +50,30 @@ def surroundings(words):
 class Running:
     """The programs at work, which are ended where a signal ends the front."""
 
-    def __init__(self):
-        self.processes, self.stopped = set(), None
+    def __init__(self) -> None:
+        self.processes = set()  # type: Set[subprocess.Popen[bytes]]
+        self.stopped = None  # type: Optional[BaseException]
         self.memory, self.of_thread = memory_to_take(), threading.local()  # all of it, and what a thread's program may take of it
 
-    def most(self):
+    def most(self) -> int:
         """How much memory the next program may take."""
-        return getattr(self.of_thread, 'most', self.memory)
+        return int(getattr(self.of_thread, 'most', self.memory))
 
-    def end(self, stopped):
+    def end(self, stopped: BaseException) -> None:
         """Ends all programs; none is started any more."""
         self.stopped = stopped
         for process in list(self.processes):
             process.kill()
 
-    def stop(self, number, _):
+    def stop(self, number: int, _: object) -> None:
         for other in SIGNALS:                        # what was begun is taken away meanwhile
             signal.signal(other, signal.SIG_IGN)
         why = errors.Stopped(number)
         self.end(why)
         raise why
 
-    def start(self, path, words, most=None, restore_signals=False, **streams):
+    def start(self, path: str, words: 'Sequence[str]', most: 'Optional[int]' = None, restore_signals: bool = False,
+              **streams: 'Any') -> 'subprocess.Popen[bytes]':
         """Starts a program, ours or an unpacker, which may take so much memory, or what this thread's may. It gets its name as it is
         shown, since it answers no words behind a path that isn't UTF-8. Its standard error is a pipe. An OSError says that it didn't
         start. Where signals aren't restored a limit of file sizes is a write fault, too."""
@@ -71,10 +87,10 @@ class Running:
             process.kill()
         return process
 
-    def said_by(self, process):
+    def said_by(self, process: 'subprocess.Popen[bytes]') -> 'Tuple[int, str]':
         """What a program that was started wrote on standard error up to its end, and its status."""
-        said = process.stderr.read().decode('utf-8', 'replace')
-        process.stderr.close()
+        said = process.stderr.read().decode('utf-8', 'replace')  # type: ignore[union-attr]
+        process.stderr.close()  # type: ignore[union-attr]
         status = process.wait()
         self.processes.discard(process)
         return status, said
@@ -87,18 +103,18 @@ RUNNING = Running()
 Answer = namedtuple('Answer', 'status line')
 
 
-def find(name=resolve.TOOL):
+def find(name: str = resolve.TOOL) -> str:
     """The path of the program of this name: that which MIG_TOOL, or of mig_check MIG_CHECK, names, or the one that fits these
     sources."""
     named = os.environ.get(name.upper())
     if not named:
-        return resolved(name).path
+        return str(resolved(name).path)
     if not os.path.isfile(named) or not os.access(named, os.X_OK):
         raise errors.NoProgram('%s names %s, which is no program' % (name.upper(), shown(named)))
     return named
 
 
-def resolved(name):
+def resolved(name: str) -> resolve.Program:
     """The program that fits these sources, which is built first where none does."""
     try:
         return resolve.present(name)
@@ -112,12 +128,12 @@ def resolved(name):
         raise errors.NoProgram('no program runs: %s; where a source was changed meanwhile, run it again' % none) from None
 
 
-def can_build():
+def can_build() -> bool:
     """Whether this is a checkout; not what was installed, nor a release without its sources."""
     return resolve.IS_REPOSITORY and os.access(BUILDER, os.X_OK)
 
 
-def build():
+def build() -> None:
     """Has the programs proved and built; what is said of it stands on standard error."""
     building = subprocess.Popen([BUILDER], stdin=subprocess.DEVNULL, stdout=subprocess.DEVNULL)
     try:
@@ -130,7 +146,7 @@ def build():
         raise errors.NoProgram('')
 
 
-def answer_of(status, said):
+def answer_of(status: int, said: str) -> Answer:
     """What a program of ours answered, with its line."""
     if status < 0:
         return Answer(errors.NO_MEMORY, 'the program was ended by signal %d; most often no memory was left' % -status)
@@ -143,8 +159,10 @@ class Work:
     """A program of ours at work on a source from a place on, or on nothing. Behind a `with` that lasts while its output is read,
     `said` is its answer; READ_FAULT where the source itself failed. It is ended where an exception ends that."""
 
-    def __init__(self, path, words, source=None, begins=0, out=subprocess.DEVNULL):
-        self.source, self.said = source, None
+    def __init__(self, path: str, words: 'List[str]', source: 'Optional[Input]' = None, begins: int = 0,
+                 out: int = subprocess.DEVNULL) -> None:
+        self.source = source
+        self.said = None  # type: Optional[Answer]
         if source:
             LINE.sources.add(source)
         try:
@@ -154,22 +172,22 @@ class Work:
             raise errors.NoProgram('%s does not start: %s' % (shown(path), fault.strerror)) from None
 
     @property
-    def out(self):
+    def out(self) -> int:
         """Where what it writes is read."""
-        return self.process.stdout.fileno()
+        return self.process.stdout.fileno()  # type: ignore[union-attr]
 
-    def kill(self):
+    def kill(self) -> None:
         self.process.kill()
 
-    def __enter__(self):
+    def __enter__(self) -> 'Work':
         return self
 
-    def __exit__(self, kind, *_):
+    def __exit__(self, kind: object, *_: object) -> None:
         if kind:
             self.kill()
         self.end()
 
-    def end(self, is_wanted=True):
+    def end(self, is_wanted: bool = True) -> Answer:
         """Waits for its end; what it answered. Where that isn't wanted any more, what follows its input isn't read either."""
         if self.process.stdout:
             self.process.stdout.close()
@@ -181,6 +199,6 @@ class Work:
         return self.said
 
 
-def run(path, words, source, begins, out=subprocess.DEVNULL):
+def run(path: str, words: 'List[str]', source: 'Input', begins: int, out: int = subprocess.DEVNULL) -> Answer:
     """What the program answers of a source from a place on."""
     return Work(path, words, source, begins, out).end()

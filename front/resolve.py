@@ -10,6 +10,10 @@ from collections import namedtuple
 
 from front import errors
 
+TYPE_CHECKING = False                                # a checker of types takes it for true; typing itself is slow to load
+if TYPE_CHECKING:
+    from typing import Callable, Dict, List, Sequence, Tuple
+
 TOP = os.path.dirname(os.path.dirname(os.path.realpath(__file__)))
 IS_REPOSITORY = os.path.isdir(os.path.join(TOP, 'crates'))  # else a release that was unpacked, or PREFIX/lib/mig
 NAMES = TOOL, CHECK = 'mig_tool', 'mig_check'         # the programs, each of the crate of its name
@@ -25,7 +29,7 @@ SEEN, MOST_SEEN = os.path.join(TOP, 'out', 'seen'), 8
 Program = namedtuple('Program', 'path told')
 
 
-def number():
+def number() -> str:
     """The number of the release that these sources are, or come after."""
     try:
         with open(os.path.join(TOP, 'VERSION'), encoding='ascii') as file:
@@ -39,8 +43,8 @@ def number():
 class Sources:
     """The crates that the programs stand on, in a checkout."""
 
-    def __init__(self, top=TOP):
-        self.top, self.lines, self.below = top, {}, {}
+    def __init__(self, top: str = TOP) -> None:
+        self.top, self.lines, self.below = top, {}, {}  # type: str, Dict[str, str], Dict[str, List[str]]
         with open(os.path.join(top, 'crates.txt'), encoding='utf-8') as listed:
             for line in listed:
                 line = line.partition('#')[0].strip()
@@ -49,16 +53,16 @@ class Sources:
                     self.lines[name.strip()], self.below[name.strip()] = line, words.split()
         self.needed = self.stands_on(NAMES)
 
-    def libraries(self, crate):
+    def libraries(self, crate: str) -> 'Tuple[List[str], List[str]]':
         """The libraries of the checkout that a crate names in its line, and those of the kit."""
         named = self.below[crate]
         return [it for it in named if it in self.below], [it for it in named if it not in self.below]
 
-    def stands_on(self, names):
+    def stands_on(self, names: 'Sequence[str]') -> 'List[str]':
         """These crates and all that they stand on, each behind those that it stands on itself."""
-        found = {}
+        found = {}  # type: Dict[str, None]
 
-        def visit(crate):
+        def visit(crate: str) -> None:
             if crate not in found:
                 for below in self.libraries(crate)[0]:
                     visit(below)
@@ -68,9 +72,9 @@ class Sources:
             visit(name)
         return list(found)
 
-    def files(self, crate):
+    def files(self, crate: str) -> 'List[str]':
         """The paths from the top on of all files that a crate is made from, in their order."""
-        found, folders = [], ['crates/%s/%s' % (crate, part) for part in PARTS]
+        found, folders = [], ['crates/%s/%s' % (crate, part) for part in PARTS]  # type: List[str], List[str]
         while folders:
             folder = folders.pop()
             try:
@@ -81,12 +85,12 @@ class Sources:
                 (folders if entry.is_dir() else found).append('%s/%s' % (folder, entry.name))
         return sorted(found)
 
-    def checksum(self):
+    def checksum(self) -> str:
         """The checksum of all that the programs are made from: of the lines of crates.txt of the crates that it stands on, by their
         names, and then of a line as sha256sum writes it for each file of src, specs and proofs of these crates, by their paths."""
         files = sorted(path for crate in self.needed for path in self.files(crate))
 
-        def made():
+        def made() -> str:
             lines = [self.lines[crate] for crate in sorted(self.needed)]
             lines += ['%s  %s' % (sum_of_file(os.path.join(self.top, path)), path) for path in files]
             return hashlib.sha256(''.join(line + '\n' for line in lines).encode()).hexdigest()
@@ -94,14 +98,14 @@ class Sources:
         return kept_sum([os.path.join(self.top, path) for path in ['crates.txt'] + files], made)
 
 
-def sum_of_file(path):
+def sum_of_file(path: str) -> str:
     with open(path, 'rb') as file:
         return hashlib.sha256(file.read()).hexdigest()
 
 
 # ---- what was seen
 
-def kept_sum(paths, make):
+def kept_sum(paths: 'Sequence[str]', make: 'Callable[[], str]') -> str:
     """The checksum that `make` gives of these files; in a checkout where none of them was changed since it was made here before,
     the one that was kept then."""
     if not IS_REPOSITORY:
@@ -120,13 +124,13 @@ def kept_sum(paths, make):
     return seen[mark]
 
 
-def now():
+def now() -> float:
     """The time, as file systems here tell it."""
     import time
     return time.time()
 
 
-def read_seen():
+def read_seen() -> 'Dict[str, str]':
     """The checksum of each mark that was kept."""
     try:
         with open(SEEN, encoding='ascii') as kept:
@@ -135,7 +139,7 @@ def read_seen():
         return {}
 
 
-def keep_seen(seen):
+def keep_seen(seen: 'Dict[str, str]') -> None:
     """Keeps the newest checksums, where the folder can be written."""
     part = '%s.%d.part' % (SEEN, os.getpid())
     try:
@@ -150,7 +154,7 @@ def keep_seen(seen):
 
 # ---- which program
 
-def manifest(folder):
+def manifest(folder: str) -> 'Dict[str, str]':
     """What the manifest of a folder tells, by its names."""
     path = os.path.join(folder, 'MANIFEST')
     try:
@@ -168,12 +172,12 @@ def manifest(folder):
     return told
 
 
-def below_top(path):
+def below_top(path: str) -> str:
     """A path as it is told: from the top of a checkout on."""
     return os.path.relpath(path, TOP) if IS_REPOSITORY else path
 
 
-def program_in(folder, path):
+def program_in(folder: str, path: str) -> Program:
     """The program at a path, where it is as a folder's manifest tells: made from these sources, for this machine, and as it was made."""
     told = manifest(folder)
     if told['machine'] != MACHINE:
@@ -192,7 +196,7 @@ def program_in(folder, path):
     return Program(path, told)
 
 
-def sum_here():
+def sum_here() -> str:
     """The checksum of these sources."""
     try:
         return Sources().checksum()
@@ -200,12 +204,12 @@ def sum_here():
         raise errors.Unfit("these sources can't be read: %s" % fault) from None
 
 
-def own(name):
+def own(name: str) -> Program:
     """The program of this name that was proved on this machine."""
     return program_in(OWN, os.path.join(OWN, name))
 
 
-def shipped(name):
+def shipped(name: str) -> Program:
     """The one that is shipped with these sources."""
     if not os.path.isdir(SHIPPED):
         raise errors.Absent('no program is shipped with these sources')
@@ -214,7 +218,7 @@ def shipped(name):
     return program_in(SHIPPED, os.path.join(SHIPPED, MACHINE, name))
 
 
-def installed(name):
+def installed(name: str) -> Program:
     """The one that bin/install put beside bin/mig."""
     try:
         return program_in(TOP, os.path.join(TOP, 'bin', name))
@@ -222,7 +226,7 @@ def installed(name):
         raise errors.Unfit('%s: install it again' % unfit) from None
 
 
-def present(name):
+def present(name: str) -> Program:
     """The program of this name that runs, where none is built first."""
     is_installed = os.path.exists(os.path.join(TOP, 'MANIFEST'))
     whys = []
