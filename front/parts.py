@@ -6,6 +6,12 @@ import struct
 
 from front import places
 
+TYPE_CHECKING = False                                # a checker of types takes it for true; typing itself is slow to load
+if TYPE_CHECKING:
+    from typing import Any, Dict, List, Optional, Tuple, Union
+
+    Numbers = List[Tuple[str, int, Tuple[int, ...]]]  # of records: name, length of the body, the first two numbers in it
+
 RECORD = re.compile(rb'\{[^{}]*\}')
 MOST_LOOKED = 1 << 13                                # records of vCPUs and emulators whose numbers are read
 XEN_PLACE = 32                                       # of the two numbers of Xen's version in the headers of an image
@@ -17,13 +23,14 @@ STORE, CONTEXT, VCPU = 'EMULATOR_XENSTORE_DATA', 'EMULATOR_CONTEXT', 'X86_PV_VCP
 class Parts:
     """What is counted in the records of a stream that begins at a place of its file."""
 
-    def __init__(self, begins, is_wrapped):
+    def __init__(self, begins: int, is_wrapped: bool) -> None:
         self.records = self.sent = self.pages = self.parameters = 0
-        self.counts, self.looked, self.p2m_frames = {}, [], None
+        self.counts, self.looked = {}, []  # type: Dict[str, int], List[Tuple[str, int, int]]
+        self.p2m_frames = None  # type: Optional[int]
         self.image = None if is_wrapped else begins
         self.place = begins + (places.LIBXL_HEADER if is_wrapped else places.IMAGE_HEADERS)
 
-    def add(self, record):
+    def add(self, record: 'Dict[str, Any]') -> None:
         name, length = record['name'], record['length']
         self.records += 1
         self.counts[name] = self.counts.get(name, 0) + 1
@@ -40,13 +47,13 @@ class Parts:
             self.image = self.place
             self.place += places.IMAGE_HEADERS
 
-    def numbers(self, source):
+    def numbers(self, source: 'Any') -> 'Optional[Numbers]':
         """Of each record of a vCPU or an emulator its name, its length and its first two numbers; None where they can't be read."""
         if not source.is_walkable or len(self.looked) > MOST_LOOKED:
             return None
         if not self.looked:
             return []
-        found, cursor = [], source.cursor(0)
+        found, cursor = [], source.cursor(0)  # type: Numbers, Any
         for name, length, place in self.looked:
             cursor.skip(place - cursor.place)
             data = cursor.read(NUMBERS.size)
@@ -56,7 +63,7 @@ class Parts:
         return found
 
 
-def tree_of(text):
+def tree_of(text: bytes) -> 'Tuple[Any, Union[bytes, memoryview]]':
     """What `show` writes, without its records, and the text of these; None where it wrote no whole line."""
     if not text.endswith(b'\n'):
         return None, b''
@@ -64,15 +71,15 @@ def tree_of(text):
     return json.loads((text[:begins] + text[ends:]).decode()), memoryview(text)[begins:ends]
 
 
-def xen_of(ahead, place):
+def xen_of(ahead: bytes, place: int) -> 'Optional[str]':
     """Which Xen wrote an image at this place of a stream whose first bytes these are."""
     numbers = ahead[place + XEN_PLACE:place + XEN_PLACE + NUMBERS.size]
     return '%d.%d' % NUMBERS.unpack(numbers) if len(numbers) == NUMBERS.size else None
 
 
-def emulators_of(numbers):
+def emulators_of(numbers: 'Numbers') -> 'List[Dict[str, Any]]':
     """Each emulator, by its id and its index, with the bytes of its state."""
-    found = {}
+    found = {}  # type: Dict[Tuple[int, ...], Dict[str, Any]]
     for name, length, key in numbers:
         if name != VCPU:
             one = found.setdefault(key, {'id': key[0], 'index': key[1], 'name': EMULATORS.get(key[0], EMULATORS[0])})
@@ -81,7 +88,7 @@ def emulators_of(numbers):
     return list(found.values())
 
 
-def stream_of(text, source, begins, ahead):
+def stream_of(text: bytes, source: 'Any', begins: int, ahead: bytes) -> 'Optional[Dict[str, Any]]':
     """What `show` wrote of a stream that begins at a place of its source with these bytes, as an object; None where it lists nothing."""
     tree, records = tree_of(text)
     if not tree:

@@ -3,6 +3,13 @@ import struct
 
 from front import errors, forms
 
+TYPE_CHECKING = False                                # a checker of types takes it for true; typing itself is slow to load
+if TYPE_CHECKING:
+    from typing import Any, Iterator, List, Optional, Tuple
+
+    from front.sources import Cursor, Source
+    Places = Iterator[Tuple[int, Optional[int]]]     # of parts, with their types where they have some
+
 LIBXC_CONTEXT, END = 1, 0
 MOST_PARTS, MOST_FRAMES = 1 << 22, 1 << 24           # no place is told behind so many
 IMAGE_HEADERS, LIBXL_HEADER, HEAD = 40, 16, 8
@@ -12,16 +19,16 @@ WITH_A_PAGE = 0, 1, 2, 3, 4, 9, 10, 11, 12
 FILE_HEAD, PART_HEAD, PAGE = 32, 16, 4096            # of a guest image: its head, that of a frame or a part, a page
 
 
-def number_at(cursor, kind):
+def number_at(cursor: 'Cursor', kind: str) -> int:
     data = cursor.read(struct.calcsize(kind))
     if len(data) < struct.calcsize(kind):
         raise errors.Lost
-    return struct.unpack(kind, data)[0]
+    return int(struct.unpack(kind, data)[0])
 
 
 # ---- records of an image and of a libxl stream
 
-def records(cursor):
+def records(cursor: 'Cursor') -> 'Places':
     """Of each record from here on: where its head begins, and its type. It ends behind END's."""
     for _ in range(MOST_PARTS):
         begins = cursor.place
@@ -37,7 +44,7 @@ def records(cursor):
             cursor.skip(length + -length % 8)
 
 
-def nth(parts, number):
+def nth(parts: 'Places', number: int) -> 'Optional[int]':
     """Where part n begins, or None."""
     for index, (begins, _) in enumerate(parts):
         if index == number:
@@ -45,11 +52,11 @@ def nth(parts, number):
     return None
 
 
-def is_libxl(source, begins):
+def is_libxl(source: 'Source', begins: int) -> bool:
     return source.at(begins, len(forms.LIBXL_MAGIC)) == forms.LIBXL_MAGIC
 
 
-def image_begins(source, begins):
+def image_begins(source: 'Any', begins: int) -> int:
     """Where the image of a stream of either form begins."""
     if not is_libxl(source, begins):
         return begins
@@ -57,11 +64,11 @@ def image_begins(source, begins):
     cursor.skip(LIBXL_HEADER)
     for _, kind in records(cursor):
         if kind == LIBXC_CONTEXT:
-            return cursor.place
+            return int(cursor.place)
     raise errors.Lost
 
 
-def libxl_records(cursor):
+def libxl_records(cursor: 'Cursor') -> 'Places':
     """Of each record of a libxl stream, its place; the image behind LIBXC_CONTEXT is walked over."""
     cursor.skip(LIBXL_HEADER)
     for begins, kind in records(cursor):
@@ -73,7 +80,7 @@ def libxl_records(cursor):
                     return
 
 
-def stream_place(source, begins, words):
+def stream_place(source: 'Any', begins: int, words: 'List[str]') -> 'Optional[int]':
     if words[0] == 'LibxlHeader':
         return begins
     if words[0] == 'LibxlRecord':
@@ -90,7 +97,7 @@ def stream_place(source, begins, words):
 
 # ---- the chunks and the tail of a legacy stream
 
-def skip_chunk(cursor, kind):
+def skip_chunk(cursor: 'Cursor', kind: int) -> None:
     """Goes to the next chunk, behind the type of one."""
     if 1 <= kind <= 1024:
         words = struct.unpack('<%dQ' % kind, cursor.read(8 * kind).ljust(8 * kind, b'\0'))
@@ -107,7 +114,7 @@ def skip_chunk(cursor, kind):
         raise errors.Lost
 
 
-def chunks(cursor):
+def chunks(cursor: 'Cursor') -> 'Places':
     """Of each chunk from here on: where it begins, and its type. It ends behind the type 0."""
     for _ in range(MOST_PARTS):
         begins = cursor.place
@@ -122,7 +129,7 @@ def chunks(cursor):
         skip_chunk(cursor, kind)
 
 
-def tail_begins(cursor):
+def tail_begins(cursor: 'Cursor') -> int:
     """Goes on from the first chunk to the tail."""
     kind = None
     for _, kind in chunks(cursor):
@@ -132,14 +139,14 @@ def tail_begins(cursor):
     return cursor.place
 
 
-def context_end(cursor):
+def context_end(cursor: 'Cursor') -> int:
     """Goes on from the tail to the end of its context."""
     cursor.skip(24)
     cursor.skip(number_at(cursor, '<I'))
     return cursor.place
 
 
-def legacy_place(source, begins, words):
+def legacy_place(source: 'Any', begins: int, words: 'List[str]') -> 'Optional[int]':
     if words[0] == 'Start':
         return begins
     cursor = source.cursor(begins)
@@ -152,12 +159,12 @@ def legacy_place(source, begins, words):
 
 # ---- the frames and the parts of a guest image
 
-def is_page_sent(word, is_newer):
+def is_page_sent(word: int, is_newer: bool) -> bool:
     """Whether a page stands behind a frame with this word. In version 2 bit 52 says that the page is left out."""
     return word >> 60 in WITH_A_PAGE and not word >> 52 & 1 if is_newer else word >> 28 & 15 in WITH_A_PAGE
 
 
-def file_frames(cursor):
+def file_frames(cursor: 'Cursor') -> 'Places':
     """Of each frame of a guest image, where it begins. It ends where the parts begin."""
     is_newer = cursor.read(8) == forms.IMAGE_MAGICS[1]
     cursor.skip(FILE_HEAD - 16)
@@ -167,7 +174,7 @@ def file_frames(cursor):
         cursor.skip(PART_HEAD - 8 + PAGE * is_page_sent(word, is_newer))
 
 
-def file_parts(cursor):
+def file_parts(cursor: 'Cursor') -> 'Places':
     """Of each part behind the frames, where it begins."""
     for _ in range(min(number_at(cursor, '<Q'), MOST_PARTS)):
         yield cursor.place, None
@@ -176,7 +183,7 @@ def file_parts(cursor):
         cursor.skip(length + -length % 8)
 
 
-def image_file_place(source, begins, words):
+def image_file_place(source: 'Any', begins: int, words: 'List[str]') -> 'Optional[int]':
     if words[0] == 'Head':
         return begins
     cursor = source.cursor(begins)
@@ -193,7 +200,7 @@ OF_COMMAND = {'convert': legacy_place, 'save': image_file_place, 'walkimage': im
 NO_PLACES = 'Script', 'Pause', 'Host', 'Walk'        # what refuses a save or a walk and is no place in its input
 
 
-def place_of(source, begins, command, place):
+def place_of(source: 'Any', begins: int, command: str, place: str) -> 'Optional[int]':
     """The byte where a place of a refusal begins, counted from the begin of the file; None where it can't be told."""
     if not source.is_walkable or place.split()[0] in NO_PLACES:
         return None
@@ -203,7 +210,7 @@ def place_of(source, begins, command, place):
         return None
 
 
-def end_of(source, form):
+def end_of(source: 'Any', form: forms.Form) -> 'Optional[int]':
     """Where the accepted stream of a plain file ends; None where it can't be told without unpacking it once more."""
     if source.packed or not source.is_walkable:
         return None
@@ -213,7 +220,7 @@ def end_of(source, form):
         return None
 
 
-def stream_end(source, begins):
+def stream_end(source: 'Any', begins: int) -> 'Optional[int]':
     cursor = source.cursor(begins)
     if is_libxl(source, begins):
         parts = libxl_records(cursor)
@@ -226,7 +233,7 @@ def stream_end(source, begins):
     return cursor.place if kind == END else None
 
 
-def legacy_end(cursor):
+def legacy_end(cursor: 'Cursor') -> int:
     cursor.skip(8)
     tail_begins(cursor)
     context = context_end(cursor)

@@ -162,7 +162,7 @@ class Work:
     def __init__(self, path: str, words: 'List[str]', source: 'Optional[Input]' = None, begins: int = 0,
                  out: int = subprocess.DEVNULL) -> None:
         self.source = source
-        self.said = None  # type: Optional[Answer]
+        self.said = None  # type: Answer  # type: ignore[assignment]
         if source:
             LINE.sources.add(source)
         try:

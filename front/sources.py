@@ -10,6 +10,12 @@ from front import errors, forms, program
 from front.progress import LINE
 from front.text import shown
 
+TYPE_CHECKING = False                                # a checker of types takes it for true; typing itself is slow to load
+if TYPE_CHECKING:
+    from typing import Any, Callable, Iterator, Optional, Type, Union
+
+    Source = Union['Plain', 'Packed', 'Piped']
+
 BLOCK = 1 << 20
 MOST_KEPT = 64 << 20                                 # so much of a pipe is kept, to be looked at
 WRITTEN_TO = 'it was written to while it was read'
@@ -21,7 +27,7 @@ TOLD_UNPACKERS = 'GZIP', 'XZ_', 'ZSTD_'              # names of variables by whi
 
 class Found(str):
     """The name of a file that was found in a folder, and not given by who calls; and of the folder that was."""
-    top = None
+    top = None  # type: Optional[str]
 
 
 class Folder(Found):
@@ -33,17 +39,17 @@ class EmptyFolder(str):
     why = 'no file is in it'
 
     @classmethod
-    def of(cls, name, why):
+    def of(cls, name: str, why: str) -> 'EmptyFolder':
         made = cls(name)
         made.why = why
         return made
 
 
-def why(fault):
+def why(fault: OSError) -> str:
     return fault.strerror or str(fault)
 
 
-def go_to(fd, place):
+def go_to(fd: int, place: int) -> None:
     """Has what is read next begin at a place of a file."""
     try:
         os.lseek(fd, place, os.SEEK_SET)
@@ -51,14 +57,14 @@ def go_to(fd, place):
         raise errors.Unreadable(why(fault)) from None
 
 
-def read_some(fd, count):
+def read_some(fd: int, count: int) -> bytes:
     try:
         return os.read(fd, count)
     except OSError as fault:
         raise errors.Unreadable(why(fault)) from None
 
 
-def read_upto(fd, count):
+def read_upto(fd: int, count: int) -> bytes:
     """So many bytes of a file or pipe, or all that are left where there are fewer."""
     data = bytearray()
     while len(data) < count:
@@ -69,7 +75,7 @@ def read_upto(fd, count):
     return bytes(data)
 
 
-def pass_over(fd, count):
+def pass_over(fd: int, count: int) -> int:
     """Reads so many bytes, or all that are left, and answers how many there were."""
     left = count
     while left:
@@ -80,13 +86,13 @@ def pass_over(fd, count):
     return count - left
 
 
-def write_all(fd, data):
+def write_all(fd: int, data: bytes) -> None:
     left = memoryview(data)
     while left:
         left = left[os.write(fd, left):]
 
 
-def drain(fd):
+def drain(fd: int) -> bool:
     """Reads what follows a stream; answers whether that came to an end."""
     return pass_over(fd, MOST_BEHIND) < MOST_BEHIND
 
@@ -94,15 +100,15 @@ def drain(fd):
 class Cursor:
     """A place in the bytes of a source that goes forward, to walk its records."""
 
-    def __init__(self, read, skip, place):
+    def __init__(self, read: 'Callable[[int, int], bytes]', skip: 'Callable[[int], object]', place: int) -> None:
         self.read_bytes, self.skip_bytes, self.place = read, skip, place
 
-    def read(self, count):
+    def read(self, count: int) -> bytes:
         data = self.read_bytes(self.place, count)
         self.place += len(data)
         return data
 
-    def skip(self, count):
+    def skip(self, count: int) -> None:
         self.skip_bytes(count)
         self.place += count
 
@@ -111,14 +117,14 @@ class Regular:
     """A regular file, from the place on where it is open."""
     is_walkable = True
 
-    def __init__(self, fd, status):
+    def __init__(self, fd: int, status: os.stat_result) -> None:
         self.fd, self.base, self.status = fd, os.lseek(fd, 0, os.SEEK_CUR), status
 
-    def read_so_far(self):
+    def read_so_far(self) -> int:
         """How much of the file was read; the program reads on with the same place."""
         return max(os.lseek(self.fd, 0, os.SEEK_CUR) - self.base, 0)
 
-    def change(self):
+    def change(self) -> 'Optional[str]':
         """What was changed since it was opened, or None. Who writes to a file can set its time of modification back, and not that of its
         inode's change, which a link or another mode moves too."""
         now, before = os.fstat(self.fd), self.status
@@ -126,7 +132,7 @@ class Regular:
             return WRITTEN_TO
         return TOUCHED if now.st_ctime_ns != before.st_ctime_ns else None
 
-    def ended(self, accepted):
+    def ended(self, accepted: bool) -> 'Optional[str]':
         """To be called when the program has ended. Answers what is wrong with the source itself, or None. A program may read a file
         twice, so one that was changed meanwhile is no input."""
         try:
@@ -134,7 +140,7 @@ class Regular:
         except OSError as fault:
             return why(fault)
 
-    def close(self):
+    def close(self) -> None:
         os.close(self.fd)
 
 
@@ -142,11 +148,11 @@ class Plain(Regular):
     """One that isn't packed."""
     packed = None
 
-    def __init__(self, fd, status):
+    def __init__(self, fd: int, status: os.stat_result) -> None:
         super().__init__(fd, status)
         self.size = max(status.st_size - self.base, 0)
 
-    def at(self, offset, count):
+    def at(self, offset: int, count: int) -> bytes:
         data = self.some_at(offset, count)
         while data and len(data) < count:
             more = self.some_at(offset + len(data), count - len(data))
@@ -155,19 +161,19 @@ class Plain(Regular):
             data += more
         return data
 
-    def some_at(self, offset, count):
+    def some_at(self, offset: int, count: int) -> bytes:
         try:
             return os.pread(self.fd, count, self.base + offset)
         except OSError as fault:
             raise errors.Unreadable(why(fault)) from None
 
-    def length_to(self, offset):
+    def length_to(self, offset: int) -> int:
         return min(self.size, offset)
 
-    def cursor(self, offset):
+    def cursor(self, offset: int) -> Cursor:
         return Cursor(self.at, lambda count: None, offset)
 
-    def input_from(self, offset):
+    def input_from(self, offset: int) -> int:
         """The file descriptor that the program gets as its standard input."""
         go_to(self.fd, self.base + offset)
         return self.fd
@@ -176,12 +182,12 @@ class Plain(Regular):
 class Whole(Plain):
     """The same, of which the program gets every byte: what the disk can't give any more is noticed."""
 
-    def input_from(self, offset):
+    def input_from(self, offset: int) -> int:
         go_to(self.fd, self.base + offset)
         self.through = Piped(self.fd)
         return self.through.input_from(0)
 
-    def ended(self, accepted):
+    def ended(self, accepted: bool) -> 'Optional[str]':
         return self.through.ended(accepted) or super().ended(accepted)
 
 
@@ -192,12 +198,13 @@ class Packed(Regular):
     MORE = {'zstd': ['--long=31']}                   # else zstd refuses what was packed with `--long=28` and more
     WARNING = {'gzip': 2, 'xz': 2}                   # all is unpacked, though something follows it
 
-    def __init__(self, fd, status, packer):
+    def __init__(self, fd: int, status: os.stat_result, packer: str) -> None:
         super().__init__(fd, status)
-        self.packed, self.running = packer, None
+        self.packed = packer
+        self.running = None  # type: Any           # the unpacker, where one is at work
         self.front = self.look(0, forms.LOOK)
 
-    def unpack(self):
+    def unpack(self) -> 'Any':
         go_to(self.fd, self.base)
         told = {name: value for name, value in os.environ.items() if not name.startswith(TOLD_UNPACKERS)}
         try:
@@ -208,40 +215,40 @@ class Packed(Regular):
         except OSError as fault:
             raise errors.Unreadable('it is packed, and the program %s does not start: %s' % (self.packed, why(fault))) from None
 
-    def look(self, offset, count):
+    def look(self, offset: int, count: int) -> bytes:
         """Some bytes of what is packed; fewer where it ends before."""
         self.running = self.unpack()
         out = self.running.stdout.fileno()
         data = read_upto(out, count) if pass_over(out, offset) == offset else b''
-        said = self.stop() if len(data) < count else self.kill()
+        said = self.stop() if len(data) < count else self.kill()  # type: ignore[func-returns-value]
         if said:
             raise errors.Unreadable(said)
         return data
 
-    def at(self, offset, count):
+    def at(self, offset: int, count: int) -> bytes:
         if offset + count <= len(self.front):
             return self.front[offset:offset + count]
         return self.look(offset, count)
 
-    def length_to(self, offset):
+    def length_to(self, offset: int) -> int:
         self.running = self.unpack()
         length = pass_over(self.running.stdout.fileno(), offset)
         self.kill()
         return length
 
-    def cursor(self, offset):
+    def cursor(self, offset: int) -> Cursor:
         self.kill()
         self.running = self.unpack()
         fd = self.running.stdout.fileno()
         pass_over(fd, offset)
         return Cursor(lambda _, count: read_upto(fd, count), lambda count: pass_over(fd, count), offset)
 
-    def input_from(self, offset):
+    def input_from(self, offset: int) -> int:
         self.running = self.unpack()
         pass_over(self.running.stdout.fileno(), offset)
-        return self.running.stdout.fileno()
+        return int(self.running.stdout.fileno())
 
-    def ended(self, accepted):
+    def ended(self, accepted: bool) -> 'Optional[str]':
         """Where the program accepted the stream, all is unpacked, so that the packer's own checksum is looked at."""
         if accepted and not drain(self.running.stdout.fileno()):
             self.kill()
@@ -249,7 +256,7 @@ class Packed(Regular):
         failed = self.stop()
         return super().ended(accepted) or failed
 
-    def stop(self):
+    def stop(self) -> 'Optional[str]':
         """Ends the unpacker, and answers why it failed, where it did so by itself or was ended by others."""
         unpacker, self.running = self.running, None
         unpacker.stdout.close()
@@ -260,12 +267,12 @@ class Packed(Regular):
             return 'it could not be unpacked: ' + shown((said.strip().splitlines() or ['%s failed' % self.packed])[-1])
         return '%s was ended by signal %d; most often no memory was left' % (self.packed, -status)
 
-    def kill(self):
+    def kill(self) -> None:
         if self.running:
             self.running.kill()
             self.stop()
 
-    def close(self):
+    def close(self) -> None:
         self.kill()
         super().close()
 
@@ -274,29 +281,31 @@ class Piped:
     """A pipe, a device or a socket: what was looked at is kept, and goes to the program first."""
     packed, size, is_walkable = None, None, False
 
-    def __init__(self, fd):
-        self.fd, self.kept, self.feeder, self.fault, self.fed = fd, b'', None, None, 0
+    def __init__(self, fd: int) -> None:
+        self.fd, self.kept, self.fed = fd, b'', 0
+        self.feeder = None  # type: Any            # the thread that feeds the program
+        self.fault = None  # type: Optional[str]
 
-    def at(self, offset, count):
+    def at(self, offset: int, count: int) -> bytes:
         if offset + count > MOST_KEPT:
             raise errors.Unreadable('what stands before the stream is more than is taken from a pipe: give the file by its name')
         self.kept += read_upto(self.fd, max(offset + count - len(self.kept), 0))
         return self.kept[offset:offset + count]
 
-    def length_to(self, offset):
+    def length_to(self, offset: int) -> int:
         return min(len(self.kept), offset)
 
-    def read_so_far(self):
+    def read_so_far(self) -> int:
         return self.fed
 
-    def input_from(self, offset):
+    def input_from(self, offset: int) -> int:
         out, into = os.pipe()
         self.feeder = threading.Thread(target=self.feed, args=(into, self.kept[offset:]), daemon=True)
         self.feeder.start()
         self.out = out
         return out
 
-    def feed(self, into, front):
+    def feed(self, into: int, front: bytes) -> None:
         """Writes all to the program; that it ended before is no fault."""
         try:
             write_all(into, front)
@@ -311,7 +320,7 @@ class Piped:
         finally:
             os.close(into)
 
-    def ended(self, accepted):
+    def ended(self, accepted: bool) -> 'Optional[str]':
         """Where the program accepted the stream, what follows it is read too, so that who writes it isn't stopped by a little."""
         os.close(self.out)
         if accepted:
@@ -320,19 +329,19 @@ class Piped:
                 drain(self.fd)
         return self.fault
 
-    def close(self):
+    def close(self) -> None:
         if self.fd:
             os.close(self.fd)
 
 
-def unpacked(fd, status, kind):
+def unpacked(fd: int, status: os.stat_result, kind: 'Type[Plain]') -> 'Union[Plain, Packed]':
     """The source of a regular file, of this kind where it isn't packed."""
     plain = kind(fd, status)
     packer = forms.packer_of(plain.at(0, 8))
     return Packed(fd, status, packer) if packer else plain
 
 
-def source_of_open(fd, name, kind):
+def source_of_open(fd: int, name: str, kind: 'Type[Plain]') -> 'Source':
     status = os.fstat(fd)
     if stat.S_ISREG(status.st_mode):
         return unpacked(fd, status, kind)
@@ -341,7 +350,7 @@ def source_of_open(fd, name, kind):
     return Piped(fd)
 
 
-def opened(name):
+def opened(name: str) -> int:
     """A file that was found in a folder is opened where it's regular alone: a device may do something then, and a pipe wait for
     ever, also one that took the file's place meanwhile."""
     if not isinstance(name, Found):
@@ -355,15 +364,16 @@ def opened(name):
     return fd
 
 
-def is_special(status):
+def is_special(status: os.stat_result) -> bool:
     return not stat.S_ISREG(status.st_mode) and not stat.S_ISDIR(status.st_mode)
 
 
-def source_of(name, kind=Plain):
+def source_of(name: str, kind: 'Type[Plain]' = Plain) -> 'Source':
     """The source of a file with this name; `-` is standard input. A file that gives none is closed again."""
     if isinstance(name, EmptyFolder):
         raise errors.Unreadable(name.why)
-    fd = source = None
+    fd = None  # type: Optional[int]
+    source = None  # type: Optional[Source]
     try:
         fd = 0 if name == '-' else opened(name)
         source = source_of_open(fd, name, kind)
@@ -375,15 +385,15 @@ def source_of(name, kind=Plain):
             os.close(fd)
 
 
-def unread(name, why):
+def unread(name: str, why: object) -> errors.Refused:
     """What ends a verb that has one file, where that can't be read."""
     return errors.Refused(errors.READ_FAULT, '%s: fault: read: %s' % (shown(name), why))
 
 
 @contextlib.contextmanager
-def source_for(name):
+def source_for(name: str) -> 'Iterator[Source]':
     """The source of the one file of a verb, which ends where that can't be read."""
-    source = None
+    source = None  # type: Optional[Source]
     try:
         source = source_of(name)
         LINE.begin('reading', [name])
