@@ -6,21 +6,25 @@ import os
 from front import errors, sources
 from front.text import shown
 
+TYPE_CHECKING = False                                # a checker of types takes it for true; typing itself is slow to load
+if TYPE_CHECKING:
+    from typing import Any, Iterable, Iterator, List, Optional, Sequence
+
 MOST_LIST = 64 << 20                                 # bytes of a list
 NONE_FITS = 'none of its files is taken by --include and --exclude'
 OF_CHOICE = 'include', 'exclude', 'files_from', 'ends_with_nul'
 
 
-def entries_of(folder):
+def entries_of(folder: str) -> 'List[str]':
     """What is in a folder, in the order of names."""
     with os.scandir(folder) as entries:
         return sorted((entry.path for entry in entries), key=os.path.basename)
 
 
-def files_below(folder, left_out=None):
+def files_below(folder: str, left_out: 'Optional[os.stat_result]' = None) -> 'Iterator[sources.Found]':
     """All files below a folder, in the order of their names, but those in a folder that is left out; a folder that can't be read
     is answered as itself, and so is a link to a folder, which isn't followed."""
-    unreadable, left = [], [folder]
+    unreadable, left = [], [folder]  # type: List[sources.Folder], List[str]
     while left:
         place = left.pop()
         try:
@@ -40,10 +44,11 @@ def files_below(folder, left_out=None):
 class Choice:
     """Which of the files below a folder are taken, by patterns of their names, and the status of a folder that is left out."""
 
-    def __init__(self, include=(), exclude=(), left_out=None):
+    def __init__(self, include: 'Optional[Sequence[str]]' = (), exclude: 'Optional[Sequence[str]]' = (),
+                 left_out: 'Optional[os.stat_result]' = None) -> None:
         self.include, self.exclude, self.left_out = include or (), exclude or (), left_out
 
-    def takes(self, path):
+    def takes(self, path: str) -> bool:
         """A folder that can't be read, or isn't followed, is told of, unless it is excluded."""
         base = os.path.basename(path)
         if any(fnmatch.fnmatchcase(base, pattern) for pattern in self.exclude):
@@ -55,7 +60,7 @@ class Choice:
 ALL = Choice()
 
 
-def files_of(paths, choice=ALL):
+def files_of(paths: 'Iterable[str]', choice: Choice = ALL) -> 'Iterator[str]':
     """Each path that is no folder, and for a folder all files below that are taken."""
     for path in paths:
         if path == '-' or not os.path.isdir(path):
@@ -73,7 +78,7 @@ def files_of(paths, choice=ALL):
             yield empty
 
 
-def text_of(name):
+def text_of(name: str) -> bytes:
     """The bytes of a list."""
     source = sources.source_of(name)
     try:
@@ -86,7 +91,7 @@ def text_of(name):
     return text
 
 
-def listed(name, ends_with_nul):
+def listed(name: str, ends_with_nul: bool) -> 'Sequence[str]':
     """The paths that a list names, a line each, or each with a NUL behind it. `-` is a file of that name there."""
     try:
         text = text_of(name)
@@ -100,13 +105,13 @@ def listed(name, ends_with_nul):
     return ['./-' if path == '-' else path for path in paths]
 
 
-def refuse_choice(words, why):
+def refuse_choice(words: 'Any', why: str) -> None:
     """Refuses the words that choose files where these do not go with others."""
     if any(getattr(words, name) for name in OF_CHOICE):
         raise errors.Refused(errors.USAGE, '--include, --exclude, --files-from and -0 ' + why)
 
 
-def chosen(words, left_out=None):
+def chosen(words: 'Any', left_out: 'Optional[os.stat_result]' = None) -> 'Iterator[str]':
     """The files that the words of a verb choose, without those in a folder of this status. All lists are read before."""
     lists = words.files_from or []
     if not words.paths and not lists:

@@ -8,13 +8,17 @@ import sys
 from front import errors, files, many, program, sources, verdict, write
 from front.text import put_lines, shown
 
+TYPE_CHECKING = False                                # a checker of types takes it for true; typing itself is slow to load
+if TYPE_CHECKING:
+    from typing import Any, Dict, List, Optional, Set, Tuple
+
 PACKED = '.gz', '.zst', '.xz'                        # ends of names
 WRITTEN, THERE, PASSED_OVER = 'written', 'there already', 'passed over'
 COUNTED = WRITTEN, THERE, PASSED_OVER, verdict.REFUSED, verdict.NO_SAVE, verdict.NOT_JUDGED, verdict.FAULT
 MODE = 0o700                                         # of folders that are made: a guest's memory is below
 
 
-def status_of_folder(name):
+def status_of_folder(name: str) -> os.stat_result:
     """The status of DIR, which has to be there: where it isn't mounted nothing is written in its place."""
     try:
         found = os.stat(name)
@@ -25,7 +29,7 @@ def status_of_folder(name):
     return found
 
 
-def below(name):
+def below(name: str) -> str:
     """The path of a file below the folder in which it was found; its base name where it was named."""
     top = getattr(name, 'top', None)
     if top is None:
@@ -33,13 +37,13 @@ def below(name):
     return name[len(top):].lstrip(os.sep)
 
 
-def unpacked_name(path):
+def unpacked_name(path: str) -> str:
     """A path without the end that tells how the file is packed, where the name has more than that."""
     front, end = os.path.splitext(path)
     return front if end in PACKED else path
 
 
-def make_folders(top, path, made):
+def make_folders(top: str, path: str, made: 'List[str]') -> None:
     """Makes the folders of a path below a folder that aren't there, and appends each that it made."""
     place = top
     for name in path.split(os.sep)[:-1]:
@@ -49,7 +53,7 @@ def make_folders(top, path, made):
             made.append(place)
 
 
-def remove_folders(made):
+def remove_folders(made: 'List[str]') -> None:
     """Takes away folders that were made for a file that failed; what isn't empty stays."""
     for folder in reversed(made):
         try:
@@ -58,7 +62,7 @@ def remove_folders(made):
             return
 
 
-def is_result(place, name):
+def is_result(place: str, name: str) -> bool:
     """Whether the result of a file is at this place: neither an empty file, which held the place where there are no hard links, nor
     the file itself."""
     try:
@@ -70,20 +74,21 @@ def is_result(place, name):
 class Into:
     """Writes the results of files into a folder. No two of them have one place."""
 
-    def __init__(self, words):
-        self.words, self.path, self.taken = words, program.find(), {}
+    def __init__(self, words: 'Any') -> None:
+        self.words, self.path = words, program.find()
+        self.taken = {}  # type: Dict[str, str]
 
-    def place_of(self, name):
+    def place_of(self, name: str) -> 'Tuple[str, str]':
         """Where below DIR the result of a file goes, and the other file whose result goes there, or None."""
         path = unpacked_name(below(name))
         return path, self.taken.setdefault(path, name)
 
-    def made(self, name):
+    def made(self, name: str) -> verdict.Verdict:
         """The verdict of a file of which the result is written."""
         if name == '-':
             return verdict.Verdict.of(name, verdict.FAULT, errors.USAGE, 'standard input has no name that its result could have')
         if isinstance(name, (sources.Folder, sources.EmptyFolder)):
-            return verdict.of_file(name, None)       # which can't be read
+            return verdict.of_file(name, None)  # type: ignore[arg-type]  # which can't be read
         path, other = self.place_of(name)
         place = os.path.join(self.words.directory, path)
         if other is not name:
@@ -92,17 +97,17 @@ class Into:
             return self.there(name, place)
         return verdict.of_file(name, lambda name, source: self.written(name, source, path, place))
 
-    def there(self, name, place):
+    def there(self, name: str, place: str) -> verdict.Verdict:
         """The verdict of a file at whose place something is there."""
         if self.words.skip_existing and is_result(place, name):
             return verdict.Verdict.of(name, PASSED_OVER, errors.OK, '')
         line = '%s is there already; --force writes over a file, --skip-existing passes it over' % shown(place)
         return verdict.Verdict.of(name, THERE, errors.USAGE, line)
 
-    def written(self, name, source, path, place):
+    def written(self, name: str, source: 'Any', path: str, place: str) -> verdict.Verdict:
         """The verdict of a source of which the result is written at this place. Where it fails no folder that was made for it
         stays."""
-        made, found = [], None
+        made, found = [], None  # type: List[str], Optional[verdict.Verdict]
         try:
             make_folders(self.words.directory, path, made)
             found = write.result_of(self.words, self.path, name, source, place)
@@ -120,15 +125,15 @@ class Into:
         return found._replace(result=WRITTEN) if found.status == errors.OK else found
 
     @staticmethod
-    def fault(name, status, line):
+    def fault(name: str, status: int, line: str) -> verdict.Verdict:
         return verdict.Verdict.of(name, verdict.FAULT, status, line)
 
 
-def into(words):
+def into(words: 'Any') -> int:
     """Writes the result of each file that is chosen into DIR; tells what fails, and counts all at the end. The greatest status."""
     if words.force and words.skip_existing:
         raise errors.Refused(errors.USAGE, "--force and --skip-existing don't go together")
-    counts, statuses = dict.fromkeys(COUNTED, 0), set()
+    counts, statuses = dict.fromkeys(COUNTED, 0), set()  # type: Dict[str, int], Set[int]
     names = list(files.chosen(words, status_of_folder(words.directory)))  # before any result stands among them
     for found in many.verdicts(names, 1, Into(words).made, words.verb):
         counts[found.result] += 1

@@ -11,6 +11,10 @@ from front.text import put_lines, shown, tell
 from front.write import put
 from front.words import CHOICE, at_once, takes_files, verb
 
+TYPE_CHECKING = False                                # a checker of types takes it for true; typing itself is slow to load
+if TYPE_CHECKING:
+    from typing import Any, Callable, Iterator, Optional, Set, Tuple
+
 DIGEST = """\
 A line has the SHA-256 of the canonical stream of a file's guest, and the file's name, as sha256sum writes them. It is the
 digest of what `mig normalise`, or of an old save `mig convert`, writes: so two saves of the same guest state have the same,
@@ -23,13 +27,13 @@ ESCAPED = {b'\\': b'\\\\', b'\n': b'\\n', b'\r': b'\\r'}  # as sha256sum does, w
 UNESCAPED = {escaped: letter for letter, escaped in ESCAPED.items()}
 
 
-def judge_of(path, at_once):
+def judge_of(path: str, at_once: int) -> 'Callable[[str], verdict.Verdict]':
     """A function that answers of a file what the program at a path says of it; so many run at once."""
     memory = Memory(at_once)
     return lambda name: memory.given(name, lambda: verdict.of_file(name, lambda name, source: judged(name, path, source)), name != '-')
 
 
-def judged(name, path, source):
+def judged(name: str, path: str, source: 'Any') -> verdict.Verdict:
     """What `normalise`, or for an old save `convert`, says of a source, and the digest of what it writes."""
     form = forms.form_of(source)
     early = verdict.without_program(name, form)
@@ -44,14 +48,14 @@ def judged(name, path, source):
     return found._replace(digest=made.hexdigest()) if found.status == errors.OK else found
 
 
-def line_of(found):
+def line_of(found: verdict.Verdict) -> bytes:
     """The line of a file, with its name as bytes."""
     name = os.fsencode(found.name)
     escaped = re.sub(rb'[\\\n\r]', lambda letter: ESCAPED[letter[0]], name)
     return b'\\' * (escaped != name) + b'%s  %s\n' % (found.digest.encode(), escaped)
 
 
-def listed(line):
+def listed(line: bytes) -> 'Optional[Tuple[str, str]]':
     """The name and the digest of a line; None where it is no such line."""
     said = LINE.fullmatch(line)
     if not said:
@@ -60,9 +64,9 @@ def listed(line):
     return os.fsdecode(name), said[2].decode()
 
 
-def written(words):
+def written(words: 'Any') -> int:
     """Writes the digest of each file; the status."""
-    names, statuses = files.chosen(words), set()
+    names, statuses = files.chosen(words), set()  # type: Iterator[str], Set[int]
     for found in many.verdicts(names, words.jobs, judge_of(program.find(), words.jobs), 'reading'):
         if found.digest:
             put(1, line_of(found))
@@ -71,7 +75,7 @@ def written(words):
     return many.status_of(statuses)
 
 
-def compared(words, name, path):
+def compared(words: 'Any', name: str, path: str) -> int:
     """Says of each file of a list whether it has the digest that stands there; the status."""
     try:
         lines = [listed(line) for line in files.text_of(name).splitlines()]
@@ -95,7 +99,7 @@ def compared(words, name, path):
     return many.status_of(statuses)
 
 
-def digest(words):
+def digest(words: 'Any') -> int:
     if words.quiet and not words.check:
         raise errors.Refused(errors.USAGE, '-q goes with --check')
     if not words.check:
@@ -107,7 +111,7 @@ def digest(words):
     return many.status_of({compared(words, name, path) for name in words.paths})
 
 
-def offer(verbs):
+def offer(verbs: 'Any') -> None:
     words = verb(verbs, 'digest', "print the digest of each guest's canonical stream, or check a list of them", digest, DIGEST + '\n\n' + CHOICE)
     takes_files(words)
     at_once(words)

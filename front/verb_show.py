@@ -10,6 +10,10 @@ from front.progress import LINE
 from front.text import put_lines, shown
 from front.words import CHOICE, takes_files, verb
 
+TYPE_CHECKING = False                                # a checker of types takes it for true; typing itself is slow to load
+if TYPE_CHECKING:
+    from typing import Any, IO, Iterator, List, Optional, Set, Tuple
+
 SHOW = """\
 Files and folders, with all files below, and `-` for standard input; each is what `mig check` takes, but no old save.
 
@@ -29,23 +33,23 @@ kept in memory, but what is shown of each record is, until the line is written."
 OLD = 'not judged: an old save has no such records; what `mig convert` makes of it has'
 
 
-def behind_name(pipe, name):
+def behind_name(pipe: 'IO[bytes]', name: str) -> None:
     """Writes what the program writes, where it writes a whole line, in an object with the file's name."""
     text = pipe.read()
     if text.endswith(b'\n'):
         write.put(1, b'{"file": %s, "shown": %s}\n' % (json.dumps(name).encode(), text.rstrip(b'\n')))
 
 
-def answer(words, path, name, source, begins):
+def answer(words: 'Any', path: str, name: str, source: 'Any', begins: int) -> program.Answer:
     """What the program answers, while its text goes to standard output."""
     if not words.names:
         return program.run(path, ['show'], source, begins, 1)
     with program.Work(path, ['show'], source, begins, program.PIPE) as work:
-        behind_name(work.process.stdout, name)
+        behind_name(work.process.stdout, name)  # type: ignore[arg-type]
     return work.said
 
 
-def listed(words, path, name, source):
+def listed(words: 'Any', path: str, name: str, source: 'Any') -> verdict.Verdict:
     """The verdict of a source whose records are written."""
     form = forms.form_of(source)
     if form.kind == forms.LEGACY:
@@ -54,9 +58,9 @@ def listed(words, path, name, source):
     return early or verdict.of_answer(name, source, form, 'show', answer(words, path, name, source, form.begins))
 
 
-def listed_file(words, path, name):
+def listed_file(words: 'Any', path: str, name: str) -> 'Tuple[int, List[str]]':
     """The status of a file whose records are written, and the lines that tell all that isn't its text."""
-    source = None
+    source = None  # type: Optional[sources.Source]
     try:
         source = sources.source_of(name)
         found = listed(words, path, name, source)
@@ -70,8 +74,8 @@ def listed_file(words, path, name):
     return found.status, list(found.lines())[found.status == errors.OK:]
 
 
-def show(words):
-    names, path, statuses = chosen(words), program.find(), set()
+def show(words: 'Any') -> int:
+    names, path, statuses = chosen(words), program.find(), set()  # type: Iterator[str], str, Set[int]
     LINE.is_terminal = LINE.is_terminal and not sys.stdout.isatty()  # where the program's own text would stand behind it
     for done, name in enumerate(LINE.begin('listing', names)):
         LINE.at(done, name)
@@ -81,7 +85,7 @@ def show(words):
     return status_of(statuses)
 
 
-def offer(verbs):
+def offer(verbs: 'Any') -> None:
     words = verb(verbs, 'show', 'write the records of each file as JSON, up to the part that is refused', show, SHOW + '\n\n' + CHOICE,
                  {errors.REFUSED: 'what stands in front of the refused part is told'})
     takes_files(words)

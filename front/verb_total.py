@@ -7,6 +7,12 @@ from front.seen import host_of, name_of, objects
 from front.text import put_lines, shown, tell
 from front.words import verb
 
+TYPE_CHECKING = False                                # a checker of types takes it for true; typing itself is slow to load
+if TYPE_CHECKING:
+    from typing import Any, Dict, Iterable, Iterator, Sequence, Tuple
+
+    Latest = Dict[Tuple[str, str], Dict[str, Any]]   # by host and name
+
 TOTAL = """\
 FILE has lines of `mig check --json`, or of `mig info --json`; without one they come from standard input. Of a file that is told
 several times, on one host, the last line counts. Printed are the files that weren't accepted, each behind its host where that is
@@ -23,9 +29,9 @@ MISSING = 'missing'
 COUNTED = (verdict.OK, 'told', verdict.REFUSED, verdict.NO_SAVE, verdict.NOT_JUDGED, 'not told', verdict.FAULT, MISSING)
 
 
-def latest(names):
+def latest(names: 'Sequence[str]') -> 'Tuple[Latest, bool]':
     """The last object of each file on each host, in the order in which the files came first; and whether all lines were whole."""
-    found, whole = {}, True
+    found, whole = {}, True  # type: Latest, bool
     for name in names:
         for number, facts in objects(name):
             if facts:
@@ -36,7 +42,7 @@ def latest(names):
     return found, whole
 
 
-def lines_of(facts):
+def lines_of(facts: 'Dict[str, Any]') -> 'Iterator[str]':
     """What is printed of a file that wasn't accepted."""
     host = shown(host_of(facts)) + ': ' if host_of(facts) else ''
     form = [shown(facts['form'])] if 'form' in facts else []
@@ -45,16 +51,16 @@ def lines_of(facts):
         yield '    %s; %s' % (shown(facts['means']), shown(facts.get('do', '')))
 
 
-def wanted(words):
+def wanted(words: 'Any') -> 'Dict[str, None]':
     """The files that all lists name, each once. A list that names none isn't well."""
-    found = dict.fromkeys(path for name in words.of or () for path in files.listed(name, words.ends_with_nul))
+    found = dict.fromkeys(path for name in words.of or () for path in files.listed(name, words.ends_with_nul))  # type: Dict[str, None]
     for path in found:
         if isinstance(path, sources.EmptyFolder):
             raise sources.unread(path, path.why)
     return found
 
 
-def put_left(words, found, names):
+def put_left(words: 'Any', found: 'Latest', names: 'Iterable[str]') -> int:
     """Prints the files of the lists that are still to be judged."""
     done = {name for (_, name), facts in found.items() if facts['result'] != verdict.FAULT}
     end = '\0' if words.ends_with_nul else '\n'
@@ -65,7 +71,7 @@ def put_left(words, found, names):
     return errors.OK
 
 
-def total(words):
+def total(words: 'Any') -> int:
     if words.left and not words.of or words.ends_with_nul and not words.of:
         raise errors.Refused(errors.USAGE, '--left and -0 go with --of')
     found, whole = latest(words.files or ['-'])
@@ -85,7 +91,7 @@ def total(words):
     return many.status_of([*(facts['status'] for facts in found.values()), errors.READ_FAULT * incomplete])
 
 
-def offer(verbs):
+def offer(verbs: 'Any') -> None:
     words = verb(verbs, 'total', 'count what `mig check --json` told on many hosts, and list what was not accepted', total, TOTAL,
                  {errors.READ_FAULT: 'a line is missing, or is not whole'})
     words.add_argument('files', metavar='FILE', nargs='*')

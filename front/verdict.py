@@ -8,6 +8,12 @@ from collections import namedtuple
 from front import causes, errors, forms, guarding, places, program, sources
 from front.text import put_lines, shown
 
+TYPE_CHECKING = False                                # a checker of types takes it for true; typing itself is slow to load
+if TYPE_CHECKING:
+    from typing import Any, Callable, Dict, Iterator, Optional, Type
+
+    Judge = Callable[[str, Any], 'Verdict']          # of a file's name and its source
+
 OK, REFUSED, NO_SAVE, NOT_JUDGED, FAULT = 'ok', 'refused', 'no save', 'not judged', 'fault'
 SCHEMA = 1                                           # of what --json prints: docs/verdict.schema.json
 REFUSAL = re.compile(r'refused: (\w+(?: \d+)?): (\d+) (\w+)')
@@ -28,11 +34,11 @@ class Verdict(Fields):
     says nothing of it."""
 
     @classmethod
-    def of(cls, name, result, status, line, form=None, **more):
+    def of(cls, name: str, result: str, status: int, line: str, form: 'Optional[str]' = None, **more: 'Any') -> 'Verdict':
         """One that says no more than this. (python3.6 knows no defaults of a namedtuple.)"""
         return cls(name, result, status, line, form, *map(more.get, cls._fields[5:]))
 
-    def lines(self):
+    def lines(self) -> 'Iterator[str]':
         """What is printed of it."""
         parts = [shown(self.name)] + [self.form] * (self.form is not None and self.result != NO_SAVE)
         yield ': '.join(parts + [self.line])
@@ -48,7 +54,7 @@ class Verdict(Fields):
             yield '    %d bytes follow the end of the stream; they were not judged%s' % (
                 self.follows, ' and not passed on' if relayed else '')
 
-    def differing(self):
+    def differing(self) -> 'Iterator[str]':
         """What the frames came to that were sent once more, to be compared, where some differ, or weren't compared."""
         said = FACTS.fullmatch(self.line)
         if self.is_uncompared():
@@ -58,29 +64,29 @@ class Verdict(Fields):
             yield ('    %s of the frames that were sent again to be compared (VERIFY) differ from those sent first; the guest has '
                    'those sent first' % said[5])
 
-    def is_uncompared(self):
+    def is_uncompared(self) -> bool:
         """Whether frames were sent once more, and not compared."""
         said = FACTS.fullmatch(self.line)
-        return bool(said) and said[5] == UNCOMPARED
+        return bool(said) and said[5] == UNCOMPARED  # type: ignore[index]
 
-    def saved(self):
+    def saved(self) -> str:
         """What a live save took."""
-        rounds, entries = map(int, SAVED.fullmatch(self.line).groups())
+        rounds, entries = map(int, SAVED.fullmatch(self.line).groups())  # type: ignore[union-attr]
         told = '%d round%s while the guest ran, then the pause; %d frame numbers sent' % (rounds, 's' * (rounds > 1), entries)
         if self.size is None:
             return told
         return told + (', %d bytes' % self.size if self.size < 1e6 else ', %.1f MB' % (self.size / 1e6))
 
-    def where(self):
+    def where(self) -> str:
         if self.text is not None:
             return '%s is ' % self.text
         if self.offset is None:
             return ''
         return 'at byte %d of %s: ' % (self.offset, 'what %s unpacks' % self.packed if self.packed else 'the file')
 
-    def facts(self):
+    def facts(self) -> 'Dict[str, Any]':
         """It as one object, for JSON: what isn't there is left out."""
-        found = {'schema': SCHEMA, **of_name(self.name), 'result': self.result, 'status': self.status}
+        found = {'schema': SCHEMA, **of_name(self.name), 'result': self.result, 'status': self.status}  # type: Dict[str, Any]
         names = 'form', 'begins', 'line', 'offset', 'packed', 'means', 'do', 'follows', 'text', 'size'
         found.update((name, getattr(self, name)) for name in names if getattr(self, name) is not None)
         found.update(self.stamp or {})
@@ -104,7 +110,7 @@ class Verdict(Fields):
         return found
 
 
-def of_name(name):
+def of_name(name: str) -> 'Dict[str, str]':
     """A file's name for JSON, with its bytes where they aren't UTF-8: other programs lose what stands for these."""
     try:
         name.encode()
@@ -113,7 +119,7 @@ def of_name(name):
     return {'file': name}
 
 
-def tell_of(found):
+def tell_of(found: Verdict) -> None:
     """Tells of what has no result, or more behind it."""
     lines = list(found.lines())
     put_lines(lines if found.status else ['%s: %s' % (shown(found.name), line.strip()) for line in lines[1:]], sys.stderr)
@@ -122,11 +128,11 @@ def tell_of(found):
 SPECIAL = 'not judged: a pipe, a socket or a device is read only where it is given by its name'
 
 
-def fault(name, why):
+def fault(name: str, why: str) -> Verdict:
     return Verdict.of(name, FAULT, errors.READ_FAULT, READ_FAULT + why)
 
 
-def without_program(name, form):
+def without_program(name: str, form: forms.Form) -> 'Optional[Verdict]':
     """The verdict of a file that no command takes; None where one does."""
     if form.kind == forms.NONE:
         return Verdict.of(name, NO_SAVE, errors.REFUSED, 'no save: ' + form.why)
@@ -138,7 +144,7 @@ def without_program(name, form):
     return None
 
 
-def of_answer(name, source, form, command, answer):
+def of_answer(name: str, source: 'Any', form: forms.Form, command: str, answer: program.Answer) -> Verdict:
     """The verdict of a file of which the program answered this to a command."""
     words = ', '.join(filter(None, (source.packed, form.words))) or None
     found = Verdict.of(name, FAULT, answer.status, answer.line, words, begins=form.begins, packed=source.packed)
@@ -154,7 +160,7 @@ def of_answer(name, source, form, command, answer):
                           means=said and said.means, do=said and said.do)
 
 
-def judged(name, path, source):
+def judged(name: str, path: str, source: 'Any') -> Verdict:
     """What mig_check at a path says of a source."""
     form = forms.form_of(source)
     early = without_program(name, form)
@@ -165,22 +171,22 @@ def judged(name, path, source):
     return of_answer(name, source, form, 'convert' if is_legacy else 'verify', answer)
 
 
-def compared(name, path, source):
+def compared(name: str, path: str, source: 'Any') -> Verdict:
     """What `verify` of mig_tool at a path says of a stream: it compares the frames behind a VERIFY, too."""
     form = forms.form_of(source)
     return of_answer(name, source, form, 'verify', program.run(path, ['verify'], source, form.begins))
 
 
-def of_file(name, judge, kind=sources.Plain):
+def of_file(name: str, judge: 'Judge', kind: 'Type[sources.Plain]' = sources.Plain) -> Verdict:
     """The verdict of a file with this name, as a function answers it of a name and a source, of this kind where it isn't packed. It is
     asked twice where the first time only the file's inode was changed meanwhile, as a backup does that makes a hard link."""
     found = of_source(name, judge, kind)
     return of_source(name, judge, kind) if name != '-' and found.line == READ_FAULT + sources.TOUCHED else found
 
 
-def of_source(name, judge, kind):
+def of_source(name: str, judge: 'Judge', kind: 'Type[sources.Plain]') -> Verdict:
     """The same, asked once."""
-    source = None
+    source = None  # type: Optional[sources.Source]
     try:
         source = sources.source_of(name, kind)
         return judge(name, source)

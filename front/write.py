@@ -8,13 +8,19 @@ from front import errors, files, forms, headers, program, sources, text, verdict
 from front.text import put_lines, shown, tell
 from front.words import CHOICE, INPUT, INTO, OUT, takes_files, takes_header, verb, writes_over
 
+TYPE_CHECKING = False                                # a checker of types takes it for true; typing itself is slow to load
+if TYPE_CHECKING:
+    from typing import Any, List, Optional
+
+    from front.words import Words
+
 LIBXL_FRONT = bytes.fromhex('4c6962786c466d74 00000002 00000000 01000000 00000000')
 LIBXL_END = bytes(8)
 MODE = 0o600                                         # a guest's memory is its owner's alone, whoever may read the save
 UNSYNCED = errno.EINVAL, errno.ENOTSUP, errno.EACCES  # of a folder whose file system has no such call, or which can't be read
 
 
-def settle(name):
+def settle(name: str) -> None:
     """Has the names in a folder written to the disk too, so that who removes the input behind this loses nothing."""
     try:
         folder = os.open(name, os.O_RDONLY | os.O_DIRECTORY | os.O_CLOEXEC)
@@ -30,8 +36,9 @@ def settle(name):
 class Output:
     """A file that gets its name when all is well; `-` is standard output, which gets the bytes as they come."""
 
-    def __init__(self, name, force):
-        self.name, self.force, self.part = name, force, None
+    def __init__(self, name: str, force: bool) -> None:
+        self.name, self.force = name, force
+        self.part = None  # type: Any              # the path of what isn't whole yet
         if name == '-':
             self.fd = self.standard()
             return
@@ -49,12 +56,12 @@ class Output:
             raise errors.Refused(errors.WRITE_FAULT, '%s: %s' % (shown(name), sources.why(fault))) from None
 
     @staticmethod
-    def standard():
+    def standard() -> int:
         if sys.stdout.isatty():
             raise errors.Refused(errors.USAGE, 'a stream is no text: give it another place than a terminal')
         return 1
 
-    def place(self):
+    def place(self) -> None:
         """Gives the written file its name. Nothing of that name is written over without --force."""
         if not self.part:
             return
@@ -71,7 +78,7 @@ class Output:
         except OSError as fault:
             raise errors.Refused(errors.WRITE_FAULT, '%s: %s' % (shown(self.name), sources.why(fault))) from None
 
-    def move(self):
+    def move(self) -> None:
         """Gives the file a name that nobody has. Where there are no hard links an empty file holds it meanwhile."""
         try:
             os.link(self.part, self.target)
@@ -87,7 +94,7 @@ class Output:
         else:
             os.unlink(self.part)
 
-    def close(self):
+    def close(self) -> None:
         """Takes away what isn't whole; where that can't be done, it is told."""
         if self.fd != 1:
             os.close(self.fd)
@@ -100,7 +107,7 @@ class Output:
             tell('%s is no whole file and stays: %s' % (shown(self.part), sources.why(fault)))
 
 
-def put(fd, data):
+def put(fd: int, data: bytes) -> None:
     try:
         with text.LOCK:
             for call in text.BEFORE_LINES if fd == 1 else ():
@@ -110,23 +117,24 @@ def put(fd, data):
         raise errors.Refused(errors.WRITE_FAULT, 'fault: write: ' + sources.why(fault)) from None
 
 
-def configuration(source, form):
+def configuration(source: 'Any', form: forms.Form) -> bytes:
     """The configuration that stands in xl's header."""
     header = form.header
     if not isinstance(header, headers.XlHeader):
         raise errors.Refused(errors.USAGE, "--xl: there is no xl header to put back; IN is a %s" % form.words)
     if header.length > sources.MOST_KEPT:
         raise errors.Refused(errors.USAGE, "--xl: the configuration in xl's header has more than 64 MiB")
-    return source.at(headers.XL_LENGTH, header.length)
+    data = source.at(headers.XL_LENGTH, header.length)  # type: bytes
+    return data
 
 
-def copy(pipe, out):
+def copy(pipe: int, out: int) -> None:
     """Passes on all that comes."""
     for block in iter(lambda: sources.read_some(pipe, sources.BLOCK), b''):
         put(out, block)
 
 
-def for_xl(pipe, out, front):
+def for_xl(pipe: int, out: int, front: bytes) -> None:
     """Passes on what the program writes, with xl's header in front, and with a libxl stream around a bare image."""
     first = sources.read_upto(pipe, len(forms.LIBXL_MAGIC))
     if not first:
@@ -137,7 +145,7 @@ def for_xl(pipe, out, front):
     put(out, LIBXL_END * bare)
 
 
-def answer(words, path, command, source, form, out):
+def answer(words: 'Any', path: str, command: 'List[str]', source: 'Any', form: forms.Form, out: int) -> program.Answer:
     """What the program answers, while its output goes to a file descriptor."""
     if not words.xl:
         return program.run(path, command, source, form.begins, out)
@@ -147,12 +155,12 @@ def answer(words, path, command, source, form, out):
     return work.said
 
 
-def command_of(words):
+def command_of(words: 'Any') -> 'List[str]':
     base = getattr(words, 'base', None)
     return [words.verb] + ([base] if base is not None else [])
 
 
-def written(words, path, name, source, output):
+def written(words: 'Any', path: str, name: str, source: 'Any', output: Output) -> verdict.Verdict:
     """The verdict of a file of which the program writes what was asked for."""
     form = forms.form_of(source)
     early = verdict.without_program(name, form)
@@ -166,7 +174,7 @@ def written(words, path, name, source, output):
     return verdict.of_answer(name, source, form, words.verb, said)
 
 
-def result_of(words, path, name, source, place):
+def result_of(words: 'Any', path: 'Optional[str]', name: str, source: 'Any', place: str) -> verdict.Verdict:
     """The verdict of a file of which the result gets this place where all is well."""
     output = Output(place, words.force)
     try:
@@ -178,7 +186,7 @@ def result_of(words, path, name, source, place):
         output.close()
 
 
-def write(words):
+def write(words: 'Any') -> int:
     words.xl = getattr(words, 'xl', False)
     if words.directory is not None:
         from front.into import into
@@ -194,10 +202,10 @@ def write(words):
     if found.status or found.follows:
         lines = list(found.lines())
         put_lines(lines[bool(found.status == errors.OK):], sys.stderr)
-    return found.status
+    return int(found.status)
 
 
-def offer(verbs, name, says, with_xl=True):
+def offer(verbs: 'Any', name: str, says: str, with_xl: bool = True) -> 'Words':
     """Offers one of the three verbs."""
     words = verb(verbs, name, says, write, '\n\n'.join((INPUT, OUT, INTO, CHOICE)))
     words.usage = 'mig %s [OPTION...] IN OUT\n       mig %s [OPTION...] -t DIR PATH...' % (name, name)
