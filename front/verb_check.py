@@ -8,6 +8,12 @@ from front.sharing import MOST_OF_CHECK, Memory
 from front.text import put_lines
 from front.words import CHOICE, INPUT, at_once, in_json, takes_files, verb
 
+TYPE_CHECKING = False                                # a checker of types takes it for true; typing itself is slow to load
+if TYPE_CHECKING:
+    from typing import Any, Dict, Iterator, Set
+
+    from front.many import Judge
+
 FOLDERS = 'Files and folders, with all files below, and `-` for standard input.'
 COUNTED = verdict.OK, verdict.REFUSED, verdict.NO_SAVE, verdict.NOT_JUDGED, verdict.FAULT
 
@@ -16,43 +22,43 @@ class Checks:
     """What is said of each file. mig_check judges it, which keeps no pages. With --compare mig_tool reads it once more where it has
     frames that were sent again to be compared, and at once where it can't be read twice."""
 
-    def __init__(self, words):
+    def __init__(self, words: 'Any') -> None:
         self.path, self.memory = program.find(resolve.CHECK), Memory(words.jobs)
-        self.tool = program.find(resolve.TOOL) if words.compare else None
+        self.tool = program.find(resolve.TOOL) if words.compare else None  # type: Any
         self.kind = sources.Whole if words.whole else sources.Plain
 
-    def judged(self, name):
+    def judged(self, name: str) -> verdict.Verdict:
         return verdict.of_file(name, self.said, self.kind)
 
-    def said(self, name, source):
+    def said(self, name: str, source: 'Any') -> verdict.Verdict:
         if self.tool and not source.is_walkable and forms.form_of(source).kind == forms.STREAM:
             return self.compared(name, source)
         with self.memory.taken(MOST_OF_CHECK):
             found = verdict.judged(name, self.path, source)
         return self.compared(name, source) if self.tool and found.is_uncompared() else found
 
-    def compared(self, name, source):
+    def compared(self, name: str, source: 'Any') -> verdict.Verdict:
         return self.memory.given(name, lambda: verdict.compared(name, self.tool, source), source.is_walkable)
 
 
-def stamped(judged):
+def stamped(judged: 'Judge') -> 'Judge':
     """A function that judges a file, and notes by what it is known again: as it was before."""
     from front.seen import stamp_of
 
-    def judge(name):
+    def judge(name: str) -> verdict.Verdict:
         stamp = stamp_of(name)
         return judged(name)._replace(stamp=stamp)
     return judge
 
 
-def put_object(words, found):
+def put_object(words: 'Any', found: verdict.Verdict) -> None:
     """Prints a verdict as an object."""
     import json                                      # it takes a while to load
     host = {'host': os.uname().nodename} if words.host else {}
     put_lines([json.dumps({**found.facts(), **host})], sys.stdout)
 
 
-def refuse_words(words):
+def refuse_words(words: 'Any') -> None:
     """Some words go with others alone."""
     if (words.host or words.skip_seen) and not words.json:
         raise errors.Refused(errors.USAGE, '--host and --skip-seen go with --json')
@@ -60,7 +66,7 @@ def refuse_words(words):
         raise errors.Refused(errors.USAGE, "--skip-seen and -q don't go together: what isn't told is not seen")
 
 
-def unseen(words, statuses):
+def unseen(words: 'Any', statuses: 'Set[int]') -> 'Iterator[str]':
     """The chosen files, without those that were seen; of these the status counts, too."""
     names = chosen(words)
     if not words.skip_seen:
@@ -72,9 +78,9 @@ def unseen(words, statuses):
     return before.left(names, statuses)
 
 
-def check(words):
+def check(words: 'Any') -> int:
     refuse_words(words)
-    counts, statuses, checks = dict.fromkeys(COUNTED, 0), set(), Checks(words)
+    counts, statuses, checks = dict.fromkeys(COUNTED, 0), set(), Checks(words)  # type: Dict[str, int], Set[int], Checks
     judge = stamped(checks.judged) if words.skip_seen else checks.judged
     for found in many.verdicts(unseen(words, statuses), words.jobs, judge):
         counts[found.result] += 1
@@ -90,7 +96,7 @@ def check(words):
     return many.status_of(statuses)
 
 
-def offer(verbs):
+def offer(verbs: 'Any') -> None:
     words = verb(verbs, 'check', 'say of each file whether it is a whole, well formed save', check, '\n'.join((FOLDERS, INPUT, '', CHOICE)))
     takes_files(words)
     at_once(words)

@@ -9,6 +9,10 @@ from front.progress import LINE
 from front.text import put_lines, shown, tell
 from front.words import INPUT, verb
 
+TYPE_CHECKING = False                                # a checker of types takes it for true; typing itself is slow to load
+if TYPE_CHECKING:
+    from typing import Any, Dict, List, Optional, Sequence, Tuple
+
 PAGE_DATA = 1
 RECORDS = {0: 'END', PAGE_DATA: 'PAGE_DATA', 2: 'X86_PV_INFO', 3: 'X86_PV_P2M_FRAMES', 4: 'X86_PV_VCPU_BASIC',
            5: 'X86_PV_VCPU_EXTENDED', 6: 'X86_PV_VCPU_XSAVE', 7: 'SHARED_INFO', 8: 'X86_TSC_INFO', 9: 'HVM_CONTEXT',
@@ -20,8 +24,9 @@ LIBXL_RECORDS = {0: 'END', places.LIBXC_CONTEXT: 'LIBXC_CONTEXT', 2: 'EMULATOR_X
 class Side:
     """One of the two saves: the program at work on it, and what it has written so far."""
 
-    def __init__(self, name, path):
-        self.name, self.place, self.work = name, 0, None
+    def __init__(self, name: str, path: str) -> None:
+        self.name, self.place = name, 0
+        self.work = None  # type: Any              # the program, where it takes this form
         self.source = sources.source_of(name)
         self.form = forms.form_of(self.source)
         self.found = verdict.without_program(name, self.form)
@@ -29,14 +34,14 @@ class Side:
             self.command = 'convert' if self.form.kind == forms.LEGACY else 'normalise'
             self.work = program.Work(path, [self.command], self.source, self.form.begins, program.PIPE)
 
-    def read(self, count):
+    def read(self, count: int) -> bytes:
         data = sources.read_upto(self.work.out, count)
         if len(data) < count:
             raise errors.Ended(self)
         self.place += count
         return data
 
-    def end(self, by_itself):
+    def end(self, by_itself: bool) -> 'Optional[verdict.Verdict]':
         """Its verdict where the program ends by itself; where it is stopped, None."""
         if not self.work:
             self.source.close()
@@ -53,7 +58,7 @@ class Side:
         return self.found
 
 
-def both(one, two, count, what):
+def both(one: Side, two: Side, count: int, what: str) -> bytes:
     """The next bytes of both, which have to be the same."""
     begins = one.place
     a, b = one.read(count), two.read(count)
@@ -63,7 +68,7 @@ def both(one, two, count, what):
     return a
 
 
-def next_record(one, two, names, what):
+def next_record(one: Side, two: Side, names: 'Dict[int, str]', what: str) -> 'Tuple[int, int, str]':
     """The type and the length of the next record of both, which have to be the same."""
     (a, length), (b, other) = (struct.unpack('<II', side.read(places.HEAD)) for side in (one, two))
     if a != b:
@@ -75,7 +80,7 @@ def next_record(one, two, names, what):
     return a, length, what
 
 
-def page_data(one, two, length, what):
+def page_data(one: Side, two: Side, length: int, what: str) -> None:
     """A PAGE_DATA record, so that a page can be named by its frame."""
     count, = struct.unpack('<I4x', both(one, two, 8, what))
     words = struct.unpack('<%dQ' % count, both(one, two, 8 * count, what + ', with other frames, or of other types'))
@@ -86,15 +91,15 @@ def page_data(one, two, length, what):
     both(one, two, left + -length % 8, what)
 
 
-def body(one, two, length, what):
+def body(one: Side, two: Side, length: int, what: str) -> None:
     left = length + -length % 8
     while left:
         left -= len(both(one, two, min(left, sources.BLOCK), what))
 
 
-def records(one, two, names, layer):
+def records(one: Side, two: Side, names: 'Dict[int, str]', layer: str) -> None:
     """The records of both streams from here on, up to END. The image behind LIBXC_CONTEXT is one of them."""
-    index, kind = 0, None
+    index, kind = 0, None  # type: int, Optional[int]
     while kind != places.END:
         kind, length, what = next_record(one, two, names, 'record %d of the %s' % (index, layer))
         if kind == places.LIBXC_CONTEXT and names is LIBXL_RECORDS:
@@ -107,7 +112,7 @@ def records(one, two, names, layer):
         index += 1
 
 
-def walk(one, two):
+def walk(one: Side, two: Side) -> None:
     """Compares two canonical streams."""
     a, b = one.read(places.HEAD), two.read(places.HEAD)
     if a != b:
@@ -120,7 +125,7 @@ def walk(one, two):
         records(one, two, RECORDS, 'image')
 
 
-def tell_ends(sides, by_themselves=()):
+def tell_ends(sides: 'Sequence[Side]', by_themselves: 'Sequence[Side]' = ()) -> int:
     """Ends all sides, and says what the program said of one that wasn't accepted. Answers the greatest status."""
     found = [side.end(side in by_themselves) for side in sides]
     refused = [one for one in found if one and one.status != errors.OK]
@@ -129,18 +134,18 @@ def tell_ends(sides, by_themselves=()):
     return max((one.status for one in refused), default=errors.OK)
 
 
-def not_compared(status):
+def not_compared(status: int) -> int:
     """What is answered where one of the saves has no canonical stream."""
     return errors.NOT_COMPARED if status in (errors.OK, errors.REFUSED) else status
 
 
-def compare(words):
+def compare(words: 'Any') -> int:
     if words.one == words.two == '-':
         tell('A and B are both standard input')
         return errors.USAGE
     path = program.find()
     program.RUNNING.of_thread.most = program.RUNNING.memory // 2  # both guests are in memory at once
-    sides = []
+    sides = []  # type: List[Side]
     LINE.begin('comparing', [words.one, words.two])
     LINE.files = 1                                   # both are read at once
     try:
@@ -166,7 +171,7 @@ def compare(words):
     return status
 
 
-def offer(verbs):
+def offer(verbs: 'Any') -> None:
     words = verb(verbs, 'compare', 'say whether two saves are of the same guest state', compare, INPUT,
                  {errors.OK: 'the same guest state', errors.REFUSED: 'another guest state',
                   errors.NOT_COMPARED: 'a file was refused, so nothing was compared'})

@@ -8,6 +8,10 @@ from front.text import put_lines
 from front.write import Output, configuration, put
 from front.words import in_json, takes_header, verb, writes_over
 
+TYPE_CHECKING = False                                # a checker of types takes it for true; typing itself is slow to load
+if TYPE_CHECKING:
+    from typing import Any
+
 RELAY = """\
 IN is what `mig check` takes, standard input where it is left out; OUT is standard output where it is left out, and else it is
 written beside its place and renamed when all is well. What is told stands on standard error where standard output has the
@@ -26,7 +30,7 @@ pairs of a device model are (38). `mig check` on the far side tells these. It en
 refused."""
 
 
-def passed_on(words, path, source, output):
+def passed_on(words: 'Any', path: str, source: 'Any', output: Output) -> verdict.Verdict:
     """The verdict of a stream that the program passes on."""
     form = forms.form_of(source)
     early = verdict.without_program(words.input, form)
@@ -39,7 +43,7 @@ def passed_on(words, path, source, output):
     return verdict.of_answer(words.input, source, form, 'relay', said)
 
 
-def show(words, found):
+def show(words: 'Any', found: verdict.Verdict) -> None:
     """Prints a verdict: on standard output, or on standard error where that has the stream, and of a refusal."""
     to = sys.stderr if words.output == '-' or found.status and not words.json else sys.stdout
     if words.json:
@@ -50,7 +54,7 @@ def show(words, found):
     put_lines([*found.lines(), *['    what was written to standard output may be cut; throw it away'] * bool(is_cut)], to)
 
 
-def relayed(words):
+def relayed(words: 'Any') -> verdict.Verdict:
     """The verdict of the input, of which OUT has got its name where all is well."""
     source = sources.source_of(words.input)
     LINE.begin('passing on', [words.input])
@@ -67,7 +71,7 @@ def relayed(words):
     return found
 
 
-def relay(words):
+def relay(words: 'Any') -> int:
     try:
         found = relayed(words)
     except errors.Unreadable as why:
@@ -75,10 +79,10 @@ def relay(words):
             raise sources.unread(words.input, why) from None
         found = verdict.fault(words.input, str(why))
     show(words, found)
-    return found.status
+    return int(found.status)
 
 
-def offer(verbs):
+def offer(verbs: 'Any') -> None:
     words = verb(verbs, 'relay', 'pass a stream on while it is judged part by part, without keeping its guest', relay, RELAY,
                  {errors.REFUSED: 'a part of the stream may have been written'})
     words.add_argument('input', metavar='IN', nargs='?', default='-')

@@ -13,6 +13,10 @@ from front.text import put_lines
 from front.write import Output
 from front.words import in_json, verb, writes_over
 
+TYPE_CHECKING = False                                # a checker of types takes it for true; typing itself is slow to load
+if TYPE_CHECKING:
+    from typing import Any, Callable, IO, List, Optional, Tuple
+
 SCRIPT = """\
 IMAGE is a guest image, as `mig restore` writes it; it may be packed by gzip, zstd or xz. SCRIPT has a line for each thing that the
 guest does meanwhile:
@@ -39,21 +43,22 @@ class Fed:
     Where anything follows the image, or that can't be read, the program gets an empty line in the script's place, which is a bad one,
     so that nothing is written."""
 
-    def __init__(self, image, script):
-        self.image, self.script = image, script
-        self.follows, self.fault, self.feeder = 0, None, None
+    def __init__(self, image: 'Any', script: bytes) -> None:
+        self.image, self.script, self.follows = image, script, 0
+        self.fault = None  # type: Optional[str]
+        self.feeder = None  # type: Any            # the thread that feeds the program
 
-    def read_so_far(self):
-        return self.image.read_so_far()
+    def read_so_far(self) -> int:
+        return int(self.image.read_so_far())
 
-    def input_from(self, begins):
+    def input_from(self, begins: int) -> int:
         taken, into = os.pipe()
         self.feeder = threading.Thread(target=self.feed, args=(self.image.input_from(begins), into), daemon=True)
         self.feeder.start()
         self.taken = taken
         return taken
 
-    def feed(self, image, into):
+    def feed(self, image: int, into: int) -> None:
         try:
             with io.BufferedWriter(io.FileIO(into, 'w'), sources.BLOCK) as out:
                 self.pass_on(io.BufferedReader(io.FileIO(os.dup(image)), sources.BLOCK), out)
@@ -62,8 +67,8 @@ class Fed:
         except OSError as fault:
             self.fault = sources.why(fault)
 
-    def pass_on(self, image, out):
-        def take(count):
+    def pass_on(self, image: 'IO[bytes]', out: 'IO[bytes]') -> None:
+        def take(count: int) -> bytes:
             data = image.read(count)
             out.write(data)
             if len(data) < count:
@@ -81,7 +86,7 @@ class Fed:
                 self.fault = sources.why(fault)
         out.write(b'\n' if self.follows or self.fault else self.script)
 
-    def look_behind(self, image):
+    def look_behind(self, image: 'IO[bytes]') -> None:
         """How much follows the image, of which no more is read than what follows a stream."""
         while self.follows < sources.MOST_BEHIND:
             block = image.read(sources.BLOCK)
@@ -89,13 +94,13 @@ class Fed:
             if not block:
                 break
 
-    def ended(self, accepted):
+    def ended(self, accepted: bool) -> 'Optional[str]':
         os.close(self.taken)
         self.feeder.join()
         return self.fault or self.image.ended(accepted)
 
 
-def pass_image(take):
+def pass_image(take: 'Callable[[int], bytes]') -> None:
     """Takes each part of an image once, whatever it holds: a head says how much follows it."""
     name, frames = struct.unpack('<8s16xQ', take(places.FILE_HEAD))
     for _ in range(frames):
@@ -110,7 +115,7 @@ def pass_image(take):
             left -= len(take(min(left, sources.BLOCK)))
 
 
-def script_of(source):
+def script_of(source: 'Any') -> bytes:
     """All bytes of a script, or one more than it may have."""
     text = sources.read_upto(source.input_from(0), MOST_SCRIPT + 1)
     fault = source.ended(len(text) <= MOST_SCRIPT)
@@ -119,25 +124,25 @@ def script_of(source):
     return text
 
 
-def answer(path, image, script, out):
+def answer(path: str, image: 'Any', script: bytes, out: int) -> 'Tuple[program.Answer, int]':
     """What the program answers, and how many bytes follow the image in its file."""
     fed = Fed(image, script)
     return program.run(path, ['save'], fed, 0, out), fed.follows
 
 
-def line_shown(script, number):
+def line_shown(script: bytes, number: int) -> str:
     """The line of a script with this number, counted from 1, as it is shown."""
     line = script.split(b'\n', number)[number - 1]
     return repr(line[:MOST_SHOWN])[1:] + ' ..' * (len(line) > MOST_SHOWN)
 
 
-def form_of(image):
+def form_of(image: 'Any') -> forms.Form:
     """The form of what was given as an image; whatever it is, the program looks at it from its first byte on."""
     form = forms.form_of(image)
     return forms.found(form.kind, form.words if form.kind != forms.NONE else None)
 
 
-def verdict_of(words, image, form, script, said, follows):
+def verdict_of(words: 'Any', image: 'Any', form: forms.Form, script: bytes, said: program.Answer, follows: int) -> verdict.Verdict:
     """What is to be said of a save of which the program answered this."""
     if follows and said.line.startswith('refused: Script'):
         line = 'refused: %d bytes follow the end of the image' % follows
@@ -150,7 +155,7 @@ def verdict_of(words, image, form, script, said, follows):
     return found._replace(name=words.script, form=None, packed=None, begins=None, text=bad and line_shown(script, int(bad[1])))
 
 
-def saved(words, path, image, script, output):
+def saved(words: 'Any', path: str, image: 'Any', script: bytes, output: Output) -> verdict.Verdict:
     """The verdict of an image and a script, of which the program writes the stream."""
     form = form_of(image)
     said, follows = answer(path, image, script, output.fd)
@@ -162,7 +167,7 @@ def saved(words, path, image, script, output):
     return found
 
 
-def show(words, found):
+def show(words: 'Any', found: verdict.Verdict) -> None:
     """Prints a verdict: on standard output, or on standard error where that has the stream, and of a refusal."""
     to = sys.stderr if words.output == '-' or found.status and not words.json else sys.stdout
     if words.json:
@@ -173,7 +178,7 @@ def show(words, found):
     put_lines([*found.lines(), *['    what was written to standard output is no stream; throw it away'] * is_none], to)
 
 
-def read(name, opened, use):
+def read(name: str, opened: 'List[Any]', use: 'Callable[[Any], Any]') -> 'Any':
     """What a function answers of the source of a file, which is opened and closed later; where that can't be read, `name` tells which
     file it was."""
     try:
@@ -184,7 +189,7 @@ def read(name, opened, use):
         raise
 
 
-def of_files(words, opened):
+def of_files(words: 'Any', opened: 'List[Any]') -> verdict.Verdict:
     """The verdict of the image and the script, of which OUT has got its name where all is well."""
     image = read(words.image, opened, lambda source: source)
     script = read(words.script, opened, script_of)
@@ -195,10 +200,10 @@ def of_files(words, opened):
         output.close()
 
 
-def save(words):
+def save(words: 'Any') -> int:
     if words.image == words.script == '-':
         raise errors.Refused(errors.USAGE, 'IMAGE and SCRIPT are both standard input')
-    opened = []
+    opened = []  # type: List[Any]
     LINE.begin('saving', [words.image])
     try:
         found = of_files(words, opened)
@@ -211,10 +216,10 @@ def save(words):
         for source in opened:
             source.close()
     show(words, found)
-    return found.status
+    return int(found.status)
 
 
-def offer(verbs):
+def offer(verbs: 'Any') -> None:
     words = verb(verbs, 'save', 'save the host in a guest image live, while a script changes it', save, SCRIPT,
                  {errors.REFUSED: 'the image, the script or the paused host was refused'})
     words.add_argument('image', metavar='IMAGE')
