@@ -12,6 +12,10 @@ from front.sharing import MOST_OF_CHECK, Memory
 from front.text import put_lines, shown
 from front.words import CHOICE, in_json, takes_files, verb
 
+TYPE_CHECKING = False                                # a checker of types takes it for true; typing itself is slow to load
+if TYPE_CHECKING:
+    from typing import Any, Callable, Dict, Iterator, Optional, Set, Tuple
+
 INFO = """\
 Files and folders, with all files below, and `-` for standard input; each is what `mig check` takes.
 
@@ -42,19 +46,19 @@ HEADINGS = 'RESULT', 'KIND', 'VCPUS', 'MEMORY', 'XEN', 'RECORDS', 'PAGES', 'NAME
 Fields = namedtuple('Fields', 'found size domain unread stream')
 
 
-def cut(text, most=MOST_SHOWN):
+def cut(text: str, most: int = MOST_SHOWN) -> str:
     """What a file says of itself, as one line that isn't too long."""
     return shown(text[:most]) + ' ..' * (len(text) > most)
 
 
-def with_most(now, most, unit=''):
+def with_most(now: 'Optional[int]', most: 'Optional[int]', unit: str = '') -> str:
     """A number, and what it may become at most."""
     if now is None or most is None or now == most:
-        return '%d%s' % (most if now is None else now, unit)
+        return '%d%s' % (most if now is None else now, unit)  # type: ignore[str-format]
     return '%d of %d%s' % (now, most, unit)
 
 
-def memory(now, most):
+def memory(now: 'Optional[int]', most: 'Optional[int]') -> str:
     """Amounts of KiB, in MiB where they are whole."""
     if any(one is not None and one % 1024 for one in (now, most)):
         return with_most(now, most, ' KiB')
@@ -62,12 +66,12 @@ def memory(now, most):
     return with_most(now, most, ' MiB')
 
 
-def word_of(text):
+def word_of(text: 'Optional[str]') -> str:
     """A text of a file in a column."""
     return '-' if text is None else cut(text, MOST_IN_COLUMN)
 
 
-def amount(now, most, show):
+def amount(now: 'Optional[int]', most: 'Optional[int]', show: 'Callable[..., str]') -> str:
     """A number, and what it may become, in a column."""
     return '-' if now is None and most is None else show(now, most).replace(' of ', '/')
 
@@ -76,20 +80,21 @@ class Info(Fields):
     """What is told of one file."""
 
     @classmethod
-    def of(cls, found, size=None, domain=None, unread=None, stream=None):
+    def of(cls, found: verdict.Verdict, size: 'Optional[int]' = None, domain: 'Optional[domain.Domain]' = None, unread: 'Optional[str]' = None,
+           stream: 'Optional[Dict[str, Any]]' = None) -> 'Info':
         return cls(found, size, domain, unread, stream)
 
     @property
-    def result(self):
+    def result(self) -> str:
         """What is counted: a stream that the program lists whole is told, and nobody judged it."""
-        return TOLD if self.found.status == errors.OK else self.found.result
+        return TOLD if self.found.status == errors.OK else str(self.found.result)
 
     @property
-    def line(self):
+    def line(self) -> str:
         """The line of the verdict."""
-        return self.found.line
+        return str(self.found.line)
 
-    def lines(self):
+    def lines(self) -> 'Iterator[str]':
         """What is printed of it."""
         found = self.found
         yield 'file: ' + shown(found.name)
@@ -108,14 +113,14 @@ class Info(Fields):
             yield from ('    ' + line for line in of_stream(self.stream))
         yield from self.of_verdict()
 
-    def of_verdict(self):
+    def of_verdict(self) -> 'Iterator[str]':
         """What the program answered, where it isn't that all was listed."""
         found = self.found
         if found.status:
             yield found.line
         elif found.line != 'ok':
             yield 'stream:'
-            yield '    frames: ' + verdict.LEGACY_FACTS.fullmatch(found.line)[1]
+            yield '    frames: ' + verdict.LEGACY_FACTS.fullmatch(found.line)[1]  # type: ignore[index]
         if found.means:
             yield '    %s%s; %s' % (found.where(), found.means, found.do)
         if found.status and self.stream:
@@ -123,9 +128,9 @@ class Info(Fields):
         if found.follows:
             yield 'behind the end: %d bytes' % found.follows
 
-    def facts(self):
+    def facts(self) -> 'Dict[str, Any]':
         """It as one object, for JSON: what isn't there is left out."""
-        facts = {**self.found.facts(), 'result': self.result}
+        facts = {**self.found.facts(), 'result': self.result}  # type: Dict[str, Any]
         if self.found.status == errors.OK:
             del facts['line']
         facts.pop('size', None)
@@ -139,7 +144,7 @@ class Info(Fields):
             facts['stream'] = self.stream
         return facts
 
-    def row(self):
+    def row(self) -> 'Tuple[Any, ...]':
         """It as the columns of a table."""
         told, stream = self.domain or NOTHING, self.stream or {}
         vcpus = stream.get('vcpus') if told.vcpus is None else told.vcpus
@@ -148,7 +153,7 @@ class Info(Fields):
                 stream.get('pages', '-'), word_of(told.name), shown(self.found.name))
 
 
-def of_domain(told):
+def of_domain(told: domain.Domain) -> 'Iterator[str]':
     """What is printed of a domain."""
     for name in 'name', 'uuid', 'type':
         if getattr(told, name) is not None:
@@ -159,7 +164,7 @@ def of_domain(told):
         yield 'memory: ' + memory(told.memory, told.max_memory)
 
 
-def of_stream(stream):
+def of_stream(stream: 'Dict[str, Any]') -> 'Iterator[str]':
     """What is printed of a stream."""
     if 'version' in stream:
         yield 'version: %d' % stream['version']
@@ -178,16 +183,17 @@ def of_stream(stream):
         yield 'VERIFY: frames were sent again, to be compared'
 
 
-def parts_of(stream):
+def parts_of(stream: 'Dict[str, Any]') -> 'Iterator[str]':
     """The types of records, in the order in which they come first, with what is known of each."""
-    known = {'HVM_PARAMS': ('parameters', stream.get('parameters')), 'X86_PV_P2M_FRAMES': ('P2M frames', stream.get('p2m_frames'))}
+    known = {'HVM_PARAMS': ('parameters', stream.get('parameters')),
+             'X86_PV_P2M_FRAMES': ('P2M frames', stream.get('p2m_frames'))}  # type: Dict[str, Tuple[str, Any]]
     for name, count in stream['counts'].items():
         more = ['records: %d' % count] * (count > 1) + (['%s: %d' % known[name]] if name in known else [])
         if name != 'END':
             yield name + (' (%s)' % ', '.join(more) if more else '')
 
 
-def emulators(stream):
+def emulators(stream: 'Dict[str, Any]') -> 'Iterator[str]':
     if 'emulators' not in stream:
         yield 'emulators: ' + NOT_KEPT
     for one in stream.get('emulators', ()):
@@ -197,7 +203,7 @@ def emulators(stream):
 
 # ---- what is asked of the programs
 
-def size_of(source):
+def size_of(source: 'Any') -> 'Any':
     """How many bytes a file has; None of a pipe, or where the system doesn't tell."""
     if not source.packed:
         return source.size
@@ -207,7 +213,7 @@ def size_of(source):
         return None
 
 
-def text_of(out):
+def text_of(out: int) -> bytearray:
     """What a program writes, or a little more of it than is kept."""
     text = bytearray()
     while len(text) <= MOST_TEXT:
@@ -218,7 +224,7 @@ def text_of(out):
     return text
 
 
-def listed(path, source, begins):
+def listed(path: str, source: 'Any', begins: int) -> 'Tuple[program.Answer, bytes]':
     """The program's answer to `show`, and the text that it wrote."""
     with program.Work(path, ['show'], source, begins, program.PIPE) as work:
         text = text_of(work.out)
@@ -231,7 +237,7 @@ def listed(path, source, begins):
     return work.said, text
 
 
-def domain_of(source, form):
+def domain_of(source: 'Any', form: forms.Form) -> 'Dict[str, Any]':
     """The domain of a form's header, or why it isn't told; nothing where there is no header."""
     if not form.header:
         return {}
@@ -241,7 +247,7 @@ def domain_of(source, form):
         return {'unread': str(unread)}
 
 
-def without_judging(told):
+def without_judging(told: Info) -> Info:
     """What `check` doesn't judge isn't told here."""
     if told.found.result != verdict.NOT_JUDGED:
         return told
@@ -251,14 +257,14 @@ def without_judging(told):
 class Files:
     """What is told of each file, one after another."""
 
-    def __init__(self):
+    def __init__(self) -> None:
         self.memory, self.tool, self.check = Memory(1), program.find(), program.find(resolve.CHECK)
 
-    def told(self, name):
+    def told(self, name: str) -> Info:
         told = verdict.of_file(name, self.of_source)
         return without_judging(told if isinstance(told, Info) else Info.of(told))
 
-    def of_source(self, name, source):
+    def of_source(self, name: str, source: 'Any') -> 'Any':
         form = forms.form_of(source)
         early = verdict.without_program(name, form)
         if early:
@@ -275,8 +281,8 @@ class Files:
         return Info.of(found, size_of(source), stream=parts.stream_of(text, source, form.begins, ahead), **told)
 
 
-def info(words):
-    files, statuses, counts = Files(), set(), dict.fromkeys(COUNTED, 0)
+def info(words: 'Any') -> int:
+    files, statuses, counts = Files(), set(), dict.fromkeys(COUNTED, 0)  # type: Files, Set[int], Dict[str, int]
     if words.table:
         put_lines([ROW % HEADINGS], sys.stdout)
     for done, name in enumerate(LINE.begin('looking at', chosen(words))):
@@ -295,7 +301,7 @@ def info(words):
     return many.status_of(statuses)
 
 
-def offer(verbs):
+def offer(verbs: 'Any') -> None:
     words = verb(verbs, 'info', 'tell what is in each file: its form, its domain and its parts; it judges nothing', info,
                  INFO + '\n\n' + CHOICE, {errors.REFUSED: 'what stands in front of the refused part is told'})
     takes_files(words)

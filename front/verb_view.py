@@ -12,6 +12,12 @@ from front.sharing import Memory
 from front.text import put_lines, shown
 from front.words import INPUT, in_json, verb, writes_over
 
+TYPE_CHECKING = False                                # a checker of types takes it for true; typing itself is slow to load
+if TYPE_CHECKING:
+    from typing import Any, Dict, Iterator, List, Optional, Tuple
+
+    Records = List[Dict[str, Any]]                   # as `show` lists them
+
 VIEW = """\
 PAGE is one HTML file, which any browser opens without a network: what `mig info` tells, the records as a strip and as a table, the
 frame numbers as a map, and of a live save its rounds. It says of each page of the guest whether it is all zeros, and nothing else of
@@ -33,19 +39,19 @@ class Page(write.Output):
     """Where the page goes."""
 
     @staticmethod
-    def standard():
+    def standard() -> int:
         if sys.stdout.isatty():
             raise errors.Refused(errors.USAGE, 'a page is no text for a terminal: give it a name with -o')
         return 1
 
 
-def records_of(text):
+def records_of(text: bytes) -> 'Records':
     """The records that `show` lists."""
     _, listed = tree_of(text)
     return [json.loads(record[0].decode()) for record in RECORD.finditer(listed)] if listed else []
 
 
-def placed(records, begins, is_wrapped):
+def placed(records: 'Records', begins: int, is_wrapped: bool) -> int:
     """Gives each record its number in its layer, as a refusal names it, and its place in the file."""
     numbers = {'libxl': 0, 'libxc': 0}
     place = begins + (places.LIBXL_HEADER if is_wrapped else places.IMAGE_HEADERS)
@@ -58,7 +64,7 @@ def placed(records, begins, is_wrapped):
     return place
 
 
-def frames_of(records, read):
+def frames_of(records: 'Records', read: sent.Sent) -> Frames:
     """What was sent of each frame number in these records, each of which is told how many of its pages are zeros."""
     frames = Frames()
     for index, record in enumerate(records):
@@ -71,14 +77,14 @@ def frames_of(records, read):
     return frames
 
 
-def live(frames, length, of_pages):
+def live(frames: Frames, length: int, of_pages: int) -> 'Dict[str, Any]':
     """What the rounds came to; no rounds where the numbers were sent in no order."""
     pause = frames.at_the_pause()
     pause['bytes'] += length - of_pages
     return {'rounds': frames.rounds.told, 'times': frames.sent_times(), 'pause': pause}
 
 
-def map_of(frames, per):
+def map_of(frames: Frames, per: int) -> 'Dict[str, Any]':
     """The map of the frames."""
     return {'per': per, 'is_whole': frames.is_whole, 'counts': frames.counts(), 'spans': frames.spans(per)}
 
@@ -86,10 +92,11 @@ def map_of(frames, per):
 class View:
     """What the page of one save is drawn from: what `info` tells, what `check` says where it was asked, records and frames."""
 
-    def __init__(self, told, judged, records, frames, length):
+    def __init__(self, told: verb_info.Info, judged: 'Optional[verdict.Verdict]', records: 'Records', frames: 'Optional[Frames]',
+                 length: int) -> None:
         self.told, self.judged, self.records, self.frames, self.length = told, judged, records, frames, length
 
-    def facts(self, per=1):
+    def facts(self, per: int = 1) -> 'Dict[str, Any]':
         """It as one object, with so many frame numbers in a cell, or more."""
         of_pages = sum(places.HEAD + record['length'] for record in self.records if record['name'] == 'PAGE_DATA')
         found = {'schema': SCHEMA, 'info': self.told.facts(), 'verdict': self.judged and self.judged.facts(), 'length': self.length,
@@ -99,7 +106,7 @@ class View:
             found['live'] = live(self.frames, self.length, of_pages)
         return found
 
-    def lines(self):
+    def lines(self) -> 'Iterator[str]':
         """What stands at the top of the page: what `info` tells, without what is told elsewhere on it."""
         section = ''
         for line in self.told.lines():
@@ -110,9 +117,9 @@ class View:
             if value and name.strip() not in ('file', 'parts'):
                 yield line + ', says the configuration' * (section == 'configuration' and name.strip() == 'vCPUs')
 
-    def verdict(self):
+    def verdict(self) -> 'Tuple[str, bool]':
         """The verdict at its top, and whether it is one of a whole guest or stream."""
-        found = self.judged or self.told.found
+        found = self.judged or self.told.found  # type: Any
         if found.status:
             return '%s. %s' % (found.line, '%s%s; %s.' % (found.where(), found.means, found.do) if found.means else ''), False
         behind = ' %d bytes follow the end of the stream.' % found.follows if found.follows else ''
@@ -121,7 +128,7 @@ class View:
         return 'Each part of the stream is well formed.%s Whether the guest is whole mig check tells.' % behind, True
 
 
-def read(name, source):
+def read(name: str, source: 'Any') -> 'Tuple[verb_info.Info, Optional[View]]':
     """What is told of a source, and what its page is drawn from; nothing where it has none."""
     form = forms.form_of(source)
     if form.kind == forms.LEGACY:
@@ -129,7 +136,7 @@ def read(name, source):
     early = verdict.without_program(name, form)
     if early:
         return verb_info.without_judging(verb_info.Info.of(early)), None
-    told, ahead = verb_info.domain_of(source, form), source.at(form.begins, verb_info.AHEAD)
+    told, ahead = verb_info.domain_of(source, form), source.at(form.begins, verb_info.AHEAD)  # type: Any, bytes
     is_wrapped = ahead.startswith(forms.LIBXL_MAGIC)
     with Memory(1).taken(verb_info.MOST_TAKEN):
         said, text, read = sent.beside(program.find(), source, form.begins, is_wrapped, verb_info.MOST_TEXT)
@@ -147,7 +154,8 @@ def read(name, source):
     return told, drawn(told, judged, text, read, form.begins, is_wrapped)
 
 
-def drawn(told, judged, text, read, begins, is_wrapped):
+def drawn(told: verb_info.Info, judged: 'Optional[verdict.Verdict]', text: bytes, read: sent.Sent, begins: int,
+          is_wrapped: bool) -> 'Optional[View]':
     """What the page is drawn from, of a stream that was listed and read."""
     if not told.stream:
         return None
@@ -158,7 +166,7 @@ def drawn(told, judged, text, read, begins, is_wrapped):
     return View(told, judged, records, frames_of(records, read) if read.is_whole else None, length)
 
 
-def together(records, count):
+def together(records: 'Records', count: int) -> 'Iterator[Dict[str, Any]]':
     """The records, so many neighbours as one."""
     for at in range(0, len(records), count):
         some = records[at:at + count]
@@ -173,7 +181,7 @@ def together(records, count):
         yield one
 
 
-def page_of(view):
+def page_of(view: View) -> bytes:
     """The page, in which records and frames are taken together as far as its length asks for it."""
     per = count = 1
     said, is_whole = view.verdict()
@@ -188,12 +196,12 @@ def page_of(view):
         count *= 2 if len(drawn['records']) > FEW_RECORDS else 1
 
 
-def text_of(words, view):
+def text_of(words: 'Any', view: View) -> bytes:
     """What is written."""
     return json.dumps(view.facts()).encode() + b'\n' if words.json else page_of(view)
 
 
-def seen(words):
+def seen(words: 'Any') -> 'Any':
     """What is said of the save, of which PAGE has got its name where it has a page."""
     with sources.source_for(words.input) as source:
         output = Page(words.output, words.force)
@@ -207,16 +215,16 @@ def seen(words):
     return view.judged if view and view.judged else told
 
 
-def view(words):
+def view(words: 'Any') -> int:
     LINE.is_terminal = LINE.is_terminal and words.output != '-'
     said = seen(words)
     found = said.found if isinstance(said, verb_info.Info) else said
     if found.status or found.follows:
         put_lines(list(found.lines())[found.status == errors.OK:], sys.stderr)
-    return found.status
+    return int(found.status)
 
 
-def offer(verbs):
+def offer(verbs: 'Any') -> None:
     words = verb(verbs, 'view', 'write a page that shows the records, the frames and the rounds of a save', view, VIEW + '\n\n' + INPUT,
                  {errors.REFUSED: 'PAGE has what stands in front of the refused part'})
     words.add_argument('input', metavar='SAVE')
