@@ -6,10 +6,16 @@ from build import linking
 from build.proving import object_of
 from front import errors, resolve
 
+TYPE_CHECKING = False                                # a checker of types takes it for true; typing itself is slow to load
+if TYPE_CHECKING:
+    from typing import Dict, Tuple
+
+    from build.proving import Kit
+
 SAME, NOT_COMPARED, DIFFERS = range(3)               # the greatest of several says most
 
 
-def shipped_fault(sources):
+def shipped_fault(sources: str) -> str:
     """Why what is shipped isn't that of these sources; nothing where it is."""
     for name in resolve.NAMES:
         try:
@@ -24,7 +30,7 @@ def shipped_fault(sources):
     return ''
 
 
-def compare(objects, sources, kit):
+def compare(objects: 'Dict[str, str]', sources: str, kit: 'Kit') -> 'Tuple[int, str]':
     """How the shipped programs compare with object files, of each program by its name, that were made of these sources by this kit,
     and a line on it."""
     fault = shipped_fault(sources)
@@ -35,7 +41,7 @@ def compare(objects, sources, kit):
     return max(found, key=lambda it: it[0])
 
 
-def compare_one(name, made, told, kit):
+def compare_one(name: str, made: str, told: 'Dict[str, str]', kit: 'Kit') -> 'Tuple[int, str]':
     """The same of one program."""
     same = resolve.sum_of_file(made) == told[object_of(name)]
     if told['kit'] != kit.line:

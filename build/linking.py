@@ -7,11 +7,15 @@ import tempfile
 
 from build.proving import NotBuilt
 
+TYPE_CHECKING = False                                # a checker of types takes it for true
+if TYPE_CHECKING:
+    from build.proving import Kit
+
 LINKER = 'gcc'
 LIBRARIES = 'libos_c.a', 'liblibc_c.a'               # of the kit: what its std calls of the system
 
 
-def link(kit, name, made, to):
+def link(kit: 'Kit', name: str, made: str, to: str) -> None:
     """Links an object file to the program of this name. Names and folders of this machine go nowhere into it."""
     with tempfile.TemporaryDirectory(prefix='mig-link-') as room:
         shutil.copy(made, os.path.join(room, name + '.o'))
@@ -28,7 +32,7 @@ def link(kit, name, made, to):
     os.chmod(to, 0o755)
 
 
-def first_line(*words):
+def first_line(*words: str) -> str:
     try:
         said = subprocess.run(words, stdin=subprocess.DEVNULL, stdout=subprocess.PIPE, stderr=subprocess.DEVNULL, check=True)
     except (OSError, subprocess.CalledProcessError):
@@ -36,12 +40,12 @@ def first_line(*words):
     return said.stdout.decode().partition('\n')[0].strip()
 
 
-def linker():
+def linker() -> str:
     """What links here, with versions; nothing where it isn't installed."""
     return ', '.join(filter(None, (first_line(LINKER, '--version'), first_line('ld', '--version'))))
 
 
-def library():
+def library() -> str:
     """The C library that gets inside, with its version; nothing where it isn't installed."""
     try:
         with open(first_line(LINKER, '-print-file-name=libc.a'), 'rb') as archive:

@@ -17,6 +17,13 @@ from concurrent.futures import FIRST_COMPLETED, ThreadPoolExecutor, wait
 
 from front import program, resolve
 
+TYPE_CHECKING = False                                # a checker of types takes it for true; typing itself is slow to load
+if TYPE_CHECKING:
+    from typing import Callable, Dict, List, Optional, Sequence, Set, Tuple
+
+    from concurrent.futures import Future
+    Tell = Callable[[str], None]
+
 TOP = resolve.TOP
 ROOM = os.path.join(TOP, 'out', 'proof')
 RLIBS, COPIES = os.path.join(ROOM, 'rlibs'), os.path.join(ROOM, 'sources')
@@ -26,7 +33,7 @@ LITTLE_DISK = 64 << 20
 MOST_AT_ONCE = 4                                     # each takes up to 2.5 GB of memory
 
 
-def object_of(program):
+def object_of(program: str) -> str:
     """Where the object file of a program stands: beside it."""
     return program + '.o'
 
@@ -38,7 +45,7 @@ OBJECTS = {name: object_of(path) for name, path in PROGRAMS.items()}
 class NotBuilt(Exception):
     """What wasn't proved or built, in one line; and what was said of it."""
 
-    def __init__(self, line, said=''):
+    def __init__(self, line: str, said: str = '') -> None:
         super().__init__(line)
         self.said = said
 
@@ -46,7 +53,7 @@ class NotBuilt(Exception):
 class Kit:
     """The Rattle kit: its folder and its line."""
 
-    def __init__(self):
+    def __init__(self) -> None:
         if shutil.which('rt') is None:
             raise NotBuilt("the command rt of the Rattle kit, which proves and builds the program, isn't on this machine")
         self.line = self.answer('version')
@@ -54,11 +61,11 @@ class Kit:
         self.rattle = os.path.join(self.folder, 'bin', 'rattle')
 
     @staticmethod
-    def answer(word):
+    def answer(word: str) -> str:
         return output_of('rt', word).strip()
 
 
-def output_of(*words):
+def output_of(*words: str) -> str:
     try:
         return subprocess.run(words, stdin=subprocess.DEVNULL, stdout=subprocess.PIPE, check=True).stdout.decode()
     except (OSError, subprocess.CalledProcessError) as fault:
@@ -67,10 +74,11 @@ def output_of(*words):
 
 # ---- at work
 
-AT_WORK = set()                                      # each prover, with a process group of its own
+# Each prover, with a process group of its own.
+AT_WORK = set()  # type: Set[subprocess.Popen[bytes]]
 
 
-def stopped(number, _):
+def stopped(number: int, _: object) -> None:
     """A signal ends what is at work."""
     for other in program.SIGNALS:
         signal.signal(other, signal.SIG_IGN)
@@ -79,7 +87,7 @@ def stopped(number, _):
     os._exit(128 + number)                           # at once, though a thread waits for what was at work
 
 
-def call(what, folder, *words):
+def call(what: str, folder: str, *words: str) -> None:
     """Runs a command of the kit in a folder."""
     ended = subprocess.Popen(words, cwd=folder, stdin=subprocess.DEVNULL, stdout=subprocess.PIPE, stderr=subprocess.STDOUT,
                              start_new_session=True)
@@ -97,7 +105,7 @@ class Crates:
     """Copies of the crates that the programs stand on, so that no edit meanwhile changes what is proved; and what each is made
     from."""
 
-    def __init__(self, kit):
+    def __init__(self, kit: Kit) -> None:
         shutil.rmtree(COPIES, ignore_errors=True)
         for crate in resolve.Sources().needed:
             for part in resolve.PARTS:
@@ -105,17 +113,18 @@ class Crates:
                 if os.path.isdir(os.path.join(TOP, path)):
                     shutil.copytree(os.path.join(TOP, path), os.path.join(COPIES, path))
         shutil.copy(os.path.join(TOP, 'crates.txt'), COPIES)
-        self.kit, self.sources, self.marks = kit, resolve.Sources(COPIES), {}
+        self.kit, self.sources = kit, resolve.Sources(COPIES)
+        self.marks = {}  # type: Dict[str, str]
         for crate in self.sources.needed:
             below, files = self.sources.libraries(crate)[0], self.sources.files(crate)
             made_from = (kit.line, self.sources.lines[crate], [self.marks[it] for it in below],
                          [(path, resolve.sum_of_file(os.path.join(COPIES, path))) for path in files])
             self.marks[crate] = hashlib.sha256(repr(made_from).encode()).hexdigest()
 
-    def size(self, crate):
+    def size(self, crate: str) -> int:
         return sum(os.path.getsize(os.path.join(COPIES, path)) for path in self.sources.files(crate))
 
-    def words(self, crate, jobs, rooms=(RLIBS,)):
+    def words(self, crate: str, jobs: int, rooms: 'Sequence[str]' = (RLIBS,)) -> 'List[str]':
         """The words of `rattle build` for a crate whose libraries stand in these folders, but where what is made goes."""
         folder, (below, of_kit) = self.kit.folder, self.sources.libraries(crate)
         words = ['--crate-name', crate, 'src/main.rt' if crate in resolve.NAMES else 'src/lib.rt']
@@ -131,7 +140,7 @@ class Crates:
             return words + ['--toolchain', folder + '/toolchain', '--backend', 'llvm']
         return words + ['--statements']
 
-    def prove(self, crate, jobs):
+    def prove(self, crate: str, jobs: int) -> 'Optional[float]':
         """Proves and builds a crate whose lower ones are built; the seconds that it took, or None where nothing was left to do."""
         made = OBJECTS.get(crate, '%s/%s.rlib' % (RLIBS, crate))
         kept = os.path.join(ROOM, crate + '.mark')
@@ -144,13 +153,13 @@ class Crates:
         return time.monotonic() - began
 
 
-def library(name, rooms):
+def library(name: str, rooms: 'Sequence[str]') -> str:
     """The library of this name in the first of the folders that has it."""
     paths = ['%s/%s.rlib' % (room, name) for room in rooms]
     return next(filter(os.path.exists, paths), paths[0])
 
 
-def text_of(path):
+def text_of(path: str) -> str:
     try:
         with open(path, encoding='ascii') as file:
             return file.read()
@@ -160,22 +169,23 @@ def text_of(path):
 
 # ---- all
 
-def above(crates):
+def above(crates: Crates) -> 'Dict[str, int]':
     """How long the way from each crate up to a program is, in bytes of source."""
-    long = {}
+    long = {}  # type: Dict[str, int]
     for crate in reversed(crates.sources.needed):
         long[crate] = crates.size(crate) + max((long[it] for it in long if crate in crates.sources.below[it]), default=0)
     return long
 
 
-def prove_all(crates, cores, tell):
+def prove_all(crates: Crates, cores: int, tell: 'Tell') -> None:
     """Proves each crate when those below it are; the jobs of all that run are as many as the cores."""
-    left, done, running, long = list(crates.sources.needed), set(), {}, above(crates)
+    left, done, long = list(crates.sources.needed), set(), above(crates)  # type: List[str], Set[str], Dict[str, int]
+    running = {}  # type: Dict[Future[Optional[float]], Tuple[str, int]]
     all_of_them = len(left)
     with ThreadPoolExecutor(cores) as pool:
         while left or running:
             ready = [it for it in left if done.issuperset(crates.sources.libraries(it)[0])]
-            ready.sort(key=long.get, reverse=True)
+            ready.sort(key=long.get, reverse=True)  # type: ignore[arg-type]
             free = cores - sum(jobs for _, jobs in running.values())
             for crate in ready[:free]:
                 jobs = max(1, free // len(ready))
@@ -185,10 +195,11 @@ def prove_all(crates, cores, tell):
                 crate, _ = running.pop(ended)
                 done.add(crate)
                 if ended.result() is not None:
-                    tell('%s is proved, %.0f s; %d of %d left' % (crate, ended.result(), all_of_them - len(done), all_of_them))
+                    tell('%s is proved, %.0f s; %d of %d left' % (
+                        crate, ended.result(), all_of_them - len(done), all_of_them))  # type: ignore[str-format]
 
 
-def build(kit, anew, tell):
+def build(kit: Kit, anew: bool, tell: 'Tell') -> str:
     """Proves all that the programs stand on, and links them: PROGRAMS and OBJECTS are there then. Answers the checksum of what they
     were made from. With `anew` nothing is taken from earlier runs."""
     free = shutil.disk_usage(TOP).free
@@ -206,7 +217,7 @@ def build(kit, anew, tell):
     return crates.sources.checksum()
 
 
-def build_object(kit, name, rooms, made):
+def build_object(kit: Kit, name: str, rooms: 'Sequence[str]', made: str) -> None:
     """Proves the own crate of the program of this name alone, over libraries that stand proved in these folders, and makes its
     object file."""
     os.makedirs(ROOM, exist_ok=True)
