@@ -27,6 +27,7 @@ JSON, STREAM_V2 = 1 << 0, 1 << 1
 LIBVIRT_MAGIC = b'libvirt-xml\n \0 \r'
 LIBVIRT_NUMBERS = struct.Struct('<II40x')
 LIBVIRT_LENGTH = len(LIBVIRT_MAGIC) + LIBVIRT_NUMBERS.size
+LIBVIRT_LEGACY, LIBVIRT_V2 = 1, 2                    # versions, by the stream that follows
 
 
 class XlHeader(namedtuple('XlHeader', 'mandatory optional length')):
@@ -39,6 +40,11 @@ class XlHeader(namedtuple('XlHeader', 'mandatory optional length')):
     @property
     def is_legacy(self) -> bool:
         return not self.mandatory & STREAM_V2
+
+    def before_v2(self, configuration: bytes) -> bytes:
+        """The bytes of this header before a stream of version 2, with this configuration."""
+        numbers = XL_NUMBERS.pack(BYTE_ORDER, self.mandatory | STREAM_V2, self.optional, len(configuration))
+        return XL_MAGIC + numbers + configuration
 
 
 def refuse_if(test: 'Union[bool, int]', why: str) -> None:
@@ -61,12 +67,6 @@ def configuration_cut(there: int, length: int) -> errors.BadHeader:
     return errors.BadHeader("the domain's configuration is cut short: it has %d of %d bytes" % (there, length))
 
 
-def xl_header_before_v2(header: XlHeader, configuration: bytes) -> bytes:
-    """The bytes of xl's header before a stream of version 2, with this configuration."""
-    numbers = XL_NUMBERS.pack(BYTE_ORDER, header.mandatory | STREAM_V2, header.optional, len(configuration))
-    return XL_MAGIC + numbers + configuration
-
-
 class LibvirtHeader(namedtuple('LibvirtHeader', 'version length')):
     """What libvirt's header says, without the XML text."""
 
@@ -76,12 +76,16 @@ class LibvirtHeader(namedtuple('LibvirtHeader', 'version length')):
 
     @property
     def is_legacy(self) -> bool:
-        return bool(self.version == 1)
+        return bool(self.version == LIBVIRT_LEGACY)
+
+    def before_v2(self, configuration: bytes) -> bytes:
+        """The bytes of this header before a stream of version 2, with this XML text."""
+        return LIBVIRT_MAGIC + LIBVIRT_NUMBERS.pack(LIBVIRT_V2, len(configuration)) + configuration
 
 
 def libvirt_header(front: bytes) -> LibvirtHeader:
     """What the first bytes of a file say as libvirt's header."""
     refuse_if(len(front) < LIBVIRT_LENGTH, "libvirt's header is cut short: the input has %d bytes" % len(front))
     header = LibvirtHeader(*LIBVIRT_NUMBERS.unpack_from(front, len(LIBVIRT_MAGIC)))
-    refuse_if(header.version not in (1, 2), "libvirt's header has the version %d, which is unknown" % header.version)
+    refuse_if(header.version not in (LIBVIRT_LEGACY, LIBVIRT_V2), "libvirt's header has the version %d, which is unknown" % header.version)
     return header

@@ -17,8 +17,8 @@ IN is what `mig check` takes, standard input where it is left out; OUT is standa
 written beside its place and renamed when all is well. What is told stands on standard error where standard output has the
 stream.
 
-The stream goes on as it came, up to its END; what follows it is read and dropped. xl's header before it goes on with --xl
-alone, and a packed file goes on unpacked. A part is judged before it is written, or a piece of 4096 bytes at most while the
+The stream goes on as it came, up to its END; what follows it is read and dropped. The header before it goes on with --xl or
+--libvirt alone, and a packed file goes on unpacked. A part is judged before it is written, or a piece of 4096 bytes at most while the
 rest of a record is still to come. So a stream that is refused, or a read or write that failed, leaves a front of the stream,
 which `mig check` refuses. The guest isn't kept in memory. Put it between two hosts:
 
@@ -36,8 +36,8 @@ def passed_on(words: 'Any', path: str, source: 'Any', output: Output) -> verdict
     early = verdict.without_program(words.input, form)
     if early:
         return early
-    if words.xl:
-        configuration(source, form)
+    if words.toolstack:
+        configuration(source, form, words.toolstack)
         put(output.fd, source.at(0, form.begins))
     said = program.run(path, ['relay'], source, form.begins, output.fd)
     return verdict.of_answer(words.input, source, form, 'relay', said)
@@ -87,6 +87,6 @@ def offer(verbs: 'Any') -> None:
                  {errors.REFUSED: 'a part of the stream may have been written'})
     words.add_argument('input', metavar='IN', nargs='?', default='-')
     words.add_argument('output', metavar='OUT', nargs='?', default='-')
-    takes_header(words, "pass xl's header on in front")
+    takes_header(words, "pass %s's header on in front")
     writes_over(words)
     in_json(words)

@@ -7,5 +7,5 @@ if TYPE_CHECKING:
 
 
 def offer(verbs: 'Any') -> None:
-    words = write.offer(verbs, 'restore', 'write the image of a guest as it stands in a machine', with_xl=False)
+    words = write.offer(verbs, 'restore', 'write the image of a guest as it stands in a machine', with_toolstacks=False)
     words.add_argument('--base', metavar='N', help='the first machine frame, from 1 to 1099494850560 (1048576)')

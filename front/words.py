@@ -130,9 +130,12 @@ def writes_over(words: Words) -> None:
     words.add_argument('--force', action='store_true', help='write over OUT where it is there')
 
 
-def takes_header(words: Words, says: str) -> None:
-    """The word of a verb that passes xl's header on."""
-    words.add_argument('--xl', action='store_true', help=says)
+def takes_header(words: Words, says: str, then: str = '') -> None:
+    """The words of a verb that passes the header of a toolstack on; with a command of each, what that is good for."""
+    one_of = words.add_mutually_exclusive_group()
+    for toolstack, command in ('xl', 'xl restore'), ('libvirt', 'virsh restore'):
+        one_of.add_argument('--' + toolstack, dest='toolstack', action='store_const', const=toolstack,
+                            help=says % toolstack + (then % command if then else ''))
 
 
 def in_json(words: 'Any', says: str = 'print one JSON object') -> None:

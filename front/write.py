@@ -16,6 +16,7 @@ if TYPE_CHECKING:
 
 LIBXL_FRONT = bytes.fromhex('4c6962786c466d74 00000002 00000000 01000000 00000000')
 LIBXL_END = bytes(8)
+HEADERS = {'xl': headers.XlHeader, 'libvirt': headers.LibvirtHeader}  # by the toolstack that is named
 MODE = 0o600                                         # a guest's memory is its owner's alone, whoever may read the save
 UNSYNCED = errno.EINVAL, errno.ENOTSUP, errno.EACCES  # of a folder whose file system has no such call, or which can't be read
 
@@ -117,14 +118,14 @@ def put(fd: int, data: bytes) -> None:
         raise errors.Refused(errors.WRITE_FAULT, 'fault: write: ' + sources.why(fault)) from None
 
 
-def configuration(source: 'Any', form: forms.Form) -> bytes:
-    """The configuration that stands in xl's header."""
+def configuration(source: 'Any', form: forms.Form, toolstack: str) -> bytes:
+    """The configuration that stands in the header of this toolstack."""
     header = form.header
-    if not isinstance(header, headers.XlHeader):
-        raise errors.Refused(errors.USAGE, "--xl: there is no xl header to put back; IN is a %s" % form.words)
+    if not isinstance(header, HEADERS[toolstack]):
+        raise errors.Refused(errors.USAGE, '--%s: there is no %s header to put back; IN is a %s' % (toolstack, toolstack, form.words))
     if header.length > sources.MOST_KEPT:
-        raise errors.Refused(errors.USAGE, "--xl: the configuration in xl's header has more than 64 MiB")
-    data = source.at(headers.XL_LENGTH, header.length)  # type: bytes
+        raise errors.Refused(errors.USAGE, "--%s: the configuration in %s's header has more than 64 MiB" % (toolstack, toolstack))
+    data = source.at(header.stream_begins - header.length, header.length)  # type: bytes
     return data
 
 
@@ -134,8 +135,8 @@ def copy(pipe: int, out: int) -> None:
         put(out, block)
 
 
-def for_xl(pipe: int, out: int, front: bytes) -> None:
-    """Passes on what the program writes, with xl's header in front, and with a libxl stream around a bare image."""
+def with_header(pipe: int, out: int, front: bytes) -> None:
+    """Passes on what the program writes, with a header in front, and with a libxl stream around a bare image."""
     first = sources.read_upto(pipe, len(forms.LIBXL_MAGIC))
     if not first:
         return
@@ -147,11 +148,11 @@ def for_xl(pipe: int, out: int, front: bytes) -> None:
 
 def answer(words: 'Any', path: str, command: 'List[str]', source: 'Any', form: forms.Form, out: int) -> program.Answer:
     """What the program answers, while its output goes to a file descriptor."""
-    if not words.xl:
+    if not words.toolstack:
         return program.run(path, command, source, form.begins, out)
-    front = headers.xl_header_before_v2(form.header, configuration(source, form))
+    front = form.header.before_v2(configuration(source, form, words.toolstack))
     with program.Work(path, command, source, form.begins, program.PIPE) as work:
-        for_xl(work.out, out, front)
+        with_header(work.out, out, front)
     return work.said
 
 
@@ -166,8 +167,8 @@ def written(words: 'Any', path: str, name: str, source: 'Any', output: Output) -
     early = verdict.without_program(name, form)
     if early:
         return early
-    if words.xl:
-        configuration(source, form)
+    if words.toolstack:
+        configuration(source, form, words.toolstack)
     said = answer(words, path, command_of(words), source, form, output.fd)
     if said.status == errors.USAGE:
         raise errors.BadWords(errors.USAGE, '--base has to be from 1 to 1099494850560')
@@ -187,7 +188,7 @@ def result_of(words: 'Any', path: 'Optional[str]', name: str, source: 'Any', pla
 
 
 def write(words: 'Any') -> int:
-    words.xl = getattr(words, 'xl', False)
+    words.toolstack = getattr(words, 'toolstack', None)
     if words.directory is not None:
         from front.into import into
         return into(words)
@@ -205,7 +206,7 @@ def write(words: 'Any') -> int:
     return int(found.status)
 
 
-def offer(verbs: 'Any', name: str, says: str, with_xl: bool = True) -> 'Words':
+def offer(verbs: 'Any', name: str, says: str, with_toolstacks: bool = True) -> 'Words':
     """Offers one of the three verbs."""
     words = verb(verbs, name, says, write, '\n\n'.join((INPUT, OUT, INTO, CHOICE)))
     words.usage = 'mig %s [OPTION...] IN OUT\n       mig %s [OPTION...] -t DIR PATH...' % (name, name)
@@ -213,6 +214,6 @@ def offer(verbs: 'Any', name: str, says: str, with_xl: bool = True) -> 'Words':
     words.add_argument('-t', '--target-directory', dest='directory', metavar='DIR', help='write one result for each PATH in DIR')
     words.add_argument('--skip-existing', action='store_true', help='with -t: pass over what has its result in DIR')
     writes_over(words)
-    if with_xl:
-        takes_header(words, "put xl's header back in front, so that `xl restore` takes OUT")
+    if with_toolstacks:
+        takes_header(words, "put %s's header back in front", ', so that `%s` takes OUT')
     return words
