@@ -21,6 +21,7 @@ if TYPE_CHECKING:
 
 STREAM, LEGACY, IMAGE, BROKEN, NONE = 'stream', 'legacy', 'image', 'broken', 'none'
 LIBXL_MAGIC, LIBXC_MAGIC = b'LibxlFmt', b'\xff' * 8
+IMAGE_WORDS = 'guest image'
 IMAGE_MAGICS = b'XGIMAGE1', b'XGIMAGE2'               # of guest images of version 1 and 2
 LOOK = 512                                           # so many first bytes are looked at
 
@@ -131,7 +132,7 @@ def form_of(source: 'Source') -> Form:
             except errors.BadHeader as bad:
                 return found(BROKEN, words, why=str(bad))
     if any(starts_like(front, magic) for magic in IMAGE_MAGICS):
-        return found(IMAGE, 'guest image')
+        return found(IMAGE, IMAGE_WORDS)
     if is_like_legacy(front):
         return found(LEGACY, 'legacy stream')
     return bare_form(front, 0) or found(NONE, 'no save', why=looks_like(front))

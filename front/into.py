@@ -83,6 +83,11 @@ class Into:
         path = unpacked_name(below(name))
         return path, self.taken.setdefault(path, name)
 
+    def to(self, found: verdict.Verdict) -> 'Dict[str, str]':
+        """The place of a file's result, for JSON, where it is there now."""
+        is_there = found.result in (WRITTEN, PASSED_OVER)
+        return verdict.of_name(os.path.join(self.words.directory, self.place_of(found.name)[0]), 'to') if is_there else {}
+
     def made(self, name: str) -> verdict.Verdict:
         """The verdict of a file of which the result is written."""
         if name == '-':
@@ -135,10 +140,14 @@ def into(words: 'Any') -> int:
         raise errors.Refused(errors.USAGE, "--force and --skip-existing don't go together")
     counts, statuses = dict.fromkeys(COUNTED, 0), set()  # type: Dict[str, int], Set[int]
     names = list(files.chosen(words, status_of_folder(words.directory)))  # before any result stands among them
-    for found in many.verdicts(names, 1, Into(words).made, words.verb):
+    results = Into(words)
+    for found in many.verdicts(names, 1, results.made, words.verb):
         counts[found.result] += 1
         statuses.add(found.status)
-        if found.result != PASSED_OVER:
+        if words.json:
+            verdict.put_object(words.verb, found, results.to(found))
+        elif found.result != PASSED_OVER:
             verdict.tell_of(found)
-    put_lines([many.count_of(counts)], sys.stdout)
+    if not words.json:
+        put_lines([many.count_of(counts)], sys.stdout)
     return many.status_of(statuses)

@@ -391,15 +391,21 @@ def unread(name: str, why: object) -> errors.Refused:
 
 
 @contextlib.contextmanager
-def source_for(name: str) -> 'Iterator[Source]':
-    """The source of the one file of a verb, which ends where that can't be read."""
-    source = None  # type: Optional[Source]
+def one_source(name: str) -> 'Iterator[Source]':
+    """The source of the one file of a verb."""
+    source = source_of(name)
     try:
-        source = source_of(name)
         LINE.begin('reading', [name])
         yield source
+    finally:
+        source.close()
+
+
+@contextlib.contextmanager
+def source_for(name: str) -> 'Iterator[Source]':
+    """The same of a verb that ends where the file can't be read."""
+    try:
+        with one_source(name) as source:
+            yield source
     except errors.Unreadable as why:
         raise unread(name, why) from None
-    finally:
-        if source:
-            source.close()

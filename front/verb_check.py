@@ -51,13 +51,6 @@ def stamped(judged: 'Judge') -> 'Judge':
     return judge
 
 
-def put_object(words: 'Any', found: verdict.Verdict) -> None:
-    """Prints a verdict as an object."""
-    import json                                      # it takes a while to load
-    host = {'host': os.uname().nodename} if words.host else {}
-    put_lines([json.dumps({**found.facts(), **host})], sys.stdout)
-
-
 def refuse_words(words: 'Any') -> None:
     """Some words go with others alone."""
     if (words.host or words.skip_seen) and not words.json:
@@ -80,6 +73,7 @@ def unseen(words: 'Any', statuses: 'Set[int]') -> 'Iterator[str]':
 
 def check(words: 'Any') -> int:
     refuse_words(words)
+    host = {'host': os.uname().nodename} if words.host else {}
     counts, statuses, checks = dict.fromkeys(COUNTED, 0), set(), Checks(words)  # type: Dict[str, int], Set[int], Checks
     judge = stamped(checks.judged) if words.skip_seen else checks.judged
     for found in many.verdicts(unseen(words, statuses), words.jobs, judge):
@@ -88,7 +82,7 @@ def check(words: 'Any') -> int:
         if words.quiet and found.status == errors.OK:
             continue
         if words.json:
-            put_object(words, found)
+            verdict.put_facts({**found.facts(), **host})
         else:
             put_lines(found.lines(), sys.stdout)
     if not words.json:

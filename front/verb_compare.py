@@ -7,13 +7,14 @@ import sys
 from front import errors, forms, places, program, sources, verdict
 from front.progress import LINE
 from front.text import put_lines, shown, tell
-from front.words import INPUT, verb
+from front.words import INPUT, in_json, verb
 
 TYPE_CHECKING = False                                # a checker of types takes it for true; typing itself is slow to load
 if TYPE_CHECKING:
     from typing import Any, Dict, List, Optional, Sequence, Tuple
 
 PAGE_DATA = 1
+SAME_STATE, ANOTHER_STATE = 'same state', 'another state'  # results
 RECORDS = {0: 'END', PAGE_DATA: 'PAGE_DATA', 2: 'X86_PV_INFO', 3: 'X86_PV_P2M_FRAMES', 4: 'X86_PV_VCPU_BASIC',
            5: 'X86_PV_VCPU_EXTENDED', 6: 'X86_PV_VCPU_XSAVE', 7: 'SHARED_INFO', 8: 'X86_TSC_INFO', 9: 'HVM_CONTEXT',
            10: 'HVM_PARAMS', 12: 'X86_PV_VCPU_MSRS', 16: 'STATIC_DATA_END', 17: 'X86_CPUID_POLICY',
@@ -125,13 +126,31 @@ def walk(one: Side, two: Side) -> None:
         records(one, two, RECORDS, 'image')
 
 
-def tell_ends(sides: 'Sequence[Side]', by_themselves: 'Sequence[Side]' = ()) -> int:
+def tell_refused(refused: verdict.Verdict, in_json: bool) -> None:
+    """Says of a save why it wasn't compared."""
+    if in_json:
+        verdict.put_object('compare', refused)
+    else:
+        put_lines(refused.lines(), sys.stderr)
+
+
+def tell_ends(sides: 'Sequence[Side]', in_json: bool, by_themselves: 'Sequence[Side]' = ()) -> int:
     """Ends all sides, and says what the program said of one that wasn't accepted. Answers the greatest status."""
     found = [side.end(side in by_themselves) for side in sides]
     refused = [one for one in found if one and one.status != errors.OK]
     for one in refused:
-        put_lines(one.lines(), sys.stderr)
+        tell_refused(one, in_json)
     return max((one.status for one in refused), default=errors.OK)
+
+
+def tell_result(words: 'Any', result: str, status: int, line: str) -> int:
+    """Says what two saves came to, and answers the status."""
+    if words.json:
+        found = verdict.Verdict.of(words.one, result, status, line)
+        verdict.put_object('compare', found, verdict.of_name(words.two, 'with'))
+    else:
+        put_lines([line], sys.stdout)
+    return status
 
 
 def not_compared(status: int) -> int:
@@ -152,23 +171,20 @@ def compare(words: 'Any') -> int:
         for name in words.one, words.two:
             sides.append(Side(name, path))
     except errors.Unreadable as unreadable:
-        tell_ends(sides)
-        put_lines(['%s: fault: read: %s' % (shown(name), unreadable)], sys.stderr)
+        tell_ends(sides, words.json)
+        tell_refused(verdict.fault(name, str(unreadable)), words.json)
         return errors.READ_FAULT
     if any(side.work is None for side in sides):
-        return not_compared(tell_ends(sides))
+        return not_compared(tell_ends(sides, words.json))
     try:
         walk(*sides)
     except errors.Difference as difference:
-        tell_ends(sides)
-        put_lines(['another guest state: %s' % difference], sys.stdout)
-        return errors.REFUSED
+        tell_ends(sides, words.json)
+        return tell_result(words, ANOTHER_STATE, errors.REFUSED, 'another guest state: %s' % difference)
     except errors.Ended as ended:
-        return not_compared(tell_ends(sides, ended.args))
-    status = tell_ends(sides, sides)
-    if status == errors.OK:
-        put_lines(['the same guest state'], sys.stdout)
-    return status
+        return not_compared(tell_ends(sides, words.json, ended.args))
+    status = tell_ends(sides, words.json, sides)
+    return status or tell_result(words, SAME_STATE, errors.OK, 'the same guest state')
 
 
 def offer(verbs: 'Any') -> None:
@@ -177,3 +193,4 @@ def offer(verbs: 'Any') -> None:
                   errors.NOT_COMPARED: 'a file was refused, so nothing was compared'})
     words.add_argument('one', metavar='A')
     words.add_argument('two', metavar='B')
+    in_json(words, 'print one JSON object, or one for each save that was refused')

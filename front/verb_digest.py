@@ -5,11 +5,11 @@ import os
 import re
 import sys
 
-from front import errors, files, forms, many, program, sources, verdict
+from front import errors, files, forms, many, program, sources, text, verdict
 from front.sharing import Memory
-from front.text import put_lines, shown, tell
+from front.text import put_lines, shown
 from front.write import put
-from front.words import CHOICE, at_once, takes_files, verb
+from front.words import CHOICE, at_once, in_json, takes_files, verb
 
 TYPE_CHECKING = False                                # a checker of types takes it for true; typing itself is slow to load
 if TYPE_CHECKING:
@@ -23,6 +23,7 @@ whether they are packed or not. What has no digest is told on standard error.
 With --check each PATH is a list of such lines, or `-`: for each line the digest is made again, and OK or FAILED is printed. A line
 that is none, and an empty list, are told and make the status 1."""
 LINE = re.compile(rb'(\\?)([0-9a-f]{64}) [ *](.+)', re.S)
+ANOTHER_DIGEST = 'another digest'                    # the result of a file that isn't what a list says
 ESCAPED = {b'\\': b'\\\\', b'\n': b'\\n', b'\r': b'\\r'}  # as sha256sum does, with a backslash in front of the line
 UNESCAPED = {escaped: letter for letter, escaped in ESCAPED.items()}
 
@@ -68,11 +69,19 @@ def written(words: 'Any') -> int:
     """Writes the digest of each file; the status."""
     names, statuses = files.chosen(words), set()  # type: Iterator[str], Set[int]
     for found in many.verdicts(names, words.jobs, judge_of(program.find(), words.jobs), 'reading'):
-        if found.digest:
-            put(1, line_of(found))
-        verdict.tell_of(found)
+        tell(words, found)
         statuses.add(found.status)
     return many.status_of(statuses)
+
+
+def tell(words: 'Any', found: verdict.Verdict) -> None:
+    """Prints the digest of a file, and tells why it has none."""
+    if words.json:
+        verdict.put_object(words.verb, found)
+        return
+    if found.digest:
+        put(1, line_of(found))
+    verdict.tell_of(found)
 
 
 def compared(words: 'Any', name: str, path: str) -> int:
@@ -80,23 +89,34 @@ def compared(words: 'Any', name: str, path: str) -> int:
     try:
         lines = [listed(line) for line in files.text_of(name).splitlines()]
     except errors.Unreadable as why:
-        tell('%s: fault: read: %s' % (shown(name), why))
+        text.tell('%s: fault: read: %s' % (shown(name), why))
         return errors.READ_FAULT
     wanted = [line for line in lines if line]
     statuses = {errors.REFUSED} if len(wanted) < len(lines) or not lines else set()
     for number, line in enumerate(lines, 1):
         if not line:
-            tell('%s: line %d is no digest and name' % (shown(name), number))
+            text.tell('%s: line %d is no digest and name' % (shown(name), number))
     if not lines:
-        tell('%s: it has no line' % shown(name))
+        text.tell('%s: it has no line' % shown(name))
     names = (sources.Found(file) for file, _ in wanted)
     for found, (_, digest) in zip(many.verdicts(names, words.jobs, judge_of(path, words.jobs)), wanted):
-        good = found.digest == digest
-        if not good or not words.quiet:
-            put_lines(['%s: %s' % (shown(found.name), 'OK' if good else 'FAILED')], sys.stdout)
-        verdict.tell_of(found)
-        statuses.add(found.status or errors.REFUSED * (not good))
+        tell_compared(words, found, digest)
+        statuses.add(found.status or errors.REFUSED * (found.digest != digest))
     return many.status_of(statuses)
+
+
+def tell_compared(words: 'Any', found: verdict.Verdict, digest: str) -> None:
+    """Says of a file whether its digest is the one that stands in the list."""
+    good = found.digest == digest
+    if good and words.quiet:
+        return
+    if words.json:
+        if found.status == errors.OK and not good:
+            found = found._replace(result=ANOTHER_DIGEST, status=errors.REFUSED)
+        verdict.put_object(words.verb, found, {'listed': digest})
+        return
+    put_lines(['%s: %s' % (shown(found.name), 'OK' if good else 'FAILED')], sys.stdout)
+    verdict.tell_of(found)
 
 
 def digest(words: 'Any') -> int:
@@ -115,5 +135,6 @@ def offer(verbs: 'Any') -> None:
     words = verb(verbs, 'digest', "print the digest of each guest's canonical stream, or check a list of them", digest, DIGEST + '\n\n' + CHOICE)
     takes_files(words)
     at_once(words)
+    in_json(words, 'print one JSON object for each file')
     words.add_argument('--check', action='store_true', help='each PATH is a list of digests: say of each digest whether it is that of its file')
     words.add_argument('-q', dest='quiet', action='store_true', help='with --check: print nothing of what is well')

@@ -47,8 +47,7 @@ def show(words: 'Any', found: verdict.Verdict) -> None:
     """Prints a verdict: on standard output, or on standard error where that has the stream, and of a refusal."""
     to = sys.stderr if words.output == '-' or found.status and not words.json else sys.stdout
     if words.json:
-        import json
-        put_lines([json.dumps(found.facts())], to)
+        verdict.put_facts(found.facts(), to)
         return
     is_cut = words.output == '-' and found.status and found.begins is not None
     put_lines([*found.lines(), *['    what was written to standard output may be cut; throw it away'] * bool(is_cut)], to)

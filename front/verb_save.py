@@ -171,8 +171,7 @@ def show(words: 'Any', found: verdict.Verdict) -> None:
     """Prints a verdict: on standard output, or on standard error where that has the stream, and of a refusal."""
     to = sys.stderr if words.output == '-' or found.status and not words.json else sys.stdout
     if words.json:
-        import json
-        put_lines([json.dumps({**found.facts(), 'image': words.image, 'script': words.script})], to)
+        verdict.put_facts({**found.facts(), 'image': words.image, 'script': words.script}, to)
         return
     is_none = words.output == '-' and found.line.startswith('refused: Pause')
     put_lines([*found.lines(), *['    what was written to standard output is no stream; throw it away'] * is_none], to)

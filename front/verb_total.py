@@ -5,11 +5,11 @@ import sys
 from front import errors, files, many, sources, verdict
 from front.seen import host_of, name_of, objects
 from front.text import put_lines, shown, tell
-from front.words import verb
+from front.words import in_json, verb
 
 TYPE_CHECKING = False                                # a checker of types takes it for true; typing itself is slow to load
 if TYPE_CHECKING:
-    from typing import Any, Dict, Iterable, Iterator, Sequence, Tuple
+    from typing import Any, Dict, Iterable, Iterator, List, Sequence, Tuple
 
     Latest = Dict[Tuple[str, str], Dict[str, Any]]   # by host and name
 
@@ -74,21 +74,36 @@ def put_left(words: 'Any', found: 'Latest', names: 'Iterable[str]') -> int:
 def total(words: 'Any') -> int:
     if words.left and not words.of or words.ends_with_nul and not words.of:
         raise errors.Refused(errors.USAGE, '--left and -0 go with --of')
+    if words.left and words.json:
+        raise errors.Refused(errors.USAGE, "--left and --json don't go together")
     found, whole = latest(words.files or ['-'])
     names = wanted(words)
     if words.left:
         return put_left(words, found, names)
     told = {name for _, name in found}
+    missing = [name for name in names if name not in told]
     counts = dict.fromkeys(COUNTED, 0)
     for facts in found.values():
         counts[facts['result']] = counts.get(facts['result'], 0) + 1
-        put_lines(lines_of(facts) if facts['status'] else (), sys.stdout)
-    missing = [name for name in names if name not in told]
-    put_lines(('%s: no line tells of it' % shown(name) for name in missing), sys.stdout)
     counts[MISSING] = len(missing)
-    put_lines([many.count_of(counts)], sys.stdout)
     incomplete = bool(missing) or not whole and not names
-    return many.status_of([*(facts['status'] for facts in found.values()), errors.READ_FAULT * incomplete])
+    status = many.status_of([*(facts['status'] for facts in found.values()), errors.READ_FAULT * incomplete])
+    if words.json:
+        put_object(counts, [facts for facts in found.values() if facts['status']], missing, status)
+        return status
+    for facts in found.values():
+        put_lines(lines_of(facts) if facts['status'] else (), sys.stdout)
+    put_lines(('%s: no line tells of it' % shown(name) for name in missing), sys.stdout)
+    put_lines([many.count_of(counts)], sys.stdout)
+    return status
+
+
+def put_object(counts: 'Dict[str, int]', bad: 'List[Dict[str, Any]]', missing: 'List[str]', status: int) -> None:
+    """Prints all as one object: how many files have each result, the objects of those that weren't accepted, and those of which no line
+    tells."""
+    verdict.put_facts({'schema': verdict.SCHEMA, 'verb': 'total', 'status': status, 'files': sum(counts.values()),
+                       'counts': {result: count for result, count in counts.items() if count},
+                       'bad': bad, 'missing': [verdict.of_name(name) for name in missing]})
 
 
 def offer(verbs: 'Any') -> None:
@@ -97,4 +112,5 @@ def offer(verbs: 'Any') -> None:
     words.add_argument('files', metavar='FILE', nargs='*')
     words.add_argument('--of', metavar='LIST', action='append', help='look for each file that LIST, or -, names')
     words.add_argument('-0', dest='ends_with_nul', action='store_true', help='with --of: each path ends with NUL, and with --left too')
+    in_json(words, 'print one JSON object; not with --left')
     words.add_argument('--left', action='store_true', help='with --of: print the files alone that are still to be judged')

@@ -10,7 +10,7 @@ from front.text import put_lines, shown
 
 TYPE_CHECKING = False                                # a checker of types takes it for true; typing itself is slow to load
 if TYPE_CHECKING:
-    from typing import Any, Callable, Dict, Iterator, Optional, Type
+    from typing import Any, Callable, Dict, Iterator, Optional, TextIO, Type
 
     Judge = Callable[[str, Any], 'Verdict']          # of a file's name and its source
 
@@ -87,7 +87,7 @@ class Verdict(Fields):
     def facts(self) -> 'Dict[str, Any]':
         """It as one object, for JSON: what isn't there is left out."""
         found = {'schema': SCHEMA, **of_name(self.name), 'result': self.result, 'status': self.status}  # type: Dict[str, Any]
-        names = 'form', 'begins', 'line', 'offset', 'packed', 'means', 'do', 'follows', 'text', 'size'
+        names = 'form', 'begins', 'line', 'offset', 'packed', 'means', 'do', 'follows', 'text', 'size', 'digest'
         found.update((name, getattr(self, name)) for name in names if getattr(self, name) is not None)
         found.update(self.stamp or {})
         refusal = REFUSAL.match(self.line)
@@ -110,19 +110,42 @@ class Verdict(Fields):
         return found
 
 
-def of_name(name: str) -> 'Dict[str, str]':
+def of_name(name: str, field: str = 'file') -> 'Dict[str, str]':
     """A file's name for JSON, with its bytes where they aren't UTF-8: other programs lose what stands for these."""
     try:
         name.encode()
     except UnicodeEncodeError:
-        return {'file': name, 'file_bytes': base64.b64encode(os.fsencode(name)).decode()}
-    return {'file': name}
+        return {field: name, field + '_bytes': base64.b64encode(os.fsencode(name)).decode()}
+    return {field: name}
+
+
+def put_facts(facts: 'Dict[str, Any]', to: 'Optional[TextIO]' = None) -> None:
+    """Prints facts as a JSON object in a line."""
+    import json                                      # it takes a while to load
+    put_lines([json.dumps(facts)], to or sys.stdout)
+
+
+def put_object(verb: str, found: 'Verdict', more: 'Optional[Dict[str, Any]]' = None, to: 'Optional[TextIO]' = None) -> None:
+    """Prints what a verb says of a file as a JSON object."""
+    put_facts({**found.facts(), 'verb': verb, **(more or {})}, to)
 
 
 def tell_of(found: Verdict) -> None:
     """Tells of what has no result, or more behind it."""
     lines = list(found.lines())
     put_lines(lines if found.status else ['%s: %s' % (shown(found.name), line.strip()) for line in lines[1:]], sys.stderr)
+
+
+def of_one(name: str, judge: 'Callable[[Any], Verdict]', in_json: bool) -> Verdict:
+    """The verdict of the one file of a verb, as a function answers it of its source. Where it can't be read the verb ends, or answers
+    that in an object."""
+    try:
+        with sources.one_source(name) as source:
+            return judge(source)
+    except errors.Unreadable as why:
+        if not in_json:
+            raise sources.unread(name, why) from None
+        return fault(name, str(why))
 
 
 SPECIAL = 'not judged: a pipe, a socket or a device is read only where it is given by its name'

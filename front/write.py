@@ -6,7 +6,7 @@ import sys
 
 from front import errors, files, forms, headers, program, sources, text, verdict
 from front.text import put_lines, shown, tell
-from front.words import CHOICE, INPUT, INTO, OUT, takes_files, takes_header, verb, writes_over
+from front.words import CHOICE, INPUT, INTO, OUT, in_json, takes_files, takes_header, verb, writes_over
 
 TYPE_CHECKING = False                                # a checker of types takes it for true; typing itself is slow to load
 if TYPE_CHECKING:
@@ -198,9 +198,11 @@ def write(words: 'Any') -> int:
     if len(words.paths) != 2:
         words.usage_fault('IN and OUT are wanted, or -t DIR and PATHs')
     name, output = words.paths
-    with sources.source_for(name) as source:
-        found = result_of(words, None, name, source, output)
-    if found.status or found.follows:
+    found = verdict.of_one(name, lambda source: result_of(words, None, name, source, output), words.json)
+    if words.json:
+        to = {} if found.status or output == '-' else verdict.of_name(output, 'to')
+        verdict.put_object(words.verb, found, to, sys.stderr if output == '-' else sys.stdout)
+    elif found.status or found.follows:
         lines = list(found.lines())
         put_lines(lines[bool(found.status == errors.OK):], sys.stderr)
     return int(found.status)
@@ -214,6 +216,7 @@ def offer(verbs: 'Any', name: str, says: str, with_toolstacks: bool = True) -> '
     words.add_argument('-t', '--target-directory', dest='directory', metavar='DIR', help='write one result for each PATH in DIR')
     words.add_argument('--skip-existing', action='store_true', help='with -t: pass over what has its result in DIR')
     writes_over(words)
+    in_json(words, 'print one JSON object, or with -t one for each file and no count')
     if with_toolstacks:
         takes_header(words, "put %s's header back in front", ', so that `%s` takes OUT')
     return words
