@@ -6,7 +6,7 @@ import sys
 
 from front import errors, forms, places, program, sources, verdict
 from front.progress import LINE
-from front.text import put_lines, shown, tell
+from front.text import put_lines, tell
 from front.words import INPUT, in_json, verb
 
 TYPE_CHECKING = False                                # a checker of types takes it for true; typing itself is slow to load
