@@ -81,6 +81,7 @@ def ended(arguments: 'List[str]') -> int:
         words = parsed(arguments)
         program.catch_signals(program.RUNNING.stop)
         program.RUNNING.memory = words.memory or program.RUNNING.memory
+        program.RUNNING.run_as(words.user)
         status = words.run(words)  # type: int
         return status
     except (errors.Untold, BrokenPipeError):

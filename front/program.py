@@ -5,14 +5,14 @@ import subprocess
 import threading
 from collections import namedtuple
 
-from front import errors, resolve
+from front import errors, privileges, resolve
 from front.guarding import guard, memory_to_take
 from front.progress import LINE
 from front.text import shown
 
 TYPE_CHECKING = False                                # a checker of types takes it for true; typing itself is slow to load
 if TYPE_CHECKING:
-    from typing import Any, Callable, Dict, List, Optional, Protocol, Sequence, Set, Tuple
+    from typing import Any, Callable, List, Mapping, Optional, Protocol, Sequence, Set, Tuple
 
     class Input(Protocol):
         """What a program's standard input is made from: front/sources.py has several."""
@@ -38,13 +38,13 @@ def catch_signals(handler: 'Callable[[int, Any], None]') -> None:
             signal.signal(number, handler)
 
 
-def surroundings(words: 'List[str]') -> 'Optional[Dict[str, str]]':
+def surroundings(words: 'List[str]', given: 'Mapping[str, str]') -> 'Mapping[str, str]':
     """A program's environment for these words. Its pages come in two thirds of the time where the C library asks for huge ones, which it
     does where GLIBC_TUNABLES says so; what is said there of huge pages already stays."""
-    told = os.environ.get('GLIBC_TUNABLES', '')
+    told = given.get('GLIBC_TUNABLES', '')
     if words in KEEPS_NO_PAGES or HUGE_PAGES in told:
-        return None
-    return {**os.environ, 'GLIBC_TUNABLES': ':'.join(filter(None, (told, HUGE_PAGES + '=1')))}
+        return given
+    return {**given, 'GLIBC_TUNABLES': ':'.join(filter(None, (told, HUGE_PAGES + '=1')))}
 
 
 class Running:
@@ -54,6 +54,14 @@ class Running:
         self.processes = set()  # type: Set[subprocess.Popen[bytes]]
         self.stopped = None  # type: Optional[BaseException]
         self.memory, self.of_thread = memory_to_take(), threading.local()  # all of it, and what a thread's program may take of it
+        self.user = None  # type: Optional[str]    # the name of the user as whom programs run, where one was named
+        self.starters, self.lock = None, threading.Lock()  # type: Optional[privileges.Lowered], threading.Lock
+
+    def run_as(self, name: 'Optional[str]') -> None:
+        """What is started runs as the user of this name, where one is named."""
+        if name is not None:
+            privileges.user_of(name)                 # that it can't be is told before anything is read
+        self.user = name
 
     def most(self) -> int:
         """How much memory the next program may take."""
@@ -63,7 +71,13 @@ class Running:
         """Ends all programs; none is started any more."""
         self.stopped = stopped
         for process in list(self.processes):
+            self.kill(process)
+
+    def kill(self, process: 'subprocess.Popen[bytes]') -> None:
+        try:
             process.kill()
+        except PermissionError:                      # root may lack the capability to end others' processes
+            self.starters.call(lambda _: process.kill())  # type: ignore[union-attr]
 
     def stop(self, number: int, _: object) -> None:
         for other in SIGNALS:                        # what was begun is taken away meanwhile
@@ -72,20 +86,34 @@ class Running:
         self.end(why)
         raise why
 
-    def start(self, path: str, words: 'Sequence[str]', most: 'Optional[int]' = None, restore_signals: bool = False,
-              **streams: 'Any') -> 'subprocess.Popen[bytes]':
+    def lowered(self) -> privileges.Lowered:
+        """What starts all programs."""
+        with self.lock:
+            if not self.starters:
+                self.starters = privileges.Lowered(privileges.user_of(self.user))
+        return self.starters
+
+    def start(self, name: str, words: 'Sequence[str]', most: 'Optional[int]' = None, reopens: bool = False,
+              **more: 'Any') -> 'subprocess.Popen[bytes]':
         """Starts a program, ours or an unpacker, which may take so much memory, or what this thread's may. It gets its name as it is
         shown, since it answers no words behind a path that isn't UTF-8. Its standard error is a pipe. An OSError says that it didn't
         start. Where signals aren't restored a limit of file sizes is a write fault, too."""
         if self.stopped:
             raise self.stopped
-        process = subprocess.Popen([shown(os.path.basename(path)), *words], executable=path, stderr=PIPE,
-                                   restore_signals=restore_signals, **streams)
-        guard(process, self.most() if most is None else most)
-        self.processes.add(process)
-        if self.stopped:                             # meanwhile, in another thread
-            process.kill()
-        return process
+        lowered, limit = self.lowered(), self.most() if most is None else most
+        path, files = lowered.runnable(name)
+
+        def started(starter: privileges.Starter) -> 'subprocess.Popen[bytes]':
+            starter.give(reopens and starter.is_closed(more['stdin']))
+            process = subprocess.Popen([shown(os.path.basename(name)), *words], executable=path, stderr=PIPE, pass_fds=files,
+                                       start_new_session=bool(lowered.user), **more)  # no terminal of root's, in which it could type
+            guard(process, limit)
+            self.processes.add(process)
+            if self.stopped:                         # meanwhile, in another thread
+                process.kill()
+            return process
+
+        return lowered.call(started)  # type: ignore[no-any-return]
 
     def said_by(self, process: 'subprocess.Popen[bytes]') -> 'Tuple[int, str]':
         """What a program that was started wrote on standard error up to its end, and its status."""
@@ -167,7 +195,8 @@ class Work:
             LINE.sources.add(source)
         try:
             fed_by = subprocess.DEVNULL if source is None else source.input_from(begins)
-            self.process = RUNNING.start(path, words, stdin=fed_by, stdout=out, env=surroundings(words))
+            self.process = RUNNING.start(path, words, stdin=fed_by, stdout=out, restore_signals=False, reopens=bool(source),
+                                         env=surroundings(words, privileges.environment()))
         except OSError as fault:
             raise errors.NoProgram('%s does not start: %s' % (shown(path), fault.strerror)) from None
 
@@ -177,7 +206,7 @@ class Work:
         return self.process.stdout.fileno()  # type: ignore[union-attr]
 
     def kill(self) -> None:
-        self.process.kill()
+        RUNNING.kill(self.process)
 
     def __enter__(self) -> 'Work':
         return self

@@ -6,7 +6,7 @@ import signal
 import stat
 import threading
 
-from front import errors, forms, program
+from front import errors, forms, privileges, program
 from front.progress import LINE
 from front.text import shown
 
@@ -22,7 +22,6 @@ WRITTEN_TO = 'it was written to while it was read'
 TOUCHED = ('its inode was changed while it was read (a link, its name, owner or mode; or it was written to, and its time of modification '
            'set back); read it again')
 MOST_BEHIND = 1 << 30                                # so much of what follows a stream is read, which needn't ever end
-TOLD_UNPACKERS = 'GZIP', 'XZ_', 'ZSTD_'              # names of variables by which an unpacker may be told to do other things
 
 
 class Found(str):
@@ -206,10 +205,9 @@ class Packed(Regular):
 
     def unpack(self) -> 'Any':
         go_to(self.fd, self.base)
-        told = {name: value for name, value in os.environ.items() if not name.startswith(TOLD_UNPACKERS)}
         try:
             return program.RUNNING.start(self.packed, ['-dc', *self.MORE.get(self.packed, ())], program.RUNNING.memory, stdin=self.fd,
-                                         restore_signals=True, stdout=program.PIPE, env={**told, 'LC_ALL': 'C'})
+                                         stdout=program.PIPE, env=privileges.environment())
         except FileNotFoundError:
             raise errors.Unreadable('it is packed, and the program %s is not installed' % self.packed) from None
         except OSError as fault:
@@ -269,7 +267,7 @@ class Packed(Regular):
 
     def kill(self) -> None:
         if self.running:
-            self.running.kill()
+            program.RUNNING.kill(self.running)
             self.stop()
 
     def close(self) -> None:

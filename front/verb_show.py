@@ -42,10 +42,10 @@ def behind_name(pipe: 'IO[bytes]', name: str) -> None:
 
 def answer(words: 'Any', path: str, name: str, source: 'Any', begins: int) -> program.Answer:
     """What the program answers, while its text goes to standard output."""
-    if not words.names:
+    if not words.names and not sys.stdout.isatty():  # which nothing that is started gets
         return program.run(path, ['show'], source, begins, 1)
     with program.Work(path, ['show'], source, begins, program.PIPE) as work:
-        behind_name(work.process.stdout, name)  # type: ignore[arg-type]
+        behind_name(work.process.stdout, name) if words.names else write.copy(work.out, 1)  # type: ignore[arg-type]
     return work.said
 
 

@@ -108,7 +108,7 @@ def put_object(counts: 'Dict[str, int]', bad: 'List[Dict[str, Any]]', missing: '
 
 def offer(verbs: 'Any') -> None:
     words = verb(verbs, 'total', 'count what `mig check --json` told on many hosts, and list what was not accepted', total, TOTAL,
-                 {errors.READ_FAULT: 'a line is missing, or is not whole'})
+                 {errors.READ_FAULT: 'a line is missing, or is not whole'}, runs=False)
     words.add_argument('files', metavar='FILE', nargs='*')
     words.add_argument('--of', metavar='LIST', action='append', help='look for each file that LIST, or -, names')
     words.add_argument('-0', dest='ends_with_nul', action='store_true', help='with --of: each path ends with NUL, and with --left too')

@@ -99,14 +99,17 @@ class Words(argparse.ArgumentParser):
 
 
 def verb(verbs: 'Any', name: str, says: str, run: 'Callable[[Any], int]', more: str = '',
-         statuses: 'Union[Mapping[Any, str], Tuple[()]]' = ()) -> Words:
-    """Offers a verb, which a function does, with what its help says besides, and what its statuses mean besides."""
+         statuses: 'Union[Mapping[Any, str], Tuple[()]]' = (), runs: bool = True) -> Words:
+    """Offers a verb, which a function does, with what its help says besides, and what its statuses mean besides; most run programs."""
     words = verbs.add_parser(name, help=says, description='%s%s.' % (says[0].upper(), says[1:]),
                              epilog='\n\n'.join(filter(None, (more, statuses_of(statuses)))),
                              formatter_class=argparse.RawDescriptionHelpFormatter)  # type: Words
     words.add_argument('--memory', metavar='SIZE', type=size,
                        help='the most memory that the programs which hold guests may take, all together (80 %% of what is available)')
-    words.set_defaults(run=run)
+    words.set_defaults(run=run, user=None)
+    if runs:
+        words.add_argument('--user', metavar='NAME',
+                           help='where root runs mig: have unpackers and the proved programs run as this user (nobody); root is as before')
     return words
 
 

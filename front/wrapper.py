@@ -56,7 +56,7 @@ class Wrapper:
             path = program.resolved(self.name).path
             for number in signal.SIGPIPE, signal.SIGXFSZ:
                 signal.signal(number, signal.SIG_DFL)    # python3 ignores these
-            os.execve(path, [self.name] + words, program.surroundings(words) or os.environ)
+            os.execve(path, [self.name] + words, program.surroundings(words, os.environ))
         except errors.NoProgram as none:
             if str(none):
                 self.tell(str(none))

@@ -23,6 +23,7 @@ complete -c mig -l help -s h -d 'print how it is used'
 complete -c mig -n "__fish_seen_subcommand_from help; and not __fish_seen_subcommand_from $verbs" -f -a "$verbs"
 
 complete -c mig -n '__fish_seen_subcommand_from check compare convert digest exercise info normalise relay restore save show total view walk' -l memory -x -d 'the most memory that the programs which hold guests may take, all together (80 % of what is available)'
+complete -c mig -n '__fish_seen_subcommand_from check compare convert digest exercise info normalise relay restore save show view walk' -l user -x -d 'where root runs mig: have unpackers and the proved programs run as this user (nobody); root is as before'
 complete -c mig -n '__fish_seen_subcommand_from check convert digest info normalise restore show' -l include -x -d 'of the files below folders take those with such a name'
 complete -c mig -n '__fish_seen_subcommand_from check convert digest info normalise restore show' -l exclude -x -d 'of the files below folders take none with such a name'
 complete -c mig -n '__fish_seen_subcommand_from check convert digest info normalise restore show' -l files-from -r -d 'take the paths too that FILE, or -, names, one a line'
