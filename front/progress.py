@@ -59,6 +59,14 @@ def read_of(source: 'Any') -> int:
         return 0
 
 
+def written_to(fd: 'Optional[int]') -> int:
+    """How much of a file was written; nothing where there is none."""
+    try:
+        return 0 if fd is None else os.fstat(fd).st_size
+    except OSError:
+        return 0
+
+
 class Line:
     """The line, and what it tells of. Sources at work tell how far they are, in the order of the files."""
 
@@ -67,6 +75,7 @@ class Line:
         self.is_there, self.ended = False, threading.Event()
         self.sources = set()  # type: Set[Any]
         self.ticker = None  # type: Optional[threading.Thread]
+        self.out = None  # type: Optional[int]     # the file that is written, where one is
         self.doing, self.name, self.number, self.files, self.total, self.before, self.begun = '', '', 0, 0, 0, 0, 0.0
 
     def begin(self, doing: str, names: 'Iterable[str]') -> 'Iterable[str]':
@@ -89,6 +98,13 @@ class Line:
             self.number, self.name = number, name
 
     def tick(self) -> None:
+        """Tells the line until the verb ends. One that can't be told is none, and keeps no verb from what it does."""
+        try:
+            self.tell()
+        except Exception:
+            self.ended.set()
+
+    def tell(self) -> None:
         wait = FIRST
         while not self.ended.wait(wait):
             wait = EACH
@@ -101,13 +117,17 @@ class Line:
 
     def told(self) -> str:
         """The line."""
-        seconds, done = time.monotonic() - self.begun, self.before + sum(map(read_of, list(self.sources)))
+        now = sum(map(read_of, list(self.sources)))
+        seconds, done, written = time.monotonic() - self.begun, self.before + now, 0 if now else written_to(self.out)
         parts = ['file %d of %d' % (self.number + 1, self.files)] * (self.files > 1)
-        if self.total:
+        if self.total and (done or not written):
             parts.append(of_all(min(done, self.total), self.total))
         elif done:
             parts.append(amount(done))
-        parts.append('%s/s' % amount(int(done / seconds)) if done else duration(seconds))
+        if written:                                  # of a file that a program reads by place none is told as read
+            parts.append('%s written' % amount(written))
+        moved = done + written
+        parts.append('%s/s' % amount(int(moved / seconds)) if moved else duration(seconds))
         if done and self.total:
             parts.append(duration(max(self.total - done, 0) * seconds / done) + ' left')
         return ', '.join([*parts, ' '.join(filter(None, (self.doing, shown(self.name))))])

@@ -175,7 +175,7 @@ class Collected(threading.Thread):
     def __init__(self, out: int, most: int) -> None:
         super().__init__(daemon=True)
         self.out, self.most, self.text = out, most, bytearray()
-        self.fault = None  # type: Optional[errors.Unreadable]
+        self.fault = None  # type: Optional[Exception]
         self.start()
 
     def run(self) -> None:
@@ -185,7 +185,7 @@ class Collected(threading.Thread):
                 if not block:
                     break
                 self.text += block
-        except errors.Unreadable as fault:
+        except Exception as fault:                   # it is raised where the text is taken
             self.fault = fault
 
 

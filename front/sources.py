@@ -282,7 +282,7 @@ class Piped:
     def __init__(self, fd: int) -> None:
         self.fd, self.kept, self.fed = fd, b'', 0
         self.feeder = None  # type: Any            # the thread that feeds the program
-        self.fault = None  # type: Optional[str]
+        self.fault, self.unforeseen = None, None  # type: Optional[str], Optional[Exception]
 
     def at(self, offset: int, count: int) -> bytes:
         if offset + count > MOST_KEPT:
@@ -315,6 +315,8 @@ class Piped:
             pass
         except OSError as fault:
             self.fault = why(fault)
+        except Exception as unforeseen:              # kept before the program sees an end
+            self.unforeseen = unforeseen
         finally:
             os.close(into)
 
@@ -323,8 +325,10 @@ class Piped:
         os.close(self.out)
         if accepted:
             self.feeder.join()
-            if not self.fault:
+            if not self.fault and not self.unforeseen:
                 drain(self.fd)
+        if self.unforeseen:
+            raise self.unforeseen
         return self.fault
 
     def close(self) -> None:

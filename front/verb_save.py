@@ -45,7 +45,7 @@ class Fed:
 
     def __init__(self, image: 'Any', script: bytes) -> None:
         self.image, self.script, self.follows = image, script, 0
-        self.fault = None  # type: Optional[str]
+        self.fault, self.unforeseen = None, None  # type: Optional[str], Optional[Exception]
         self.feeder = None  # type: Any            # the thread that feeds the program
 
     def read_so_far(self) -> int:
@@ -66,6 +66,8 @@ class Fed:
             pass
         except OSError as fault:
             self.fault = sources.why(fault)
+        except Exception as unforeseen:
+            self.unforeseen = unforeseen
 
     def pass_on(self, image: 'IO[bytes]', out: 'IO[bytes]') -> None:
         def take(count: int) -> bytes:
@@ -97,6 +99,8 @@ class Fed:
     def ended(self, accepted: bool) -> 'Optional[str]':
         os.close(self.taken)
         self.feeder.join()
+        if self.unforeseen:
+            raise self.unforeseen
         return self.fault or self.image.ended(accepted)
 
 

@@ -86,8 +86,10 @@ def total(words: 'Any') -> int:
     for facts in found.values():
         counts[facts['result']] = counts.get(facts['result'], 0) + 1
     counts[MISSING] = len(missing)
-    incomplete = bool(missing) or not whole and not names
+    incomplete = bool(missing) or not names and not (whole and found)
     status = many.status_of([*(facts['status'] for facts in found.values()), errors.READ_FAULT * incomplete])
+    if whole and not found and not names:
+        tell('no line tells of any file')
     if words.json:
         put_object(counts, [facts for facts in found.values() if facts['status']], missing, status)
         return status

@@ -5,6 +5,7 @@ import os
 import sys
 
 from front import errors, files, forms, headers, program, sources, text, verdict
+from front.progress import LINE
 from front.text import put_lines, shown, tell
 from front.words import CHOICE, INPUT, INTO, OUT, in_json, takes_files, takes_header, verb, writes_over
 
@@ -34,6 +35,14 @@ def settle(name: str) -> None:
             raise
 
 
+def is_no_file(name: str) -> bool:
+    """Whether a device, a pipe or a socket has this name, in whose place no file may come."""
+    try:
+        return sources.is_special(os.stat(name))
+    except OSError:                                  # nothing is there, or what can't be looked at
+        return False
+
+
 class Output:
     """A file that gets its name when all is well; `-` is standard output, which gets the bytes as they come."""
 
@@ -43,6 +52,8 @@ class Output:
         if name == '-':
             self.fd = self.standard()
             return
+        if is_no_file(name):
+            raise errors.Refused(errors.USAGE, '%s is a device or a pipe, and no file; write to it by - as OUT and `> %s`' % ((shown(name),) * 2))
         if os.path.lexists(name) and not (force and os.path.isfile(name)):
             raise errors.Refused(errors.USAGE, '%s is there already; --force writes over a file' % shown(name))
         if not os.path.basename(name):
@@ -55,6 +66,7 @@ class Output:
         except OSError as fault:
             self.part = None
             raise errors.Refused(errors.WRITE_FAULT, '%s: %s' % (shown(name), sources.why(fault))) from None
+        LINE.out = self.fd
 
     @staticmethod
     def standard() -> int:
@@ -98,6 +110,7 @@ class Output:
     def close(self) -> None:
         """Takes away what isn't whole; where that can't be done, it is told."""
         if self.fd != 1:
+            LINE.out = None
             os.close(self.fd)
         try:
             if self.part:
