@@ -12,3 +12,4 @@ pub mod Steps
 pub mod Standing
 pub mod Relaying
 pub mod Laws
+pub mod Looking

@@ -18,6 +18,8 @@ mod bodies;
 mod heads;
 mod held;
 mod law;
+mod looking;
+mod nowhere;
 mod opening;
 mod pages;
 mod pass;

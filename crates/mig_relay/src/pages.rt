@@ -57,7 +57,7 @@ impl Relay {
     }
 
     /// Goes on to the next page of the words, from this one on, or behind the record.
-    fn turn_to(&mut self, head: RecordHead, from: usize)
+    pub(crate) fn turn_to(&mut self, head: RecordHead, from: usize)
         requires { from ≤ length self.old.words.items }
         ensures within { from ≤ self.new.page × self.new.page ≤ length self.old.words.items }
         ensures data { self.new.page < length self.old.words.items → word_has_data (slice_index self.old.words.items self.new.page) ≡ true }

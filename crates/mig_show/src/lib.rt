@@ -11,7 +11,6 @@
 mod laws;
 mod line;
 mod names;
-mod nowhere;
 mod record;
 mod refusal;
 mod seen;

@@ -5,7 +5,6 @@ ghost use Rattle.mig_show.specs.Seeing.{ended_by};
 ghost use Rattle.mig_show.specs.Shows.{Shows, RisesOnShow, tree_line, front_tree};
 
 use crate::line::stream_line;
-use crate::nowhere::Nowhere;
 use crate::seen::Seen;
 use crate::tree::tree_of;
 use mig_bytes::Source;
@@ -64,9 +63,8 @@ fn see_all<S: Source>(
     ensures faults { RisesOnShow (S.faults src.old) (S.faults src.new) result }
 {
     let mut relay = Relay::new(alloc);
-    let mut nowhere = Nowhere;
     for _ in 0..u64::MAX {
-        let step = match relay.step(src, &mut nowhere) {
+        let step = match relay.look(src) {
             Ok(step) => step,
             Err(answer) => return ended(answer),
         };

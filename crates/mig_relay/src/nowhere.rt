@@ -1,6 +1,6 @@
 ghost use Rattle.std.specs.Prelude.{◌≡◌, ◌<◌, length, None, IfOk};
 ghost use Rattle.std.specs.Io.{WritesAtMost};
-ghost use Rattle.mig_show.specs.Common.{WriteAppends, FaultHasCause};
+ghost use Rattle.mig_relay.specs.Common.{WriteAppends, FaultHasCause};
 
 use mig_bytes::{Failed, Sink};
 
