@@ -1,5 +1,6 @@
 use crate::passing::smallest;
-use mig_bytes::MemSource;
+use mig_bytes::{MemSource, Source};
+use mig_file::{FileSource, MemFile};
 use mig_show::{Seen1, show, tree_of};
 use std::alloc::Global;
 use std::test::Fail;
@@ -22,7 +23,7 @@ fn end() -> &'static str {
 }
 
 // The text of what is shown of a stream that isn't refused.
-fn shown_text(alloc: Global, src: &mut MemSource) -> Result<String, Fail> {
+fn shown_text<S: Source>(alloc: Global, src: &mut S) -> Result<String, Fail> {
     match show(alloc, src) {
         Ok(shown) if shown.refused.is_none() => Ok(shown.tree.to_string(alloc)?),
         _ => Err("it isn't shown".into()),
@@ -56,5 +57,43 @@ fn a_tree_has_its_record(rt: HostRuntime) -> Result<(), Fail> {
         pages: 0,
     };
     assert_eq!(rt; tree_text(rt.alloc(), record)?.as_str(), end());
+    Ok(())
+}
+
+// The head of a PAGE_DATA with one frame, its count and its word; the frame's page follows.
+const ONE_FRAME: [u8; 24] = [
+    1, 0, 0, 0, 16, 16, 0, 0, 1, 0, 0, 0, 0, 0, 0, 0, 7, 0, 0, 0, 0, 0, 0, 0,
+];
+
+// Where the first byte of that page stands, behind the headers and STATIC_DATA_END.
+const PAGE_AT: u64 = 48 + 24;
+
+// The smallest stream with one frame.
+fn with_a_frame(alloc: Global) -> Result<Vec<u8>, Fail> {
+    let mut bytes = Vec::new(alloc);
+    for byte in smallest().iter().take(48) {
+        bytes.push(*byte)?;
+    }
+    for byte in ONE_FRAME {
+        bytes.push(byte)?;
+    }
+    for _ in 0..4096 {
+        bytes.push(1)?;
+    }
+    for byte in smallest().iter().skip(48) {
+        bytes.push(*byte)?;
+    }
+    Ok(bytes)
+}
+
+#[test]
+fn of_a_file_no_page_is_read(rt: HostRuntime) -> Result<(), Fail> {
+    let alloc = rt.alloc();
+    let bytes = with_a_frame(alloc)?;
+    let mut whole = MemSource::new(bytes.clone()?, Vec::new(alloc), Vec::new(alloc));
+    let file = MemFile::new(bytes, vec![in alloc; PAGE_AT; 1]?);
+    let text = shown_text(alloc, &mut FileSource::new(&file, 0))?;
+    assert!(rt; text.contains("\"pages\":1,"));
+    assert_eq!(rt; text.as_str(), shown_text(alloc, &mut whole)?.as_str());
     Ok(())
 }

@@ -37,7 +37,7 @@ pub fn run<S: Source, K: Sink, R: Sink>(
 }
 
 /// Does what the words say, as `run` does, of a file that is read from a place on. What it needs no page of, it reads none
-/// of: `verify` reads those of page tables alone, where the stream has no VERIFY; and `normalise` of an HVM guest and
+/// of: `show` reads those of page tables alone, and `verify` where the stream has no VERIFY; and `normalise` of an HVM guest and
 /// `convert` read each page where it is written, and keep none.
 pub fn run_file<P: PageFile, K: Sink, R: Sink>(
     alloc: Global,
@@ -64,6 +64,6 @@ pub fn run_file<P: PageFile, K: Sink, R: Sink>(
 pub(crate) fn reads_by_place(words: &[String]) -> bool {
     matches!(
         command_in(words),
-        Some(Command::Normalise | Command::Convert | Command::Verify)
+        Some(Command::Normalise | Command::Convert | Command::Verify | Command::Show)
     )
 }
