@@ -1,5 +1,5 @@
 -- The entry of a word, as a judge takes it that puts it into an outline.
-use Rattle.mig_restore.proofs.Common.{◌≡◌, ◌<◌, ℕ, List, [], ◌∷◌, Option, Some, None, Result, Ok, Err, true, false, refl, sym, ap, subst, ◌∙◌, is_some, none-some, part, AgreesWithJudging, Passes, Stop, Cause, Truncated, Kind, GuestOf, PageType, level_of, pfn_limit, IsInside, entry, word_pfn, word_has_data, FrameEntry, Nothing, type_in_word, fault_of_level, fault_of_page, type_in_guest, entry_at, put_entry, GrewByRecord, IsGoodWord, OnOk, AreEntriesSet}
+use Rattle.mig_restore.proofs.Common.{◌≡◌, ◌<◌, ℕ, List, [], ◌∷◌, Option, Some, None, Result, Ok, Err, true, false, refl, sym, ap, subst, ◌∙◌, is_some, none-some, part, AgreesWithJudging, Passes, Stop, Cause, Truncated, Kind, GuestOf, PageType, level_of, pfn_limit, IsInside, word_pfn, word_has_data, FrameEntry, Nothing, type_in_word, fault_of_level, fault_of_page, type_in_guest, entry_at, put_entry, GrewByRecord, IsGoodWord, OnOk, AreEntriesSet}
 use Rattle.std.specs.Prelude.{⊤}
 use Rattle.mig_bytes.specs.Judged.{plain_at}
 use Rattle.mig_bytes.specs.Judged.Judged.{Faulty}

@@ -14,7 +14,7 @@ use Rattle.std.specs.Prelude.{map, OnOk, Result, Ok, Err}
 use Rattle.mig_pvtables.specs.declared.testing.WholeAnswer.{WholeAnswer}
 use Rattle.mig_outline.specs.Forgotten.{forgotten_guest, forgotten_page, forgotten_frame}
 use Rattle.mig_outline.specs.Outline.{outline, outline_type, outline_frame, outline_frames, outline_page, seen_type, seen_frame, seen_frames}
-use Rattle.mig_outline.proofs.Changed.{changed, changed_get, changed_none}
+use Rattle.mig_outline.proofs.Changed.{changed_get, changed_none}
 
 module _ (f : FrameOf → FrameOf) (m : FrameMap) where
   abbrev there : FrameMap

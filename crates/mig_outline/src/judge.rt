@@ -27,19 +27,26 @@ pub struct Tally {
 }
 
 /// The tally of an image of whose guest the outline was taken.
-fn tally_of(taken: Result<TakenImage, Stop<(Place, Cause)>>) -> Result<Tally, StreamAnswer>
+pub fn tally_of(taken: &TakenImage) -> Tally
+    ensures { (image : ImageOf) → IsTaken outline_frames taken.now image → IsTally result image }
+{
+    Tally {
+        version: taken.version,
+        kind: taken.guest.kind(),
+        frames: taken.guest.frames(),
+        records: taken.records,
+        verified: taken.differs.is_some(),
+    }
+}
+
+/// What a judge answers of an image of whose guest the outline was taken.
+fn judged(taken: Result<TakenImage, Stop<(Place, Cause)>>) -> Result<Tally, StreamAnswer>
     ensures read { (before after : Option (List ℕ)) (judging : List ℕ → Judged (Place × Cause) ImageOf) →
         AgreesWithJudging (IsTaken outline_frames) before after judging taken → AgreesWithJudging IsTally before after judging (or_stop result) }
     ensures faults { (before after : ℕ) → RisesOnReadFault before after taken → RisesOnReadFault before after (or_stop result) }
 {
     match taken {
-        Ok(image) => Ok(Tally {
-            version: image.version,
-            kind: image.guest.kind(),
-            frames: image.guest.frames(),
-            records: image.records,
-            verified: image.differs.is_some(),
-        }),
+        Ok(image) => Ok(tally_of(&image)),
         Err(stop) => Err(answer_for(stop)),
     }
 }
@@ -51,7 +58,7 @@ pub fn judge_image<S: Source>(alloc: Global, src: &mut S) -> Result<Tally, Strea
     ensures read { JudgesImage (S.left src.old) (S.left src.new) result }
     ensures faults { RisesOnReadFault (S.faults src.old) (S.faults src.new) (or_stop result) }
 {
-    tally_of(take_image(alloc, src, &mut Outlines))
+    judged(take_image(alloc, src, &mut Outlines))
 }
 
 /// Judges an image whose marker was taken before and found right; the same else.
@@ -59,5 +66,5 @@ pub fn judge_image_rest<S: Source>(alloc: Global, src: &mut S) -> Result<Tally, 
     ensures read { JudgesRest (S.left src.old) (S.left src.new) result }
     ensures faults { RisesOnReadFault (S.faults src.old) (S.faults src.new) (or_stop result) }
 {
-    tally_of(take_image_rest(alloc, src, &mut Outlines))
+    judged(take_image_rest(alloc, src, &mut Outlines))
 }

@@ -63,7 +63,8 @@ impl TypedFrames for SeenFrames<'_> {
     }
 }
 
-/// Of a guest its outline is kept: the pages of its tables, and no others. Nothing more is noted of its frames.
+/// Of a guest its outline is kept: the pages of its tables, and no others. Nothing more is noted of its frames, so that it
+/// can't be told of an entry behind a VERIFY whether it differs.
 #[derive(Drop)]
 pub struct Outlines;
 
@@ -73,6 +74,8 @@ impl<S: Source> KeepsFrames<S> for Outlines {
     ghost put = { put_outline_entry };
 
     ghost notes = { λ _ _ _ _. ⊤ };
+
+    ghost compares = { false };
 
     fn goes_on() {}
 
@@ -92,6 +95,21 @@ impl<S: Source> KeepsFrames<S> for Outlines {
             Ok(()) => Ok(()),
             Err(_) => Err(Stop::Memory),
         }
+    }
+
+    fn check_entry(
+        &self,
+        src: &mut S,
+        place: u32,
+        word: u64,
+        guest: &Guest,
+    ) -> Result<bool, Stop<Cause>> {
+        let meant = type_in_guest(guest.kind(), type_in(word));
+        if meant.table_level().is_some() {
+            return AllFrames.check_entry(src, place, word, guest);
+        }
+        pass_page(src, word)?;
+        Ok(false)
     }
 
     fn fault_at_end(alloc: Global, guest: &Guest) -> Result<(), WholeAnswer> {

@@ -9,14 +9,14 @@
 //! tally, and else the first fault with its place, and has taken just what `read_image` takes; it keeps an index of the frames,
 //! the tables and the parts, and of a record in hand its words or its body. How many entries behind a VERIFY differ from the
 //! guest can't be told of an outline, and the tally says only that one came. `Outlines` is what keeps outlines, for whoever
-//! takes entries.
+//! takes entries, and `tally_of` the tally of what was taken with them.
 #![tactic(auto)]
 
 mod judge;
 mod keeps;
 mod law;
 
-pub use judge::{Tally, judge_image, judge_image_rest};
+pub use judge::{Tally, judge_image, judge_image_rest, tally_of};
 pub use keeps::Outlines;
 pub use law::{
     fault_needs_an_outline, fault_needs_no_pages, forgotten_goes_on, forgotten_goes_on_whole,

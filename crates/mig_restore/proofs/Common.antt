@@ -33,9 +33,10 @@ pub use Rattle.mig_pagetypes.specs.PageTypes.{level_of, type_has_data}
 pub use Rattle.mig_pagetypes.specs.declared.page_type.PageType.{PageType}
 pub use Rattle.mig_pvtables.specs.Faults.{fault_of_guest}
 pub use Rattle.mig_records.specs.Faults.{fault_of_count}
-pub use Rattle.mig_restore.specs.Compared.{IsPut, IsWithinRecords, differs_behind, differs_with}
+pub use Rattle.mig_restore.specs.Compared.{IsCompared, IsImageCompared, IsWithinRecords, differs_behind, differs_with}
 pub use Rattle.mig_restore.specs.Kept.{EntryStep, NotesImage, NotesOn, kept_guest, put_frames}
-pub use Rattle.mig_restore.specs.Reads.{IsReading, IsTaken}
+pub use Rattle.mig_restore.specs.PageReads.{entry_of}
+pub use Rattle.mig_restore.specs.Reads.{IsReading, IsTaken, IsTakenAndCompared}
 pub use Rattle.std.proofs.Common.{Bool, Err, List, None, Ok, Option, Result, Some, [], ap, append_assoc, arith, cond, drop, false, get_or, inl, inr, is_some, length, nat_eq, not, refl, rules, subst, sym, take, true, ℕ, ◌*◌, ◌++◌, ◌+◌, ◌-◌, ◌<◌, ◌^◌, ◌∙◌, ◌∷◌, ◌≡◌, ◌≢◌, ◌≤◌, ◌⊎◌}
 pub use Rattle.std.proofs.lemmas.Bool.{eq-eqb, ne_eqb}
 pub use Rattle.std.proofs.lemmas.List.{length-map, map-append, take-append-drop, take_all, take_more}

@@ -40,7 +40,7 @@ module _ (kind : Kind) (top len : ℕ) where
   front_page : (at : ℕ × ℕ) → TakesFronts (page_at kind top at)
   front_page at = front_if (word_has_data at.1) _ _ (front_said Truncated (fault_of_page kind top at) (λ page. Some page) 4096) (front_pass None)
 
-  front_entry : (at : ℕ × ℕ) → TakesFronts (entry_at kind top at)
+  pub front_entry : (at : ℕ × ℕ) → TakesFronts (entry_at kind top at)
   front_entry at = front_then (page_at kind top at) _ (front_page at) (λ page. front_pass _)
 
   pub front_pages : TakesFronts (pages_at kind top len)

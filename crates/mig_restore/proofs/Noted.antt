@@ -1,5 +1,5 @@
 -- What is noted of frames stays noted as a source is read on, and goes on with what is taken of it.
-use Rattle.mig_restore.proofs.Common.{◌≡◌, ◌≢◌, ℕ, List, [], ◌∷◌, ◌++◌, Bool, true, false, Option, Some, None, Result, Ok, Err, refl, sym, ap, subst, ◌∙◌, Judged, ◌>>=◌, part, said_at, Passes, AgreesWithJudging, any_stop, mapped, then_reads, Stop, Cause, Truncated, Kind, GuestOf, RecordType, PartCode, FrameMap, FrameEntry, Content, Nothing, Frames, Sets, Lists, Checks, StreamRecord, ImageOf, put_content, put_entries_by, put_entry, placed_content, IsSaid, code_of_type, with_places, entry_at, list_at, pages_at, typed_at, lists_of, fault_of_body, fault_of_p2m, parts_of_body, pages_read, one_more_record, sent_kind, NotesOn, NotesImage, put_frames}
+use Rattle.mig_restore.proofs.Common.{◌≡◌, ◌≢◌, ℕ, List, [], ◌∷◌, ◌++◌, Bool, true, false, Option, Some, None, Result, Ok, Err, refl, sym, ap, subst, ◌∙◌, Judged, ◌>>=◌, part, said_at, Passes, AgreesWithJudging, any_stop, mapped, then_reads, Stop, Cause, Truncated, Kind, GuestOf, RecordType, PartCode, FrameMap, FrameEntry, Content, Nothing, Frames, Sets, Lists, Checks, StreamRecord, ImageOf, put_content, put_entries_by, put_entry, placed_content, IsSaid, code_of_type, with_places, entry_at, list_at, pages_at, typed_at, lists_of, fault_of_body, fault_of_p2m, parts_of_body, pages_read, one_more_record, sent_kind, NotesOn, NotesImage, IsCompared, IsImageCompared, checked_in, differing, put_frames}
 use Rattle.std.specs.FinMap as maps
 use Rattle.std.specs.Result.{IsErrAnd}
 use Rattle.std.proofs.lemmas.List.Sums.{fold-append}
@@ -136,6 +136,39 @@ module _ {K : Type 0} (notes : K → List ℕ → Option (List ℕ) → FrameMap
       pages_read items (λ (_ : X) es. NotesOn notes old new (Some i) e (λ frames. put_entries_by put_entry kind frames es)) (λ (_ : X) c. NotesOn notes old new (Some i) e (put_frames kind c)) (λ _ _ noted. noted) kind k top t len same_kind same_top (Some i) d e list r read
       (weaker (λ (_ : X) es. NotesOn notes old new d e (λ frames. put_entries_by put_entry kind frames es)) (λ (_ : X) es. NotesOn notes old new (Some i) e (λ frames. put_entries_by put_entry kind frames es))
       (λ _ es h all frames noted. h all frames (carried (λ v ws. ws ≡ items v) old i d (list_at k t len) list (front_list k t len) read all frames noted)) d e (each (entry_at kind top) (with_places 0 (items list))) r told)
+
+  -- ---- what is compared with it
+
+  -- a part, and what is compared behind it
+  pub then_compared : {C X Y Z V : Type 0} (compares : Bool) (kept : FrameMap → FrameMap) (there : FrameMap) (says : V → Z → FrameMap → Type 0) (R : X → Y → Type 0) (k : K) (a b c : Option (List ℕ)) (f : List ℕ → Judged C Y) (g : List ℕ → Judged C Z) (h : Y × List ℕ → Judged C Z) (x : X) (r : Result V (Stop C))
+      → TakesFronts f → ((i : List ℕ) → g i ≡ (f i >>= h)) → AgreesWithJudging R a b f (Ok x) → ((y : Y) → R x y → AgreesWithJudging (λ v z. IsCompared compares notes kept k b there (says v z)) b c (λ i. h (y, i)) r)
+      → AgreesWithJudging (λ v z. IsCompared compares notes kept k a there (says v z)) a c g r
+  then_compared compares kept there says R k None b c f g h x r fronts same first next = tt
+  then_compared compares kept there says R k (Some i) b c f g h x r fronts same first next =
+      then_reads R (λ v z. IsCompared compares notes kept k (Some i) there (says v z)) (Some i) b c f g h x r same first
+      (λ y told. weaker (λ v z. IsCompared compares notes kept k b there (says v z)) (λ v z. IsCompared compares notes kept k (Some i) there (says v z))
+      (λ v z said is all frames noted here. said is all frames (carried R k i b f x fronts first all frames noted) here) b c (λ j. h (y, j)) r (next y told))
+
+  -- the same of a whole image
+  pub image_compared : {C X Y V : Type 0} (compares : Bool) (differs : V → Option ℕ) (R : X → Y → Type 0) (k : K) (a b c : Option (List ℕ)) (f : List ℕ → Judged C Y) (g : List ℕ → Judged C ImageOf) (h : Y × List ℕ → Judged C ImageOf) (x : X) (r : Result V (Stop C))
+      → TakesFronts f → ((i : List ℕ) → g i ≡ (f i >>= h)) → AgreesWithJudging R a b f (Ok x) → ((y : Y) → R x y → AgreesWithJudging (λ v image. IsImageCompared compares notes k b (differs v) image) b c (λ i. h (y, i)) r)
+      → AgreesWithJudging (λ v image. IsImageCompared compares notes k a (differs v) image) a c g r
+  image_compared compares differs R k None b c f g h x r fronts same first next = tt
+  image_compared compares differs R k (Some i) b c f g h x r fronts same first next =
+      then_reads R (λ v image. IsImageCompared compares notes k (Some i) (differs v) image) (Some i) b c f g h x r same first
+      (λ y told. weaker (λ v image. IsImageCompared compares notes k b (differs v) image) (λ v image. IsImageCompared compares notes k (Some i) (differs v) image)
+      (λ v image said is all noted. said is all (carried R k i b f x fronts first all maps.empty noted)) b c (λ j. h (y, j)) r (next y told))
+
+  -- the words of a PAGE_DATA behind a VERIFY, and then its pages
+  pub pages_compared : {V : Type 0} (compares : Bool) (kept : FrameMap → FrameMap) (there : FrameMap) (items : V → List ℕ) (keeper : K) (kind k : Kind) (top t len : ℕ) → k ≡ kind → t ≡ top → (a d e : Option (List ℕ)) (list : V) (r : Result ℕ (Stop Cause)) → AgreesWithJudging (λ v ws. ws ≡ items v) a d (list_at k t len) (Ok list)
+      → AgreesWithJudging (λ n es. IsCompared compares notes kept keeper d there (λ frames. n ≡ differing kind frames es)) d e (each (entry_at kind top) (with_places 0 (items list))) r
+      → AgreesWithJudging (λ n c. IsCompared compares notes kept keeper a there (λ frames. n ≡ differing kind frames (checked_in (placed_content true c)))) a e (pages_at kind top len) r
+  pages_compared compares kept there items keeper kind k top t len same_kind same_top None d e list r read told = tt
+  pages_compared compares kept there items keeper kind k top t len same_kind same_top (Some i) d e list r read told =
+      pages_read items (λ n es. IsCompared compares notes kept keeper (Some i) there (λ frames. n ≡ differing kind frames es)) (λ n c. IsCompared compares notes kept keeper (Some i) there (λ frames. n ≡ differing kind frames (checked_in (placed_content true c))))
+      (λ _ _ is. is) kind k top t len same_kind same_top (Some i) d e list r read
+      (weaker (λ n es. IsCompared compares notes kept keeper d there (λ frames. n ≡ differing kind frames es)) (λ n es. IsCompared compares notes kept keeper (Some i) there (λ frames. n ≡ differing kind frames es))
+      (λ _ _ said is all frames noted here. said is all frames (carried (λ v ws. ws ≡ items v) keeper i d (list_at k t len) list (front_list k t len) read all frames noted) here) d e (each (entry_at kind top) (with_places 0 (items list))) r told)
 
 -- one more entry of a record
 pub entry_noted : {K : Type 0} (notes : K → List ℕ → Option (List ℕ) → FrameMap → Type 0) (first old new : K) (a b c : Option (List ℕ)) (kind k : Kind) (es : List FrameEntry) (e : FrameEntry) → k ≡ kind

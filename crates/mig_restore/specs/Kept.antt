@@ -1,8 +1,8 @@
 -- What is kept of the frames that records set: all of them, or less.
-use Rattle.std.specs.Prelude.{◌≡◌, ℕ, List, Option, Some, None, if◌then◌else◌}
+use Rattle.std.specs.Prelude.{◌≡◌, ℕ, List, Option, None}
 use Rattle.std.specs.FinMap as maps
 use Rattle.mig_pvtables.specs.Faults.{fault_of_guest}
-use Rattle.mig_restore.specs.Common.{Kind, FrameMap, FrameEntry, GuestOf, StreamRecord, Content, types_of, is_verified, checked_of, differing, put_entries, sent, ImageOf}
+use Rattle.mig_restore.specs.Common.{Kind, FrameMap, FrameEntry, GuestOf, Content, put_entries, sent, ImageOf}
 use Rattle.mig_restore_form.specs.Record.Content.{Frames}
 
 -- what an entry makes of frames that are kept
@@ -16,10 +16,6 @@ kept_guest kept g = record { kind = g.kind; top = g.top; frames = kept g.frames;
 -- no guest of which this is kept has a fault at END
 abbrev pub IsOfFaultless : (FrameMap → FrameMap) → GuestOf → Type 0
 IsOfFaultless kept h = (g : GuestOf) → h ≡ kept_guest kept g → fault_of_guest g ≡ None
-
--- how many entries behind a VERIFY differ from what is kept of the frames that were sent; none where no record is one
-unfoldable pub differs_from : (FrameMap → FrameMap) → Kind → List StreamRecord → Option ℕ
-differs_from kept kind records = if is_verified (types_of records) then Some (differing kind (kept (sent kind records).frames) (checked_of records)) else None
 
 -- ---- what is noted of the frames of an input, where so much of it is left
 

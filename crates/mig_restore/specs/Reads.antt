@@ -1,19 +1,24 @@
 -- What a reader of images answers.
-use Rattle.std.specs.Prelude.{◌≡◌, ℕ, List, length, Option, Result}
-use Rattle.mig_restore.specs.Common.{or_stop, AgreesWithJudging, Cause, FrameMap, sent, mean, differs_of, ImageOf, image_at, image_behind}
-use Rattle.mig_restore.specs.Kept.{kept_guest, differs_from}
+use Rattle.std.specs.Prelude.{◌≡◌, ℕ, List, length, Option, Result, is_some}
+use Rattle.mig_restore.specs.Common.{or_stop, AgreesWithJudging, Cause, FrameMap, sent, mean, differs_of, ImageOf, image_at, image_behind, is_verified, types_of}
+use Rattle.mig_restore.specs.Kept.{kept_guest}
 use Rattle.mig_bytes.specs.declared.answer.Answer.{Answer}
 use Rattle.mig_headers.specs.declared.fault.Place.{Place}
 use Rattle.mig_restore.specs.declared.read.Reading.{Reading}
 use Rattle.mig_restore.specs.declared.read.TakenImage.{TakenImage}
 
 -- what was taken of an image, where this is kept of frames: what is kept of the guest that its records send, its version, the
--- number of its records, and how many entries behind a VERIFY differ from what is kept
+-- number of its records, and whether one is a VERIFY
 pub record IsTaken (kept : FrameMap → FrameMap) (taken : TakenImage) (image : ImageOf) : Type 0 where
   pub guest : taken.guest ≡ kept_guest kept (sent image.opening.kind image.records)
   pub version : taken.version ≡ image.opening.version
   pub records : taken.records ≡ length image.records
-  pub differs : taken.differs ≡ differs_from kept image.opening.kind image.records
+  pub verified : is_some taken.differs ≡ is_verified (types_of image.records)
+
+-- the same, with how many entries behind a VERIFY differ
+pub record IsTakenAndCompared (kept : FrameMap → FrameMap) (taken : TakenImage) (image : ImageOf) : Type 0 where
+  pub is : IsTaken kept taken image
+  pub differs : taken.differs ≡ differs_of image.opening.kind image.records
 
 -- a reading of an image: the guest that its records mean, its version, the number of its records, and how many entries
 -- behind a VERIFY differ

@@ -1,15 +1,17 @@
-ghost use Rattle.std.specs.Prelude.{◌≡◌, ◌∷◌, [], ◌++◌, ℕ, ⊤, List, OnOk, OnErr, Some, Err};
+ghost use Rattle.std.specs.Prelude.{◌≡◌, ◌∷◌, [], ◌++◌, ℕ, ⊤, Bool, List, OnOk, OnErr, Some, Err, true, not};
 ghost use Rattle.std.specs.declared.option.Option.{Option};
 ghost use Rattle.std.specs.FinMap as maps;
 ghost use Rattle.mig_guest.specs.Formed.{IsFormed};
 ghost use Rattle.mig_pvtables.specs.Faults.{fault_of_guest};
 ghost use Rattle.mig_pvtables.specs.declared.testing.WholeAnswer.TheVariants.{Fault};
 ghost use Rattle.mig_restore.specs.Begun.{AreEntriesSet};
-ghost use Rattle.mig_restore.specs.Common.{RisesOnReadFault, AgreesWithJudging, FrameEntry, FrameMap, GrewByRecord, GuestOf, Kind, entry_at, put_entry};
+ghost use Rattle.mig_restore.specs.Common.{RisesOnReadFault, AgreesWithJudging, FrameEntry, FrameMap, GrewByRecord, GuestOf, Kind, agrees, entry_at, put_entry};
+ghost use Rattle.mig_restore.specs.Compared.{IsCompared};
 ghost use Rattle.mig_restore.specs.Kept.{IsOfFaultless, NotesOn, kept_guest};
 ghost use Rattle.mig_restore_form.specs.Spelled.{IsGoodWord};
 
-use crate::page::EntryPage;
+use crate::compare::has_frame;
+use crate::page::{EntryPage, take_page};
 use mig_bytes::{Source, Stop};
 use mig_guest::Guest;
 use mig_headers::Cause;
@@ -28,6 +30,9 @@ pub trait KeepsFrames<S: Source> {
 
     /// Whether a value has noted these frames of an input with these bytes, where so much of it is left.
     ghost notes: { Self → List ℕ → Option (List ℕ) → FrameMap → Type 0 };
+
+    /// Whether it is told of entries behind a VERIFY that they differ from the frames.
+    ghost compares: { Bool };
 
     /// Does nothing. What is kept goes on as the frames do: an entry makes of it what is kept of what it makes of the frames,
     /// and there are as many of them. What is noted stays noted as the source is read on.
@@ -57,6 +62,20 @@ pub trait KeepsFrames<S: Source> {
         ensures noted { AgreesWithJudging (λ _ e. NotesOn notes self.old self.new (S.left src.old) (S.left src.new) (λ frames. put_entry guest.old.kind frames e))
             (S.left src.old) (S.left src.new) (entry_at guest.old.kind guest.old.top (place, word)) result };
 
+    /// Takes the page that goes with the word at this place of its record, where its type has data, and keeps nothing of the
+    /// entry: its record stands behind a VERIFY. A table of a PV guest is judged. Says whether the entry differs from the
+    /// frames that are noted, where values of the type compare.
+    fn check_entry(
+        &self,
+        src: &mut S,
+        place: u32,
+        word: u64,
+        guest: &Guest,
+    ) -> Result<bool, Stop<Cause>>
+        ensures read { AgreesWithJudging (λ differs e. IsCompared compares notes kept self.now (S.left src.old) guest.now.frames (λ frames. differs ≡ not (agrees guest.now.kind frames e)))
+            (S.left src.old) (S.left src.new) (entry_at guest.now.kind guest.now.top (place, word)) result }
+        ensures faults { RisesOnReadFault (S.faults src.old) (S.faults src.new) result };
+
     /// What is wrong at END with the guest of which this is kept.
     fn fault_at_end(alloc: Global, guest: &Guest) -> Result<(), WholeAnswer>
         requires { IsFormed guest.now }
@@ -74,6 +93,8 @@ impl<S: Source> KeepsFrames<S> for AllFrames {
     ghost put = { put_entry };
 
     ghost notes = { λ _ _ _ _. ⊤ };
+
+    ghost compares = { true };
 
     fn goes_on() {}
 
@@ -98,6 +119,23 @@ impl<S: Source> KeepsFrames<S> for AllFrames {
             top: guest.top(),
         };
         guest.set_filled(pfn_in(word), kind, src, &page)
+    }
+
+    fn check_entry(
+        &self,
+        src: &mut S,
+        place: u32,
+        word: u64,
+        guest: &Guest,
+    ) -> Result<bool, Stop<Cause>> {
+        let kind = type_in_guest(guest.kind(), type_in(word));
+        let mut page = [0; 4096];
+        let some = take_page(src, place, word, guest, &mut page)?;
+        if some {
+            Ok(!has_frame(guest, pfn_in(word), kind, Some(&page)))
+        } else {
+            Ok(!has_frame(guest, pfn_in(word), kind, None))
+        }
     }
 
     fn fault_at_end(alloc: Global, guest: &Guest) -> Result<(), WholeAnswer> {

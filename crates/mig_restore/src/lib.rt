@@ -8,13 +8,14 @@
 //! What the layers above rely on: `read_image` answers the guest that the accepted front of the input means, or the first
 //! fault with its place, and has taken just the accepted front, or all up to the end of the faulty part; behind a VERIFY it
 //! compares frames with those of the guest, and answers how many entries differ; `take_image` does the same with whatever is
-//! kept of the frames, and with a value that may note more of each; `take_entries` takes the pages of a batch of words, in a
-//! legacy stream too.
+//! kept of the frames, and with a value that may note more of each, and may compare the entries behind a VERIFY with what it
+//! noted; `take_entries` takes the pages of a batch of words, in a legacy stream too.
 #![tactic(auto)]
 
 mod answer;
 mod body;
 mod check;
+mod compare;
 mod keeps;
 mod page;
 mod read;
@@ -22,7 +23,9 @@ mod read;
 pub use answer::StreamAnswer;
 pub use body::{skip_body, take_entries, take_list};
 pub use check::take_placed;
+pub use compare::is_same_page;
 pub use keeps::{AllFrames, KeepsFrames};
+pub use page::take_page;
 pub use read::{
     Reading, TakenImage, read_head, read_headers, read_image, read_image_rest, read_opening,
     take_image, take_image_rest,

@@ -1,11 +1,11 @@
-ghost use Rattle.std.specs.Prelude.{◌≡◌, ℕ, ◌≤◌, ◌<◌, ◌+◌, ◌==◌, ◌∷◌, [], ◌++◌, List, Option, ⊤, true, None, Some, is_some, IfOk, OnOk, IsErrOf};
+ghost use Rattle.std.specs.Prelude.{◌≡◌, ℕ, ◌≤◌, ◌<◌, ◌+◌, ◌==◌, ◌||◌, ◌∷◌, [], ◌++◌, List, Option, ⊤, true, None, Some, is_some, IfOk, OnOk, IsErrOf};
 ghost use Rattle.mig_restore.specs.Common.{or_stop, RisesOnReadFault, AgreesWithJudging, Memory, record_row_of, type_of_number, most_body, RecordType, fault_of_length, ImageOf, sent, put_content_by, IsBegun, GrewByRecord, StreamRecord, types_of, is_verified, Opening, Before, most_records, opening_of, head_at, record_at, next_at, image_at, image_behind, records_at, opening_at, opening_behind, marker_at, version_at, kind_at};
 ghost use Rattle.mig_records.specs.Heads.{head_in};
 ghost use Rattle.mig_pvtables.specs.Whole.{IsStreamedBare};
-ghost use Rattle.mig_restore.specs.Compared.{differs_behind, IsWithinRecords};
+ghost use Rattle.mig_restore.specs.Compared.{IsCompared, IsImageCompared, IsWithinRecords, differs_behind};
 ghost use Rattle.mig_restore_form.specs.Seen.{IsSeen};
 ghost use Rattle.mig_restore.specs.Kept.{IsOfFaultless, NotesImage, NotesOn, kept_guest, put_frames};
-ghost use Rattle.mig_restore.specs.Reads.{ReadsImage, ReadsRest, IsTaken, IsReading};
+ghost use Rattle.mig_restore.specs.Reads.{ReadsImage, ReadsRest, IsTaken, IsTakenAndCompared, IsReading};
 ghost use Rattle.mig_bytes.specs.Judged.{Judged};
 
 use crate::answer::StreamAnswer;
@@ -28,7 +28,8 @@ pub struct TakenImage {
     pub version: u32,
     /// How many records the image has, with END and optional ones.
     pub records: u32,
-    /// How many of the entries behind VERIFY differ from the frames that are kept; none without a VERIFY.
+    /// How many of the entries behind VERIFY differ from the frames that were sent, where the keeper compares; none without a
+    /// VERIFY.
     pub differs: Option<u64>,
 }
 
@@ -77,9 +78,11 @@ fn take_record<S: Source, F: KeepsFrames<S>>(
     requires kind { seen.old.kind ≡ guest.old.kind }
     requires few { IsWithinRecords seen.old.records differs.old }
     ensures read { (b : Before) → IsSeen seen.old b.opening b.types → guest.old.kind ≡ b.opening.kind → guest.old.top ≡ b.top → is_some differs.old ≡ is_verified b.types →
-        AgreesWithJudging (λ type r. (guest.new ≡ put_content_by F.put guest.old r.content) × (type ≡ r.type) × (differs.new ≡ differs_behind guest.old differs.old r)) (S.left src.old) (S.left src.new) (record_at b) result }
+        AgreesWithJudging (λ type r. (guest.new ≡ put_content_by F.put guest.old r.content) × (type ≡ r.type) × (is_some differs.new ≡ (is_some differs.old || (r.type == 0xD)))) (S.left src.old) (S.left src.new) (record_at b) result }
     ensures noted { (b : Before) → IsSeen seen.old b.opening b.types → guest.old.kind ≡ b.opening.kind → guest.old.top ≡ b.top → is_some differs.old ≡ is_verified b.types →
         AgreesWithJudging (λ _ r. NotesOn F.notes keeper.old keeper.new (S.left src.old) (S.left src.new) (put_frames guest.old.kind r.content)) (S.left src.old) (S.left src.new) (record_at b) result }
+    ensures compared { (b : Before) → IsSeen seen.old b.opening b.types → guest.old.kind ≡ b.opening.kind → guest.old.top ≡ b.top → is_some differs.old ≡ is_verified b.types →
+        AgreesWithJudging (λ _ r. IsCompared F.compares F.notes F.kept keeper.old (S.left src.old) guest.old.frames (λ frames. differs.new ≡ differs_behind guest.old.kind frames differs.old r)) (S.left src.old) (S.left src.new) (record_at b) result }
     ensures few { OnOk result (IsWithinRecords seen.new.records differs.new) }
     ensures seen { IfOk result (λ type. (o : Opening) (types : List ℕ) → IsSeen seen.old o types → IsSeen seen.new o (types ++ type ∷ [])) }
     ensures grown { OnOk result (GrewByRecord guest.old guest.new) }
@@ -108,10 +111,12 @@ pub(crate) fn read_next<S: Source, F: KeepsFrames<S>>(
     requires begun { IsBegun guest.old }
     requires few { IsWithinRecords seen.old.records differs.old }
     ensures read { (o : Opening) (records : List StreamRecord) → IsSeen seen.old o (types_of records) → guest.old ≡ kept_guest F.kept (sent o.kind records) → is_some differs.old ≡ is_verified (types_of records) →
-        AgreesWithJudging (λ over r. (guest.new ≡ kept_guest F.kept (sent o.kind (records ++ r ∷ []))) × IsSeen seen.new o (types_of (records ++ r ∷ [])) × (over ≡ (r.type == 0)) × (differs.new ≡ differs_behind guest.old differs.old r))
+        AgreesWithJudging (λ over r. (guest.new ≡ kept_guest F.kept (sent o.kind (records ++ r ∷ []))) × IsSeen seen.new o (types_of (records ++ r ∷ [])) × (over ≡ (r.type == 0)) × (is_some differs.new ≡ (is_some differs.old || (r.type == 0xD))))
         (S.left src.old) (S.left src.new) (next_at o records) result }
     ensures noted { (o : Opening) (records : List StreamRecord) → IsSeen seen.old o (types_of records) → guest.old ≡ kept_guest F.kept (sent o.kind records) → is_some differs.old ≡ is_verified (types_of records) →
         AgreesWithJudging (λ _ r. NotesOn F.notes keeper.old keeper.new (S.left src.old) (S.left src.new) (put_frames o.kind r.content)) (S.left src.old) (S.left src.new) (next_at o records) result }
+    ensures compared { (o : Opening) (records : List StreamRecord) → IsSeen seen.old o (types_of records) → guest.old ≡ kept_guest F.kept (sent o.kind records) → is_some differs.old ≡ is_verified (types_of records) →
+        AgreesWithJudging (λ _ r. IsCompared F.compares F.notes F.kept keeper.old (S.left src.old) guest.old.frames (λ frames. differs.new ≡ differs_behind o.kind frames differs.old r)) (S.left src.old) (S.left src.new) (next_at o records) result }
     ensures few { OnOk result (IsWithinRecords seen.new.records differs.new) }
     ensures grown { OnOk result (GrewByRecord guest.old guest.new) }
     ensures faultless { IfOk result (λ over. over ≡ true → IsOfFaultless F.kept guest.new) }
@@ -140,6 +145,7 @@ fn take_records<S: Source, F: KeepsFrames<S>>(
 ) -> Result<TakenImage, Stop<(Place, Cause)>>
     ensures read { AgreesWithJudging (IsTaken F.kept) (S.left src.old) (S.left src.new) (records_at (opening_of version kind)) result }
     ensures noted { AgreesWithJudging (λ _ image. NotesImage F.notes keeper.old keeper.new (S.left src.old) (S.left src.new) image) (S.left src.old) (S.left src.new) (records_at (opening_of version kind)) result }
+    ensures compared { AgreesWithJudging (λ taken image. IsImageCompared F.compares F.notes keeper.old (S.left src.old) taken.differs image) (S.left src.old) (S.left src.new) (records_at (opening_of version kind)) result }
     ensures begun { IfOk result (λ taken. IsBegun taken.guest) }
     ensures faultless { IfOk result (λ taken. IsOfFaultless F.kept taken.guest) }
     ensures faults { RisesOnReadFault (S.faults src.old) (S.faults src.new) result }
@@ -237,7 +243,8 @@ pub fn read_opening<S: Source>(src: &mut S) -> Result<(u32, Kind), Stop<(Place, 
 }
 
 /// Takes an image from its marker to its END record, and leaves what follows it unread. What is kept of the guest is whole,
-/// and not in its blank form. The keeper notes what it notes of the frames that are sent.
+/// and not in its blank form. The keeper notes what it notes of the frames that are sent, and compares the entries behind a
+/// VERIFY with them.
 pub fn take_image<S: Source, F: KeepsFrames<S>>(
     alloc: Global,
     src: &mut S,
@@ -245,6 +252,7 @@ pub fn take_image<S: Source, F: KeepsFrames<S>>(
 ) -> Result<TakenImage, Stop<(Place, Cause)>>
     ensures read { AgreesWithJudging (IsTaken F.kept) (S.left src.old) (S.left src.new) image_at result }
     ensures noted { AgreesWithJudging (λ _ image. NotesImage F.notes keeper.old keeper.new (S.left src.old) (S.left src.new) image) (S.left src.old) (S.left src.new) image_at result }
+    ensures compared { AgreesWithJudging (λ taken image. IsImageCompared F.compares F.notes keeper.old (S.left src.old) taken.differs image) (S.left src.old) (S.left src.new) image_at result }
     ensures begun { IfOk result (λ taken. IsBegun taken.guest) }
     ensures faultless { IfOk result (λ taken. IsOfFaultless F.kept taken.guest) }
     ensures faults { RisesOnReadFault (S.faults src.old) (S.faults src.new) result }
@@ -262,6 +270,7 @@ pub fn take_image_rest<S: Source, F: KeepsFrames<S>>(
 ) -> Result<TakenImage, Stop<(Place, Cause)>>
     ensures read { AgreesWithJudging (IsTaken F.kept) (S.left src.old) (S.left src.new) image_behind result }
     ensures noted { AgreesWithJudging (λ _ image. NotesImage F.notes keeper.old keeper.new (S.left src.old) (S.left src.new) image) (S.left src.old) (S.left src.new) image_behind result }
+    ensures compared { AgreesWithJudging (λ taken image. IsImageCompared F.compares F.notes keeper.old (S.left src.old) taken.differs image) (S.left src.old) (S.left src.new) image_behind result }
     ensures begun { IfOk result (λ taken. IsBegun taken.guest) }
     ensures faultless { IfOk result (λ taken. IsOfFaultless F.kept taken.guest) }
     ensures faults { RisesOnReadFault (S.faults src.old) (S.faults src.new) result }
@@ -276,7 +285,7 @@ fn reading_of(taken: Result<TakenImage, Stop<(Place, Cause)>>) -> Result<Reading
     requires begun { IfOk taken (λ image. IsBegun image.guest) }
     requires faultless { IfOk taken (λ image. IsOfFaultless (λ frames. frames) image.guest) }
     ensures read { (before after : Option (List ℕ)) (judging : List ℕ → Judged (Place × Cause) ImageOf) →
-        AgreesWithJudging (IsTaken (λ frames. frames)) before after judging taken → AgreesWithJudging IsReading before after judging (or_stop result) }
+        AgreesWithJudging (IsTakenAndCompared (λ frames. frames)) before after judging taken → AgreesWithJudging IsReading before after judging (or_stop result) }
     ensures streamed { IfOk result (λ reading. IsStreamedBare reading.guest) }
     ensures faults { (before after : ℕ) → RisesOnReadFault before after taken → RisesOnReadFault before after (or_stop result) }
 {

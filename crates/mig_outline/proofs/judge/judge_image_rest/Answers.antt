@@ -1,4 +1,4 @@
 use Rattle.mig_outline.proofs.judge.judge_image_rest.Goals as goal
 
 pub returns-clause-faults : goal.returns-clause-faults
-returns-clause-faults g c = c.tally_of.ensures.faults _ _ c.take_image_rest.ensures.faults
+returns-clause-faults g c = c.judged.ensures.faults _ _ c.take_image_rest.ensures.faults

@@ -1,4 +1,4 @@
-use Rattle.mig_restore.proofs.Common.{any_stop, NotesOn, put_frames, ◌≡◌, ℕ, List, [], ◌∷◌, ◌++◌, true, false, nat_eq, rules, ap, sym, subst, ◌∙◌, eq-eqb, ne_eqb, map-append, done, then_reads, stopped, refused, FrameMap, kept_guest, GuestOf, StreamRecord, types_of, Opening, before, IsSeen, RecordsSeen, record_at, next_at, asks, behind_record, not_last, last_fine, last_faulty, sent_kind}
+use Rattle.mig_restore.proofs.Common.{any_stop, NotesOn, IsCompared, differs_behind, put_frames, ◌≡◌, ℕ, List, [], ◌∷◌, ◌++◌, true, false, nat_eq, rules, ap, sym, subst, ◌∙◌, eq-eqb, ne_eqb, map-append, done, then_reads, stopped, refused, FrameMap, kept_guest, GuestOf, StreamRecord, types_of, Opening, before, IsSeen, RecordsSeen, record_at, next_at, asks, behind_record, not_last, last_fine, last_faulty, sent_kind}
 use Rattle.mig_restore_form.specs.Mean.{sent}
 use Rattle.mig_restore.proofs.Kept.{kept_more}
 use Rattle.mig_restore.proofs.Noted.{both_told, stops}
@@ -66,3 +66,29 @@ returns-in-Ok-clause-noted g c = λ o records seen guest verified.
     done _ _ (λ i. behind_record o records (r, i)) true r
     (last_fine o records r zero (c.in-Ok.ensures.ok (sent o.kind (records ++ r ∷ [])) (kept_more g.F.KeepsFrames.kept g.F.KeepsFrames.put c.goes_on.ensures.entry c.args.guest.now _ o.kind records r guest told.0.0)))
     (subst (λ k. NotesOn g.F.KeepsFrames.notes c.args.keeper.now c.take_record.new.keeper (g.S.Source.left c.args.src.now) (g.S.Source.left c.take_record.new.src) (put_frames k r.content)) kind told.1))
+
+pub returns-in_err-take_record-clause-compared : goal.returns-in_err-take_record-clause-compared
+returns-in_err-take_record-clause-compared g c = λ o records seen guest verified.
+    stops _ _ (λ s. s ≡ c.in_err-take_record.field-0.0) _ _ _ c.from_residual.result (search rules) (returns-in_err-take_record-clause-read g c o records seen guest verified)
+
+pub returns-then-branch-ne-END-clause-compared : goal.returns-then-branch-ne-END-clause-compared
+returns-then-branch-ne-END-clause-compared g c = λ o records seen guest verified.
+    let kind = guest_kind g.F.KeepsFrames.kept _ o records guest in let top = guest_top g.F.KeepsFrames.kept _ o records guest in
+    then_reads _ _ _ _ _ (record_at (before o records)) (next_at o records) (behind_record o records) c.in_ok-take_record.field-0 _ (asks o records)
+    (both_told _ _ _ _ (record_at (before o records)) c.in_ok-take_record.field-0 c.in_ok-take_record.field-0 (c.in_ok-take_record.ensures.read (before o records) seen kind top verified) (c.in_ok-take_record.ensures.compared (before o records) seen kind top verified))
+    (λ r told. let goes : nat_eq r.type 0 ≡ false = ne_eqb r.type 0 (λ is. c.if-branch-ne-END.true (told.0.1 ∙ is)) in
+    done _ _ (λ i. behind_record o records (r, i)) false r (not_last o records r goes)
+    (subst (λ k. IsCompared g.F.KeepsFrames.compares g.F.KeepsFrames.notes g.F.KeepsFrames.kept c.args.keeper.now (g.S.Source.left c.args.src.now) c.args.guest.now.frames (λ frames. c.take_record.new.differs ≡ differs_behind k frames c.args.differs.now r)) kind told.1))
+
+pub returns-in-Err-Fault-clause-compared : goal.returns-in-Err-Fault-clause-compared
+returns-in-Err-Fault-clause-compared g c = λ o records seen guest verified. any_stop _ _ _ _ _ _ (returns-in-Err-Fault-clause-read g c o records seen guest verified)
+
+pub returns-in-Ok-clause-compared : goal.returns-in-Ok-clause-compared
+returns-in-Ok-clause-compared g c = λ o records seen guest verified.
+    let kind = guest_kind g.F.KeepsFrames.kept _ o records guest in let top = guest_top g.F.KeepsFrames.kept _ o records guest in
+    then_reads _ _ _ _ _ (record_at (before o records)) (next_at o records) (behind_record o records) c.in_ok-take_record.field-0 _ (asks o records)
+    (both_told _ _ _ _ (record_at (before o records)) c.in_ok-take_record.field-0 c.in_ok-take_record.field-0 (c.in_ok-take_record.ensures.read (before o records) seen kind top verified) (c.in_ok-take_record.ensures.compared (before o records) seen kind top verified))
+    (λ r told. let zero : r.type ≡ 0 = sym told.0.1 ∙ c.if-branch-ne-END.false in
+    done _ _ (λ i. behind_record o records (r, i)) true r
+    (last_fine o records r zero (c.in-Ok.ensures.ok (sent o.kind (records ++ r ∷ [])) (kept_more g.F.KeepsFrames.kept g.F.KeepsFrames.put c.goes_on.ensures.entry c.args.guest.now _ o.kind records r guest told.0.0)))
+    (subst (λ k. IsCompared g.F.KeepsFrames.compares g.F.KeepsFrames.notes g.F.KeepsFrames.kept c.args.keeper.now (g.S.Source.left c.args.src.now) c.args.guest.now.frames (λ frames. c.take_record.new.differs ≡ differs_behind k frames c.args.differs.now r)) kind told.1))

@@ -1,4 +1,4 @@
-use Rattle.mig_restore.proofs.Common.{◌≡◌, Result, Ok, refl, sym, subst, ◌∙◌, AgreesWithJudging, IsBegun, IsReading, IsTaken, TakenImage, meant_as_sent}
+use Rattle.mig_restore.proofs.Common.{◌≡◌, Result, Ok, refl, sym, subst, ◌∙◌, AgreesWithJudging, IsBegun, IsReading, IsTakenAndCompared, TakenImage, meant_as_sent}
 use Rattle.std.specs.Prelude.{IfOk}
 use Rattle.mig_restore.specs.Kept.{IsOfFaultless}
 use Rattle.mig_pvtables.specs.Whole.{IsStreamedBare}
@@ -6,7 +6,6 @@ use Rattle.mig_pvtables.proofs.BlankAgain.{blank_again}
 use Rattle.mig_pvtables.proofs.BlankBytesKept.{blank_bytes}
 use Rattle.mig_pvtables.proofs.BlankWhole.{whole_blank, blank_plain}
 use Rattle.mig_bytes.proofs.Joins.{weakened}
-use Rattle.mig_restore.proofs.Compared.{differs_all}
 use Rattle.mig_restore.proofs.read.reading_of.Goals as goal
 
 -- what holds of an answer that is there
@@ -21,13 +20,14 @@ blank-requires c = record {
 
 pub returns-in-Ok-clause-read : goal.returns-in-Ok-clause-read
 returns-in-Ok-clause-read c = λ before after judging given.
-    weakened (IsTaken (λ frames. frames)) IsReading before after judging c.in-Ok.image _
-    (λ image taken. record {
+    weakened (IsTakenAndCompared (λ frames. frames)) IsReading before after judging c.in-Ok.image _
+    (λ image both. let taken = both.is in
+    record {
       guest = c.blank.ensures ∙ meant_as_sent c.in-Ok.image.guest image.opening.kind image.records taken.guest;
       version = taken.version;
       records = taken.records;
-      differs = taken.differs ∙ differs_all image.opening.kind image.records;
-    }) (subst (λ r. AgreesWithJudging (IsTaken (λ frames. frames)) before after judging r) c.in-Ok.is given)
+      differs = both.differs;
+    }) (subst (λ r. AgreesWithJudging (IsTakenAndCompared (λ frames. frames)) before after judging r) c.in-Ok.is given)
 
 pub returns-in-Ok-clause-streamed : goal.returns-in-Ok-clause-streamed
 returns-in-Ok-clause-streamed c =

@@ -4,7 +4,7 @@ use Rattle.mig_restore.proofs.read.take_records.Given as goal
 
 abbrev pub invariant-records : goal.invariant-records
 invariant-records g l = record {
-  arrived : Arrived g.F.KeepsFrames.kept g.F.KeepsFrames.notes l.fn.keeper (g.S.Source.left l.fn.src) (opening_of l.fn.version l.fn.kind) (g.S.Source.left l.src) l.seen l.guest l.differs l.keeper;
+  arrived : Arrived g.F.KeepsFrames.compares g.F.KeepsFrames.kept g.F.KeepsFrames.notes l.fn.keeper (g.S.Source.left l.fn.src) (opening_of l.fn.version l.fn.kind) (g.S.Source.left l.src) l.seen l.guest l.differs l.keeper;
   kind : l.seen.kind ≡ l.guest.kind;
   begun : IsBegun l.guest;
   few : l.seen.records ≤ 2 ^ 28;
