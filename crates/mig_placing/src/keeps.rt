@@ -1,4 +1,4 @@
-ghost use Rattle.std.specs.Prelude.{◌≡◌, ℕ, List, Some};
+ghost use Rattle.std.specs.Prelude.{◌≡◌, ℕ, List, Some, false};
 ghost use Rattle.std.specs.FinMap as maps;
 ghost use Rattle.mig_file.specs.Files.{left_at};
 ghost use Rattle.mig_outline.specs.Outline.{outline_frames, put_outline_entry};
@@ -18,11 +18,12 @@ use std::alloc::Global;
 /// Places in a file are below this.
 const PLACE_LIMIT: u64 = (1 << 52) - 1;
 
-/// Of a guest its outline is kept, and of each frame is noted where in this file its page stands.
+/// Of a guest its outline is kept, and of each frame is noted where in this file its page stands. Entries behind a VERIFY are
+/// passed over.
 #[derive(Drop)]
 pub struct Placing<'a, P: PageFile> {
-    file: &'a P,
-    places: Places,
+    pub(crate) file: &'a P,
+    pub(crate) places: Places,
 }
 
 impl<'a, P: PageFile> Placing<'a, P> {
@@ -59,6 +60,8 @@ impl<'a, P: PageFile> KeepsFrames<FileSource<'a, P>> for Placing<'a, P> {
 
     ghost notes = { λ keeper all left frames. ArePlaced (P.bytes keeper.file.now) keeper.places all left frames };
 
+    ghost compares = { false };
+
     fn goes_on() {
         <Outlines as KeepsFrames<FileSource<'a, P>>>::goes_on()
     }
@@ -79,6 +82,16 @@ impl<'a, P: PageFile> KeepsFrames<FileSource<'a, P>> for Placing<'a, P> {
             Ok(()) => Outlines.take_entry(src, place, word, guest),
             Err(_) => Err(Stop::Memory),
         }
+    }
+
+    fn check_entry(
+        &self,
+        src: &mut FileSource<'a, P>,
+        place: u32,
+        word: u64,
+        guest: &Guest,
+    ) -> Result<bool, Stop<Cause>> {
+        Outlines.check_entry(src, place, word, guest)
     }
 
     fn fault_at_end(alloc: Global, guest: &Guest) -> Result<(), WholeAnswer> {
