@@ -32,7 +32,7 @@ pub use Rattle.mig_headers.specs.declared.kind.Kind.TheVariants.{Hvm, Pv}
 pub use Rattle.mig_headers.specs.RecordTypes.{most_policy_entries}
 pub use Rattle.mig_host.specs.Changes.{exchanged, put_or_stay, raw_page_at, retyped, without_frame}
 pub use Rattle.mig_host.specs.HostView.{AreBelowLimit, AreInverse, AreMatched, HostAndSpare, IsMade, MachineMap, MachinesAndSpare, host_seen, machine_in, pfn_of_machine_in, put_frame, put_part_in, with_machine, with_machines}
-pub use Rattle.mig_host.specs.Hosted.{IsBaseOutside, hosted, hosted_width, least_width, mfn_in, rank_in}
+pub use Rattle.mig_host.specs.Hosted.{IsBaseOutside, with_machines_from, hosted, hosted_width, least_width, mfn_in, rank_in}
 pub use Rattle.mig_host_view.proofs.SoundRows.{sound_is_faultless}
 pub use Rattle.mig_host_view.specs.Localised.{localised, localised_frame, localised_of, renamed_part}
 pub use Rattle.mig_host_view.specs.Normalised.{cut_by, normalised, part_seen}

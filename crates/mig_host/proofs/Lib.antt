@@ -1,5 +1,6 @@
 pub mod Common
 pub mod Copies
+pub mod CountedUp
 pub mod HostLookups
 pub mod HostMaps
 pub mod HostViews

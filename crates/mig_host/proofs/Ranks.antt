@@ -4,18 +4,18 @@ use Rattle.mig_host.proofs.InOrder.{each_entry, nat_rises}
 use Rattle.std.specs.FinMap as maps
 
 -- 1 for a test that is passed
-abbrev one : Bool → ℕ
+abbrev pub one : Bool → ℕ
 one b = cond b 1 0
 
-counts : (a p : ℕ) → ((a < p) × (one (nat_lt a p) ≡ 1)) ⊎ ((p ≤ a) × (one (nat_lt a p) ≡ 0))
+pub counts : (a p : ℕ) → ((a < p) × (one (nat_lt a p) ≡ 1)) ⊎ ((p ≤ a) × (one (nat_lt a p) ≡ 0))
 counts a p = elim (cases_lt a p) [ inl lt ↦ inl (lt, ap one (lt-ltb a p lt)) | inr ge ↦ inr (ge, ap one (le-ltb a p ge)) ]
 
 module _ {X : Type 0} where
   -- how many of the entries have a number below p
-  abbrev below : ℕ → List (ℕ × X) → ℕ
+  abbrev pub below : ℕ → List (ℕ × X) → ℕ
   below p es = length (filter (λ e. nat_lt e.0 p) es)
 
-  below_next : (p : ℕ) (e : ℕ × X) (es : List (ℕ × X)) → below p (e ∷ es) ≡ one (nat_lt e.0 p) + below p es
+  pub below_next : (p : ℕ) (e : ℕ × X) (es : List (ℕ × X)) → below p (e ∷ es) ≡ one (nat_lt e.0 p) + below p es
   below_next p e es = by (nat_lt e.0 p) (filter (λ e. nat_lt e.0 p) es)
     where
       by : (b : Bool) (l : List (ℕ × X)) → length (cond b (e ∷ l) l) ≡ one b + length l

@@ -1,10 +1,10 @@
 -- The host that a restored guest becomes: machine frames are counted up from a base.
 use Rattle.std.specs.Prelude.{ℕ, ◌+◌, ◌<◌, ◌⊎◌, ◌≡◌, List, [], ◌∷◌, length, max, filter, nat_lt, Option}
-use Rattle.mig_host.specs.Common.{option_map, Kind, Pv, Hvm, FrameMap, GuestOf, HostOf, machine_limit}
+use Rattle.mig_host.specs.Common.{option_map, Kind, Pv, Hvm, FrameMap, FrameOf, GuestOf, HostFrame, HostOf, IsWhole, machine_limit}
 use Rattle.std.specs.FinMap as maps
 use Rattle.mig_guest.specs.Formed.{width_of}
 use Rattle.mig_host_view.specs.Localised.{localised}
-use Rattle.mig_host.specs.HostView.{with_machines}
+use Rattle.mig_host.specs.HostView.{with_machine, with_machines}
 
 -- how many of the frames have a smaller PFN
 abbrev pub rank_in : FrameMap → ℕ → ℕ
@@ -36,3 +36,13 @@ hosted g base = record {
 -- machine frames from the base on don't lie from 1 to 2 ^ 40 - 1
 abbrev pub IsBaseOutside : GuestOf → ℕ → Type 0
 IsBaseOutside g base = (base ≡ 0) ⊎ (machine_limit < base + length (maps.entries g.frames))
+
+-- what is asked of a guest and a base: the guest is whole, and the machine frames from the base on lie in that range
+pub record CanBeHosted (base : ℕ) (g : GuestOf) : Type 0 where
+  pub whole : IsWhole g
+  pub inside : IsBaseOutside g base → ⊥
+
+-- frames in their order, the first with this machine frame, and each later one with the next
+abbrev pub with_machines_from : ℕ → List (ℕ × FrameOf) → List (ℕ × HostFrame)
+with_machines_from machine [] = []
+with_machines_from machine (e ∷ es) = (e.0, with_machine e.1 machine) ∷ with_machines_from (machine + 1) es

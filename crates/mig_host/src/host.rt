@@ -206,7 +206,7 @@ impl Host {
     }
 
     /// The parts, to look at.
-    pub(crate) fn parts(&self) -> &Parts
+    pub fn parts(&self) -> &Parts
         ensures value { result.now ≡ self.now.host.parts }
         ensures valid { IsValid self.now.host }
     {
