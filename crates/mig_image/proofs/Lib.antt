@@ -3,6 +3,7 @@ pub mod Chains
 pub mod FieldBytes
 pub mod FrameHeads
 pub mod Frames
+pub mod HostedFrames
 pub mod ImageBack
 pub mod ImageFronts
 pub mod ImageReads

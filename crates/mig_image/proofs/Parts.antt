@@ -4,9 +4,14 @@ use Rattle.std.specs.FinMap as maps
 use Rattle.mig_bytes.specs.Fields.{le32}
 use Rattle.mig_headers.specs.Pairs.{are_canonical_pairs, AreCanonicalPairs}
 use Rattle.mig_headers.proofs.PairTexts.{canonical_pairs_are_computed}
+use Rattle.mig_guest.proofs.PartRows.{host_part}
+use Rattle.mig_guest.specs.Formed.{IsFormed, IsPart, width_of}
+use Rattle.mig_guest.specs.Guests.{GuestOf}
 use Rattle.mig_guest.specs.declared.part_code.PartCode.{PartCode}
 use Rattle.mig_guest.specs.declared.part_code.PartCode.TheVariants.{EmulatorPairs, CpuidLeaf, Msr, P2mFrames}
 use Rattle.mig_guest.specs.PartCodes.{code_number, code_of_number, row_of}
+use Rattle.mig_host.proofs.HostsMade.{valid_empty}
+use Rattle.mig_image.specs.Behind.{HaveRoom}
 use Rattle.mig_image.specs.GuestImage.{part_head_of}
 use Rattle.mig_image.proofs.FieldBytes.{word_then, word_last, regroup}
 use Rattle.mig_image.proofs.ZeroPages.{all_zero, only_zeros}
@@ -302,6 +307,29 @@ parts_few g valid =
     let leaves = valid.leaves in
     let msrs = valid.msrs in
     omega (arith, split es, bound, leaves, msrs)
+
+-- the parts of a valid host have room in an image
+pub parts_of_host : (h : HostOf) → IsValid h → HaveRoom h.parts
+parts_of_host h valid = record {
+  few = parts_few h valid;
+  short = λ key bytes found. let part = valid.parts key bytes found in len_small part.code h.kind h.width (length bytes) (valid_narrow h valid) part.of_kind part.len;
+}
+
+-- so do those of an HVM guest, which a host may have
+pub parts_of_guest : (g : GuestOf) → g.kind ≡ Hvm → IsFormed g → HaveRoom g.parts
+parts_of_guest g hvm formed =
+    let none = valid_empty Hvm 0 (omega arith) (λ is. let no : Hvm ≡ Pv = is in cc) (λ is. let no : Hvm ≡ Pv = is in cc) in
+    parts_of_host (record { kind = Hvm; width = 0; frames = maps.empty; parts = g.parts }) (record {
+      width = none.width;
+      some_width = none.some_width;
+      pv_width = none.pv_width;
+      frames = none.frames;
+      one_to_one = none.one_to_one;
+      few = none.few;
+      parts = λ key bytes found. host_part (width_of g) 0 key bytes (subst (λ (k : Kind). IsPart k (width_of g) key bytes) hvm (formed.parts key bytes found));
+      leaves = formed.policies 17 refl;
+      msrs = formed.policies 18 refl;
+    })
 
 -- ---- a head
 

@@ -1,11 +1,11 @@
 -- The pieces of an image, as they are put together and written one behind the other.
-use Rattle.mig_image.proofs.Common.{◌≡◌, ℕ, ◌+◌, ◌<◌, ◌≤◌, List, [], ◌∷◌, ◌++◌, length, take, drop, Option, Result, refl, sym, ap, subst, ◌∙◌, arith, take-append-drop, drop-drop, append-nil, ◌^◌, codes, length-drop, flat_map-append, take_all, All-head, All-drop, All-from_recursion, All, AllByRecursion, flat_map, IsErrAnd, Appends, little_bytes, AppendsPart, Puts, puts_then, puts_stop, puts_same, kind_number, Kind, PartKey, HostOf, IsHostPart, IsValid, part_total, part_exact, frame_text, part_text, Two, Appends-trans, each_entry}
+use Rattle.mig_image.proofs.Common.{◌≡◌, ℕ, ◌+◌, ◌<◌, ◌≤◌, List, [], ◌∷◌, ◌++◌, length, take, drop, Option, Result, refl, sym, ap, subst, ◌∙◌, arith, take-append-drop, drop-drop, append-nil, ◌^◌, codes, length-drop, flat_map-append, take_all, All-head, All-drop, All-from_recursion, All, AllByRecursion, flat_map, IsErrAnd, Appends, little_bytes, AppendsPart, Puts, puts_then, puts_stop, puts_same, kind_number, Kind, PartKey, HostOf, PartMap, part_total, part_exact, frame_text, Two, Appends-trans, each_entry}
 use Rattle.std.proofs.lemmas.List.{length-drop}
 use Rattle.std.proofs.Math.Seq.{take-add}
 use Rattle.std.specs.FinMap as maps
 use Rattle.mig_bytes.specs.declared.failure.WriteFailed.{WriteFailed}
+use Rattle.mig_image.specs.Behind.{HaveRoom, parts_text}
 use Rattle.mig_image.specs.GuestImage.{host_head, guest_image}
-use Rattle.mig_image.proofs.Parts.{len_small, valid_narrow}
 
 module _ {X : Type 0} where
   pub drop_next : (i : ℕ) (xs rest : List X) (x : X) → drop i xs ≡ x ∷ rest → drop (i + 1) xs ≡ rest
@@ -43,15 +43,13 @@ pub walked : {Y : Type 0} (F : Y → List ℕ) (all : List Y) (i n : ℕ) (a b :
 walked F all i n a b done is before = subst (λ l. Appends a b (flat_map F l)) (take_all i all (omega (arith, is))) before
 
 -- the image of a host, where its numbers are told
-pub image_is : (h : HostOf) (head : List ℕ) (kind : Kind) (width frames parts : ℕ)
+pub image_is : (h : HostOf) (head : List ℕ) (kind : Kind) (width frames : ℕ)
     → head ≡ codes "XGIMAGE2" ++ (little_bytes 4 (kind_number kind) ++ (little_bytes 4 0 ++ (little_bytes 8 width ++ little_bytes 8 frames)))
-    → kind ≡ h.kind → width ≡ h.width → frames ≡ maps.len h.frames → parts ≡ length (maps.entries h.parts)
-    → guest_image Two h ≡ head ++ (flat_map (frame_text Two) (maps.entries h.frames) ++ (little_bytes 8 parts ++ flat_map part_text (maps.entries h.parts)))
+    → kind ≡ h.kind → width ≡ h.width → frames ≡ maps.len h.frames
+    → guest_image Two h ≡ head ++ (flat_map (frame_text Two) (maps.entries h.frames) ++ parts_text h.parts)
 unfolding guest_image host_head
-image_is h head kind width frames parts is k w f p = rw (is, k, w, f, maps.len-entries h.frames, p) refl
+image_is h head kind width frames is k w f = rw (is, k, w, f, maps.len-entries h.frames) refl
 
--- a part of a valid host has a length of 32 bits
-pub part_small : (h : HostOf) (i : ℕ) (e : PartKey × List ℕ) (rest : List (PartKey × List ℕ)) → IsValid h → drop i (maps.entries h.parts) ≡ e ∷ rest → length e.1 < 2 ^ 32
-part_small h i e rest valid is =
-    let part = holds_at (λ (e : PartKey × List ℕ). IsHostPart h.kind h.width e.0 e.1) i (maps.entries h.parts) rest e is (each_entry part_total part_exact (IsHostPart h.kind h.width) h.parts valid.parts) in
-    len_small part.code h.kind h.width (length e.1) (valid_narrow h valid) part.of_kind part.len
+-- a part has a length of 32 bits, where they have room
+pub part_short : (parts : PartMap) (i : ℕ) (e : PartKey × List ℕ) (rest : List (PartKey × List ℕ)) → HaveRoom parts → drop i (maps.entries parts) ≡ e ∷ rest → length e.1 < 2 ^ 32
+part_short parts i e rest room is = holds_at (λ (e : PartKey × List ℕ). length e.1 < 2 ^ 32) i (maps.entries parts) rest e is (each_entry part_total part_exact (λ k b. length b < 2 ^ 32) parts room.short)

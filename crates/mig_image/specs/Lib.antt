@@ -6,3 +6,5 @@ pub mod Answer
 pub mod PartCounts
 pub mod FrameEnds
 pub mod GuestImageLaws
+pub mod Behind
+pub mod PagesHeld

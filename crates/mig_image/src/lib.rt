@@ -10,6 +10,7 @@
 
 mod frame;
 mod head;
+mod hosted;
 mod law;
 mod read;
 mod read_part;
@@ -17,6 +18,7 @@ mod version;
 mod write;
 mod zeros;
 
+pub use hosted::write_hosted;
 pub use law::{
     frames_ascend, guest_images_have_sizes, hosts_have_guest_images, image_is_judged,
     judged_is_image, one_image, zero_pages_are_left_out,

@@ -1,14 +1,15 @@
 ghost use Rattle.std.specs.Prelude.{◌≡◌, ◌+◌, ◌≤◌, ◌<◌, ◌^◌, ℕ, List, Option, ◌++◌, ◌*◌, length, take, drop, codes};
-ghost use Rattle.mig_image.specs.Common.{flat_map, little_bytes, Puts, with_field, FaultHasCause, kind_number, pfn_limit, IsValid, entries_from, number_of};
+ghost use Rattle.mig_image.specs.Common.{flat_map, little_bytes, Puts, with_field, FaultHasCause, kind_number, pfn_limit, entries_from, number_of};
 ghost use Rattle.std.specs.FinMap as maps;
 ghost use Rattle.std.specs.Option.{option_copied};
 ghost use Rattle.mig_image.specs.declared.version.GuestImageVersion.TheVariants.{Two};
 ghost use Rattle.mig_image.specs.GuestImage.{frame_head_of, frame_text, is_left_out, part_head_of, part_text, guest_image, zero_flag};
+ghost use Rattle.mig_image.specs.Behind.{HaveRoom, parts_text};
 
 use crate::head::NAME_TWO;
 use crate::zeros::is_all_zero;
 use mig_bytes::{Sink, WriteFailed, pad_len, put_all, put_u32_le, put_u64_be, put_u64_le};
-use mig_guest::PartKey;
+use mig_guest::{PartKey, Parts};
 use mig_headers::Kind;
 use mig_host::Host;
 use mig_pagetypes::PageType;
@@ -24,7 +25,7 @@ fn number_in_head(kind: Kind) -> u32
 }
 
 /// The head of an image of version 2 with these numbers.
-fn head_bytes(kind: Kind, width: u64, frames: u64) -> [u8; 32]
+pub(crate) fn head_bytes(kind: Kind, width: u64, frames: u64) -> [u8; 32]
     ensures { result ≡ codes "XGIMAGE2" ++ (little_bytes 4 (kind_number kind) ++ (little_bytes 4 0 ++ (little_bytes 8 width ++ little_bytes 8 frames))) }
 {
     let mut head = [0; 32];
@@ -83,7 +84,7 @@ fn part_head(key: PartKey, len: u32) -> [u8; 16]
 const GATHERED: u64 = 4;
 
 /// Room for the frames of one write, with their pages.
-fn no_bytes() -> [u8; 16448] {
+pub(crate) fn no_bytes() -> [u8; 16448] {
     [0; 16448]
 }
 
@@ -96,7 +97,7 @@ fn put_bytes(buffer: &mut [u8], at: usize, bytes: &[u8])
 }
 
 /// Puts a frame behind so many bytes; answers how many there are then.
-fn put_frame(
+pub(crate) fn put_frame(
     buffer: &mut [u8],
     used: usize,
     pfn: u64,
@@ -166,14 +167,13 @@ fn write_frames<K: Sink>(sink: &mut K, host: &Host) -> Result<(), WriteFailed>
 }
 
 /// The number of parts.
-#[tactic(auto, using(crate::proofs::Parts::parts_few))]
-fn count_parts(host: &Host) -> u64
-    requires { IsValid host.now.host }
-    ensures { result ≡ length (maps.entries host.now.host.parts) }
+fn count_parts(parts: &Parts) -> u64
+    requires { length (maps.entries parts.now) < 2 ^ 64 }
+    ensures { result ≡ length (maps.entries parts.now) }
 {
     let mut count = 0;
     let mut after = None;
-    while let Some((key, _)) = host.next_behind(after) {
+    while let Some((key, _)) = parts.next_behind(after) {
         count += 1;
         after = Some(key);
     }
@@ -201,16 +201,16 @@ fn write_part<K: Sink>(sink: &mut K, key: PartKey, bytes: &[u8]) -> Result<(), W
 }
 
 /// Appends so many parts, which are all.
-#[tactic(auto, using(crate::proofs::Writers::part_small, crate::proofs::Writers::not_ended))]
-fn write_parts<K: Sink>(sink: &mut K, host: &Host, count: u64) -> Result<(), WriteFailed>
-    requires valid { IsValid host.now.host }
-    requires count { count ≡ length (maps.entries host.now.host.parts) }
-    ensures bytes { Puts (flat_map part_text (maps.entries host.now.host.parts)) (K.written sink.old) (K.written sink.new) result }
+#[tactic(auto, using(crate::proofs::Writers::part_short, crate::proofs::Writers::not_ended))]
+fn write_parts<K: Sink>(sink: &mut K, parts: &Parts, count: u64) -> Result<(), WriteFailed>
+    requires room { HaveRoom parts.now }
+    requires count { count ≡ length (maps.entries parts.now) }
+    ensures bytes { Puts (flat_map part_text (maps.entries parts.now)) (K.written sink.old) (K.written sink.new) result }
     ensures cause { FaultHasCause (K.faults sink.old) (K.faults sink.new) result }
 {
     let mut after = None;
     for _ in 0..count {
-        match host.next_behind(after) {
+        match parts.next_behind(after) {
             Some((key, bytes)) => {
                 write_part(sink, key, bytes)?;
                 after = Some(key);
@@ -221,6 +221,17 @@ fn write_parts<K: Sink>(sink: &mut K, host: &Host, count: u64) -> Result<(), Wri
     Ok(())
 }
 
+/// Appends what stands behind the frames: the number of parts, and the parts.
+pub(crate) fn write_behind<K: Sink>(sink: &mut K, parts: &Parts) -> Result<(), WriteFailed>
+    requires { HaveRoom parts.now }
+    ensures bytes { Puts (parts_text parts.now) (K.written sink.old) (K.written sink.new) result }
+    ensures cause { FaultHasCause (K.faults sink.old) (K.faults sink.new) result }
+{
+    let count = count_parts(parts);
+    write_count(sink, count)?;
+    write_parts(sink, parts, count)
+}
+
 /// Appends the image of the host, of version 2. It takes no memory. After a failed write a part of the image is appended.
 pub fn write_host<K: Sink>(sink: &mut K, host: &Host) -> Result<(), WriteFailed>
     ensures bytes { Puts (guest_image Two host.now.host) (K.written sink.old) (K.written sink.new) result }
@@ -228,7 +239,5 @@ pub fn write_host<K: Sink>(sink: &mut K, host: &Host) -> Result<(), WriteFailed>
 {
     put_all(sink, &head_bytes(host.kind(), host.width(), host.frames()))?;
     write_frames(sink, host)?;
-    let count = count_parts(host);
-    write_count(sink, count)?;
-    write_parts(sink, host, count)
+    write_behind(sink, host.parts())
 }
