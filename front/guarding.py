@@ -37,20 +37,26 @@ def memory_to_take() -> int:
     return memory_there() // 10 * TENTHS
 
 
-def guard(process: 'subprocess.Popen[bytes]', most: int) -> None:
-    """Has a process that was just started take so much memory at most, and has the system end it first where memory ends, and not
-    what the machine needs."""
-    try:
-        with open('/proc/%d/oom_score_adj' % process.pid, 'w', encoding='ascii') as score:
-            score.write(str(FIRST_KILLED))
-    except OSError:                                  # it has ended, or the system has no such file
-        pass
+def limit(process: 'subprocess.Popen[bytes]', most: int) -> None:
+    """Has a process that was just started take so much memory at most."""
     try:
         _, greatest = resource.prlimit(process.pid, resource.RLIMIT_AS)
         if greatest == resource.RLIM_INFINITY or most < greatest:
             resource.prlimit(process.pid, resource.RLIMIT_AS, (most, most))
     except (OSError, ValueError, OverflowError):     # it has ended
         pass
+
+
+def is_killed_first(process: 'subprocess.Popen[bytes]') -> bool:
+    """Has the system end a process first where memory ends, and not what the machine needs; whether this thread may say so."""
+    try:
+        with open('/proc/%d/oom_score_adj' % process.pid, 'w', encoding='ascii') as score:
+            score.write(str(FIRST_KILLED))
+    except PermissionError:
+        return False
+    except OSError:                                  # it has ended, or the system has no such file
+        pass
+    return True
 
 
 def told_of(fault: BaseException) -> str:

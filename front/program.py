@@ -6,7 +6,7 @@ import threading
 from collections import namedtuple
 
 from front import errors, privileges, resolve
-from front.guarding import guard, memory_to_take
+from front.guarding import is_killed_first, limit, memory_to_take
 from front.progress import LINE
 from front.text import shown
 
@@ -100,20 +100,23 @@ class Running:
         start. Where signals aren't restored a limit of file sizes is a write fault, too."""
         if self.stopped:
             raise self.stopped
-        lowered, limit = self.lowered(), self.most() if most is None else most
+        lowered, at_most = self.lowered(), self.most() if most is None else most
         path, files = lowered.runnable(name)
 
         def started(starter: privileges.Starter) -> 'subprocess.Popen[bytes]':
             starter.give(reopens and starter.is_closed(more['stdin']))
             process = subprocess.Popen([shown(os.path.basename(name)), *words], executable=path, stderr=PIPE, pass_fds=files,
                                        start_new_session=bool(lowered.user), **more)  # no terminal of root's, in which it could type
-            guard(process, limit)
+            limit(process, at_most)
             self.processes.add(process)
             if self.stopped:                         # meanwhile, in another thread
                 process.kill()
             return process
 
-        return lowered.call(started)  # type: ignore[no-any-return]
+        process = lowered.call(started)  # type: subprocess.Popen[bytes]
+        if not is_killed_first(process):             # its file is root's until it has wholly begun, and then its user's
+            lowered.call(lambda _: is_killed_first(process))
+        return process
 
     def said_by(self, process: 'subprocess.Popen[bytes]') -> 'Tuple[int, str]':
         """What a program that was started wrote on standard error up to its end, and its status."""
