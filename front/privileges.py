@@ -24,6 +24,7 @@ KEEP_CAPABILITIES, SET_NO_NEW, GET_NO_NEW, AMBIENT = 8, 38, 39, 47  # of prctl
 RAISE = 2                                            # of AMBIENT
 READ_ALL = 2                                         # CAP_DAC_READ_SEARCH: to read each file, and look into each folder
 VERSION_3 = 0x20080522                               # of capget and capset: two words for each set
+STACK = 1 << 20                                      # bytes of a thread's; else it's as large as the limit of this process allows
 JOIN_SESSION = 1                                     # of keyctl: to get an empty keyring, with the name NULL
 NO_KEYRINGS = errno.ENOSYS, errno.EPERM              # a kernel that has none, or a container that lets nobody have some
 
@@ -121,7 +122,11 @@ class Starter:
         self.function, self.answer, self.fault = None, None, None  # type: Any, Any, Optional[BaseException]
         self.wanted.acquire()
         self.ended.acquire()
-        threading.Thread(target=self.work, daemon=True).start()
+        before = threading.stack_size(STACK)
+        try:
+            threading.Thread(target=self.work, daemon=True).start()
+        finally:
+            threading.stack_size(before)
         self.call(lambda: self.lower(user))
 
     def work(self) -> None:
@@ -187,6 +192,8 @@ class Lowered:
     def made(self) -> Starter:
         try:
             return Starter(self.kernel, self.user)
+        except RuntimeError:                         # python3 could start no thread
+            raise errors.Refused(errors.NO_MEMORY, 'no thread could be started: memory is short, or the limit of processes') from None
         except OSError as fault:
             why = '%s: %s' % (fault.filename, fault.strerror)
             raise errors.NoProgram('nothing is started: %s' % why if not self.user else 'nothing is started, since it would not run as %s: '
