@@ -206,7 +206,7 @@ def place_of(source: 'Any', begins: int, command: str, place: str) -> 'Optional[
         return None
     try:
         return OF_COMMAND.get(command, stream_place)(source, begins, place.split())
-    except errors.Lost:
+    except (errors.Lost, IndexError):                # a part without the number that it has to have is no place
         return None
 
 
