@@ -10,3 +10,4 @@ pub mod Relaying
 pub mod Showing
 pub mod Tallied
 pub mod Placed
+pub mod PlacedImages

@@ -45,7 +45,7 @@ unfolding mean
 hvm_sent image hvm = ap (λ k. blank_of k (sent image.opening.kind image.records)) (sent_kind image.opening.kind image.records ∙ hvm)
 
 -- an outline, with the frames that its places read as, is the guest that is meant
-same_guest : (image : ImageOf) (s : StreamOf) (g : GuestOf) → g ≡ with_emulators (outline (sent image.opening.kind image.records)) (emulators_in s) → g.kind ≡ Hvm
+pub same_guest : (image : ImageOf) (s : StreamOf) (g : GuestOf) → g ≡ with_emulators (outline (sent image.opening.kind image.records)) (emulators_in s) → g.kind ≡ Hvm
     → with_frames g (sent image.opening.kind image.records).frames ≡ guest_of image s
 same_guest image s g is hvm =
     let kind : image.opening.kind ≡ Hvm = sym (sent_kind image.opening.kind image.records) ∙ sym (ap (λ (h : GuestOf). h.kind) is) ∙ hvm in
@@ -143,12 +143,12 @@ module _ {P : Type 0} (bytes : P → Option (List ℕ)) (placed : PlacedGuest P)
       by (Some input) is (inr (inr ends)) = subst (Comes (Some input)) (sym ends) tt
 
 -- with each of these the output may be written
-may_write : (outcome : Outcome) → IsCopied outcome → normalise_file_promise.MayWrite (status_of outcome)
+pub may_write : (outcome : Outcome) → IsCopied outcome → normalise_file_promise.MayWrite (status_of outcome)
 may_write outcome (inl is) = inl (ap status_of is)
 may_write outcome (inr (inl is)) = inr (inl (ap status_of is))
 may_write outcome (inr (inr is)) = inr (inr (ap status_of is))
 
-never_usage : (outcome : Outcome) → IsCopied outcome → outcome ≡ outcomes.Usage → ⊥
+pub never_usage : (outcome : Outcome) → IsCopied outcome → outcome ≡ outcomes.Usage → ⊥
 never_usage outcome (inl is) u = cc
 never_usage outcome (inr (inl is)) u = cc
 never_usage outcome (inr (inr is)) u = cc

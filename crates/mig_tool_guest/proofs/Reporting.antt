@@ -1,5 +1,5 @@
 -- What a command answers.
-use Rattle.mig_tool_guest.proofs.Common.{inl, inr, Appends, AppendsPart, Passes, AcceptedLegacy, StreamOf, ReadsStream, Outcome, Status, Reading, ◌⊎◌, ◌≡◌, ℕ, ◌++◌, List, arith, Option, Some, None, Result, Ok, Err, refl, sym, subst, GuestOf, AcceptedStream, Kind, Hvm, Pv, Accepting, Normalised, PartWritten, IsCarried, IsFew, IsBase, restored_text, InputRises, IsUnwritten, ComesTo, Effects, restore_promise, text_written, unwritten, status_of, accepted_is_stream, canon_any, stream_at, IsStreamReading, OutputRises}
+use Rattle.mig_tool_guest.proofs.Common.{inl, inr, Appends, AppendsPart, Passes, AcceptedLegacy, StreamOf, ReadsStream, Outcome, Status, Reading, ◌⊎◌, ◌≡◌, ℕ, ◌++◌, List, arith, Option, Some, None, Result, Ok, Err, refl, sym, subst, GuestOf, AcceptedStream, Kind, Hvm, Pv, Accepting, Normalised, PartWritten, Restored, IsCarried, IsFew, IsBase, restored_text, InputRises, IsUnwritten, ComesTo, Effects, restore_promise, text_written, unwritten, status_of, accepted_is_stream, canon_any, stream_at, IsStreamReading, OutputRises}
 use Rattle.mig_tool_guest.proofs.Says.{ConvertComes, NormaliseComes, RestoreComes}
 use Rattle.mig_bytes.specs.declared.failure.WriteFailed.{WriteFailed}
 use Rattle.mig_host.proofs.HostedGuests.{whole_valid, whole_sound, whole_seen}
@@ -64,7 +64,7 @@ module _ (told left old new : Option (List ℕ)) where
       by (Some input) (stream, rest, accepts, left_is, is_read) (inr is) =
           subst (ConvertComes (Some input) left old new) (sym is) (text_part AcceptedLegacy input rest left old new guest (accepted_legacy input rest stream guest accepts is_read) left_is (part is))
 
-whole_few : (g : GuestOf) → IsWhole g → IsFew g.frames
+pub whole_few : (g : GuestOf) → IsWhole g → IsFew g.frames
 whole_few g whole = by g.kind refl
   where
     by : (kind : Kind) → g.kind ≡ kind → IsFew g.frames
@@ -76,26 +76,32 @@ pub base_fits : (guest : GuestOf) (base : ℕ) → IsFew guest.frames → IsBase
 base_fits guest base few range (inl zero) = omega (arith, zero, range.0)
 base_fits guest base few range (inr above) = omega (arith, above, range.1, few)
 
+-- the image of an accepted front's guest was written
+pub whole_restored : (base : ℕ) (input rest : List ℕ) (left old new : Option (List ℕ)) (guest : GuestOf) → AcceptedStream input guest rest → left ≡ Some rest → IsCarried guest → IsBase base
+    → Appends old new (restored_text base guest) → Restored base input left old new
+whole_restored base input rest left old new guest accepted left_is carried range wrote =
+    let fits = base_fits guest base (whole_few guest carried.whole) range in
+    let valid = whole_valid guest base carried.whole fits in
+    record {
+      guest = guest;
+      rest = rest;
+      accepted = accepted;
+      left_is = left_is;
+      wrote = wrote;
+      carried = carried;
+      valid = valid;
+      sound = whole_sound guest base carried.whole carried.blank fits;
+      seen = whole_seen guest base carried.whole carried.blank fits;
+      kept = λ widest more narrow. image_reads widest (restored_text base guest ++ more) (hosted guest base) more (record { image = record { version = Two; valid = valid; holds = held (hosted guest base) valid; spelled = refl }; narrow = narrow });
+    }
+
 pub came_restored : (told left old new : Option (List ℕ)) (reading : Reading) (base : ℕ) (outcome : Outcome) → ReadsStream told left (Ok reading) → IsCarried reading.guest → IsBase base
     → (outcome ≡ outcomes.Done → Appends old new (restored_text base reading.guest)) → (outcome ≡ outcomes.WriteFault → AppendsPart old new (restored_text base reading.guest))
     → (outcome ≡ outcomes.Done) ⊎ ((outcome ≡ outcomes.WriteFault) ⊎ (outcome ≡ outcomes.Memory)) → RestoreComes base told left old new outcome
 came_restored None left old new reading base outcome h carried range done part answers = tt
 came_restored (Some input) left old new reading base outcome (stream, rest, accepts, left_is, is_read) carried range done part (inl is) =
-    let fits = base_fits reading.guest base (whole_few reading.guest carried.whole) range in
-    let valid = whole_valid reading.guest base carried.whole fits in
     subst (RestoreComes base (Some input) left old new) (sym is)
-    (record {
-      guest = reading.guest;
-      rest = rest;
-      accepted = accepted_front input rest stream reading accepts is_read;
-      left_is = left_is;
-      wrote = done is;
-      carried = carried;
-      valid = valid;
-      sound = whole_sound reading.guest base carried.whole carried.blank fits;
-      seen = whole_seen reading.guest base carried.whole carried.blank fits;
-      kept = λ widest more narrow. image_reads widest (restored_text base reading.guest ++ more) (hosted reading.guest base) more (record { image = record { version = Two; valid = valid; holds = held (hosted reading.guest base) valid; spelled = refl }; narrow = narrow });
-    })
+    (whole_restored base input rest left old new reading.guest (accepted_front input rest stream reading accepts is_read) left_is carried range (done is))
 came_restored (Some input) left old new reading base outcome (stream, rest, accepts, left_is, is_read) carried range done part (inr (inl is)) =
     subst (RestoreComes base (Some input) left old new) (sym is) (record { guest = reading.guest; rest = rest; accepted = accepted_front input rest stream reading accepts is_read; left_is = left_is; wrote = part is })
 came_restored (Some input) left old new reading base outcome h carried range done part (inr (inr is)) = subst (RestoreComes base (Some input) left old new) (sym is) tt

@@ -40,6 +40,10 @@ convert_file_promise = copies_text (HasFront AcceptedLegacy) HasLegacyRefusal (N
 abbrev pub restore_promise : ℕ → Promise
 restore_promise base = writes_text (HasFront AcceptedStream) HasStreamRefusal (Restored base) (PartWritten AcceptedStream (restored_text base))
 
+-- of a file it reads the pages once more, where it writes them
+abbrev pub restore_file_promise : ℕ → Promise
+restore_file_promise base = copies_text (HasFront AcceptedStream) HasStreamRefusal (Restored base) (PartWritten AcceptedStream (restored_text base))
+
 -- `verify` takes an accepted stream, and reports what it is
 abbrev pub verify_promise : Promise
 verify_promise = reports_line ok_line (HasFront AcceptedStream) HasStreamRefusal Verified

@@ -17,6 +17,7 @@ mod checks;
 mod commands;
 mod files;
 mod passing;
+mod restoring;
 mod shown;
 
 pub use addresses::{walk, walk_image};
@@ -24,4 +25,5 @@ pub use checks::{check, check_legacy};
 pub use commands::{convert, normalise, restore, verify};
 pub use files::{convert_file, normalise_file, verify_file};
 pub use passing::relay;
+pub use restoring::restore_file;
 pub use shown::show;
