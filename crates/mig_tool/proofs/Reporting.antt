@@ -61,7 +61,7 @@ text_copied Accepts Refuses Text Part e status came = record {
 pub as_it_comes : (command : Command) (e : Effects) (status : Status) → CarriedOut (promise_of command) e status → CarriedOut (promise_of_file command) e status
 as_it_comes Normalise e status came = text_copied (HasFront AcceptedStream) HasStreamRefusal (Normalised AcceptedStream) (PartWritten AcceptedStream canon_any) e status came
 as_it_comes Convert e status came = text_copied (HasFront AcceptedLegacy) HasLegacyRefusal (Normalised AcceptedLegacy) (PartWritten AcceptedLegacy canon_any) e status came
-as_it_comes (Restore base) e status came = came
+as_it_comes (Restore base) e status came = text_copied (HasFront AcceptedStream) HasStreamRefusal (Restored base) (PartWritten AcceptedStream (restored_text base)) e status came
 as_it_comes Verify e status came = came
 as_it_comes Save e status came = came
 as_it_comes (Exercise seed n) e status came = came
@@ -155,7 +155,7 @@ keeps_command command e status came = keeps (promise_of command) (settled comman
 
 settled_file : (command : Command) → IsSettled (promise_of_file command)
 settled_file Normalise = settled_copy (HasFront AcceptedStream) HasStreamRefusal (Normalised AcceptedStream) (PartWritten AcceptedStream canon_any) (settled Normalise)
-settled_file (Restore base) = settled (Restore base)
+settled_file (Restore base) = settled_copy (HasFront AcceptedStream) HasStreamRefusal (Restored base) (PartWritten AcceptedStream (restored_text base)) (settled (Restore base))
 settled_file Verify = settled Verify
 settled_file Convert = settled_copy (HasFront AcceptedLegacy) HasLegacyRefusal (Normalised AcceptedLegacy) (PartWritten AcceptedLegacy canon_any) (settled Convert)
 settled_file Save = settled Save

@@ -8,8 +8,8 @@ ghost use Rattle.mig_tool.specs.Promises.{promise_of, promise_of_file};
 use mig_bytes::{Sink, Source};
 use mig_file::{FileSource, PageFile};
 use mig_tool_guest::{
-    convert, convert_file, normalise, normalise_file, relay, restore, show, verify, verify_file,
-    walk, walk_image,
+    convert, convert_file, normalise, normalise_file, relay, restore, restore_file, show, verify,
+    verify_file, walk, walk_image,
 };
 use mig_tool_report::{Command, Status};
 use mig_tool_save::{exercise_told, save};
@@ -58,6 +58,7 @@ pub(crate) fn carry_out_file<P: PageFile, K: Sink, R: Sink>(
     match command {
         Command::Normalise => normalise_file(alloc, input, out, report),
         Command::Convert => convert_file(alloc, input, out, report),
+        Command::Restore(base) => restore_file(alloc, base, input, out, report),
         Command::Verify => verify_file(alloc, input, report),
         _ => carry_out(alloc, command, input, out, report),
     }

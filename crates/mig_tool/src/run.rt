@@ -37,8 +37,8 @@ pub fn run<S: Source, K: Sink, R: Sink>(
 }
 
 /// Does what the words say, as `run` does, of a file that is read from a place on. What it needs no page of, it reads none
-/// of: `show` reads those of page tables alone, and `verify` where the stream has no VERIFY; and `normalise` of an HVM guest and
-/// `convert` read each page where it is written, and keep none.
+/// of: `show` and `verify` read those of page tables alone, and `verify` those behind a VERIFY, with the pages that these are
+/// compared with; and `normalise` and `restore` of an HVM guest, and `convert`, read each page where it is written, and keep none.
 pub fn run_file<P: PageFile, K: Sink, R: Sink>(
     alloc: Global,
     words: &[String],
@@ -64,6 +64,12 @@ pub fn run_file<P: PageFile, K: Sink, R: Sink>(
 pub(crate) fn reads_by_place(words: &[String]) -> bool {
     matches!(
         command_in(words),
-        Some(Command::Normalise | Command::Convert | Command::Verify | Command::Show)
+        Some(
+            Command::Normalise
+                | Command::Convert
+                | Command::Restore(_)
+                | Command::Verify
+                | Command::Show
+        )
     )
 }

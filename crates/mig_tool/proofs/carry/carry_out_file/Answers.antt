@@ -14,6 +14,9 @@ returns-in-Normalise g c = of_same_file (commands.Normalise) _ _ _ (sym c.in-Nor
 pub returns-in-Convert : goal.returns-in-Convert
 returns-in-Convert g c = of_same_file (commands.Convert) _ _ _ (sym c.in-Convert.is) c.convert_file.ensures
 
+pub returns-in-Restore : goal.returns-in-Restore
+returns-in-Restore g c = of_same_file (commands.Restore c.in-Restore.base) _ _ _ (sym c.in-Restore.is) c.restore_file.ensures
+
 pub returns-in-Verify : goal.returns-in-Verify
 returns-in-Verify g c =
     of_same_file (commands.Verify) _ _ _ (sym c.in-Verify.is)
