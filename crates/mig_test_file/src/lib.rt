@@ -2,7 +2,8 @@
 //!
 //! Responsible for: each public call of mig_file and mig_placed at its work; frames that are written out of a file, in any
 //! order of their places, as they are out of memory, also where a page ends with the file; what is written where a read or
-//! a write fails; and the places that mig_placing notes of an image. They stand in a crate of their own, since a crate with
+//! a write fails; the places that mig_placing notes of an image; and the image of a host that is written out of a file, as it is out
+//! of memory. They stand in a crate of their own, since a crate with
 //! tests is proved twice.
 #![tactic(auto)]
 
@@ -10,6 +11,8 @@
 mod files;
 #[cfg(test)]
 mod frames;
+#[cfg(test)]
+mod hosted;
 #[cfg(test)]
 mod images;
 #[cfg(test)]

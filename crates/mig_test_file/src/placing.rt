@@ -7,7 +7,7 @@ use std::alloc::Global;
 use std::test::Fail;
 
 // Image header, domain header, STATIC_DATA_END, and HVM_CONTEXT with a header of 24 bytes and its end.
-const FRONT: [u8; 96] = [
+pub(crate) const FRONT: [u8; 96] = [
     0xff, 0xff, 0xff, 0xff, 0xff, 0xff, 0xff, 0xff, 0x58, 0x45, 0x4e, 0x46, 0, 0, 0, 3, 0, 0, 0, 0,
     0, 0, 0, 0, 2, 0, 0, 0, 0x0c, 0, 0, 0, 0, 0, 0, 0, 1, 0, 0, 0, 0x10, 0, 0, 0, 0, 0, 0, 0, 9, 0,
     0, 0, 0x28, 0, 0, 0, 1, 0, 0, 0, 0x18, 0, 0, 0, 0x11, 0x11, 0x11, 0x11, 0x11, 0x11, 0x11, 0x11,
