@@ -1,11 +1,13 @@
 -- What is kept of an image, as what is kept of a stream.
 use Rattle.mig_libxl.proofs.Common.{◌≡◌, List, Option, Some, None, Ok, refl, sym, ap, subst, ◌∙◌, ℕ, ImageOf, Reading, LibxlRecord, EmulatorsOf, Bare, Wrapped, Holds, IsLibxlBegun, IsLibxlSeen, WrapperSeen, Pv, false, IfSome, no_emulators, image_among, emulators_of, with_emulators, none_set, mean_kind, IsStreamedBare, Result, Err, same_Some, IfOk, mean, any_stop, AgreesWithJudging, Judged, Stop, Cause, Place, image_behind, Kind, IsClosed, StreamOf, IsStreamed}
-use Rattle.mig_libxl.specs.Reads.{IsStreamReading, IsStreamTally}
+use Rattle.mig_libxl.specs.Reads.{IsStreamComparison, IsStreamReading, IsStreamTally}
 use Rattle.mig_outline.specs.Judges.{IsTally}
 use Rattle.mig_outline.specs.declared.judge.Tally.{Tally}
 use Rattle.mig_libxl.specs.Placed.{IsPlacedStream}
 use Rattle.mig_outline.specs.Outline.{outline}
+use Rattle.mig_placing.specs.Compared.{IsComparison}
 use Rattle.mig_placing.specs.Placed.{IsPlacedImage}
+use Rattle.mig_placing.specs.declared.comparison.Comparison.{Comparison}
 use Rattle.mig_placing.specs.declared.guest.PlacedGuest.{PlacedGuest}
 use Rattle.mig_restore.specs.Reads.{IsReading as IsImageReading}
 use Rattle.mig_restore_form.proofs.Meaning.{sent_kind}
@@ -36,6 +38,13 @@ readings_told a b r h = told_as IsImageReading (λ reading image. IsStreamReadin
 
 pub tallies_told : (a b : Option (List ℕ)) (r : Result Tally (Stop (Place × Cause))) → AgreesWithJudging IsTally a b image_behind r → AgreesWithJudging (λ tally image. IsStreamTally tally (Bare image)) a b image_behind r
 tallies_told a b r h = told_as IsTally (λ tally image. IsStreamTally tally (Bare image)) bare_tally a b image_behind r h
+
+bare_comparison : (comparison : Comparison) (image : ImageOf) → IsComparison comparison image → IsStreamComparison comparison (Bare image)
+unfolding bare_tally
+bare_comparison comparison image c = record { tally = bare_tally comparison.tally image c.tally; differs = c.differs }
+
+pub comparisons_told : (a b : Option (List ℕ)) (r : Result Comparison (Stop (Place × Cause))) → AgreesWithJudging IsComparison a b image_behind r → AgreesWithJudging (λ comparison image. IsStreamComparison comparison (Bare image)) a b image_behind r
+comparisons_told a b r h = told_as IsComparison (λ comparison image. IsStreamComparison comparison (Bare image)) bare_comparison a b image_behind r h
 
 -- ---- what is kept of the image, where a stream ends
 
@@ -69,6 +78,10 @@ reading_whole reading whole e put image records is found same = rw put (record {
 
 pub tally_whole : (tally : Tally) (e : EmulatorsOf) (image : ImageOf) (records : List LibxlRecord) → IsTally tally image → image_among records ≡ Some image → e ≡ emulators_of records → IsStreamTally tally (Wrapped records)
 tally_whole tally e image records is found same = record { image = image; is = found; frames = is.frames; version = is.version; kind = is.kind; records = is.records; verified = is.verified }
+
+pub comparison_whole : (comparison : Comparison) (e : EmulatorsOf) (image : ImageOf) (records : List LibxlRecord) → IsComparison comparison image → image_among records ≡ Some image → e ≡ emulators_of records → IsStreamComparison comparison (Wrapped records)
+unfolding tally_whole
+comparison_whole comparison e image records is found same = record { tally = tally_whole comparison.tally e image records is.tally found same; differs = is.differs }
 
 -- ---- of a guest whose pages stay in a file
 

@@ -7,6 +7,7 @@ use Rattle.mig_headers.specs.declared.fault.Cause.{Cause}
 use Rattle.mig_headers.specs.declared.fault.Place.{Place}
 use Rattle.mig_restore_form.specs.Mean.{differs_of}
 use Rattle.mig_outline.specs.declared.judge.Tally.{Tally}
+use Rattle.mig_placing.specs.declared.comparison.Comparison.{Comparison}
 use Rattle.mig_restore.specs.declared.read.Reading.{Reading}
 
 -- a reading of a stream: the guest that it means, and of its image the version, the number of records, and how many entries
@@ -37,3 +38,8 @@ pub record IsStreamTally (tally : Tally) (s : StreamOf) : Type 0 where
 -- what a judge of streams answered, and what it left in the source, is what judging gives
 abbrev pub JudgesStream : Option (List ℕ) → Option (List ℕ) → Result Tally (Answer Place Cause) → Type 0
 JudgesStream old new result = AgreesWithJudging IsStreamTally old new stream_at (or_stop result)
+
+-- the same of a stream that was compared: a tally of it, and how many entries behind a VERIFY differ
+pub record IsStreamComparison (comparison : Comparison) (s : StreamOf) : Type 0 where
+  pub tally : IsStreamTally comparison.tally s
+  pub differs : comparison.differs ≡ differs_of tally.image.opening.kind tally.image.records

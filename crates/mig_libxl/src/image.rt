@@ -2,9 +2,10 @@ ghost use Rattle.std.specs.Prelude.{◌≡◌, IfOk, List, Some};
 ghost use Rattle.mig_libxl.specs.Common.{or_stop, RisesOnReadFault, AgreesWithJudging, Kind, Pv, image_among, LibxlRecord, AreEmulators, StreamOf, Bare, Wrapped, IsStreamed, IsStreamedBare, ImageOf, image_at, image_behind};
 ghost use Rattle.mig_guest.specs.Formed.{IsFormed};
 ghost use Rattle.mig_libxl.specs.Placed.{IsPlacedStream};
-ghost use Rattle.mig_libxl.specs.Reads.{IsStreamReading, IsStreamTally};
+ghost use Rattle.mig_libxl.specs.Reads.{IsStreamComparison, IsStreamReading, IsStreamTally};
 ghost use Rattle.mig_libxl_form.specs.Emulators.{emulators_of, no_emulators};
 ghost use Rattle.mig_outline.specs.Judges.{IsTally};
+ghost use Rattle.mig_placing.specs.Compared.{IsComparison};
 ghost use Rattle.mig_placing.specs.Placed.{IsPlacedImage};
 ghost use Rattle.mig_restore.specs.Reads.{IsReading as IsImageReading};
 ghost use Rattle.mig_restore_form.specs.Mean.{IsBegun};
@@ -14,7 +15,9 @@ use mig_file::{FileSource, PageFile};
 use mig_headers::Kind;
 use mig_libxl_form::Emulators;
 use mig_outline::{Tally, judge_image, judge_image_rest};
-use mig_placing::{PlacedGuest, place_image, place_image_rest};
+use mig_placing::{
+    Comparison, PlacedGuest, compare_image, compare_image_rest, place_image, place_image_rest,
+};
 use mig_restore::{Reading, StreamAnswer, read_image, read_image_rest};
 use std::alloc::Global;
 
@@ -123,6 +126,36 @@ impl<S: Source> TakesImage<S> for Tally {
 
     fn take_bare(alloc: Global, src: &mut S) -> Result<Tally, StreamAnswer> {
         judge_image_rest(alloc, src)
+    }
+}
+
+impl KeptImage for Comparison {
+    ghost is_of = { IsComparison };
+
+    ghost kept = { λ _. Unit {0} };
+
+    ghost kind_of = { λ comparison. comparison.tally.kind };
+
+    ghost is_of_stream = { IsStreamComparison };
+
+    ghost finished = { λ _. Unit {0} };
+
+    fn kind(&self) -> Kind {
+        self.tally.kind
+    }
+
+    fn finish(self, _emulators: Emulators) -> Result<Comparison, Memory> {
+        Ok(self)
+    }
+}
+
+impl<'a, P: PageFile> TakesImage<FileSource<'a, P>> for Comparison {
+    fn take(alloc: Global, src: &mut FileSource<'a, P>) -> Result<Comparison, StreamAnswer> {
+        compare_image(alloc, src)
+    }
+
+    fn take_bare(alloc: Global, src: &mut FileSource<'a, P>) -> Result<Comparison, StreamAnswer> {
+        compare_image_rest(alloc, src)
     }
 }
 

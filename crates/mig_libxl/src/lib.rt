@@ -9,7 +9,8 @@
 //!
 //! What the layers above rely on: `read_any` answers the guest that the accepted front of the input means, or the first
 //! fault with its place, and has taken just the accepted front, or all up to the end of the faulty part; `judge_any` accepts
-//! and refuses the same, and keeps no page but those of tables; `write_any` appends exactly the canonical stream of a guest,
+//! and refuses the same, and keeps no page but those of tables; nor does `compare_any`, which answers of a file how many
+//! entries behind a VERIFY differ, as `read_any` does; `write_any` appends exactly the canonical stream of a guest,
 //! which is accepted with this guest, and that of no other, and takes no memory.
 #![tactic(auto)]
 
@@ -19,7 +20,7 @@ mod read;
 mod write;
 
 pub use canon_law::{canon_is_accepted, canon_is_one_to_one, emulators_ascend, twice_is_once};
-pub use read::{judge_any, place_any, read_any};
+pub use read::{compare_any, judge_any, place_any, read_any};
 pub use write::{
     close_wrapper, open_wrapper, write_any, write_any_with, write_closing, write_emulator,
     write_opening,

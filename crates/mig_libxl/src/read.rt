@@ -12,7 +12,7 @@ ghost use Rattle.mig_libxl.specs.Seen.{IsLibxlSeen, IsLibxlBegun, IsClosed};
 ghost use Rattle.mig_file.specs.Files.{failed_in, left_in};
 ghost use Rattle.mig_guest.specs.Formed.{IsFormed};
 ghost use Rattle.mig_libxl.specs.Placed.{IsPlacedStream};
-ghost use Rattle.mig_libxl.specs.Reads.{ReadsStream, JudgesStream};
+ghost use Rattle.mig_libxl.specs.Reads.{IsStreamComparison, ReadsStream, JudgesStream};
 
 use crate::image::{KeptImage, TakesImage};
 use mig_bytes::{
@@ -27,7 +27,7 @@ use mig_libxl_form::{
     LIBXC_CONTEXT, LIBXL_END, RecordsBehind, libxl_head_fault,
 };
 use mig_outline::Tally;
-use mig_placing::PlacedGuest;
+use mig_placing::{Comparison, PlacedGuest};
 use mig_policy::{PairsAnswer, pairs_fault};
 use mig_records::{RecordHead, take_head, take_padding};
 use mig_restore::{Reading, StreamAnswer};
@@ -453,6 +453,22 @@ pub fn place_any<'a, P: PageFile>(
 {
     match read_form::<FileSource<'a, P>, PlacedGuest<'a, P>>(alloc, src) {
         Ok(placed) => Ok(placed),
+        Err(stop) => Err(answer_for(stop)),
+    }
+}
+
+/// Judges a stream of either form in a file, and leaves unread what `read_any` leaves. It keeps emulators and page tables, and
+/// no other page: an entry behind a VERIFY is compared with the page of its frame where that stands in the file. A page that
+/// can't be read there is a read fault.
+pub fn compare_any<'a, P: PageFile>(
+    alloc: Global,
+    src: &mut FileSource<'a, P>,
+) -> Result<Comparison, StreamAnswer>
+    ensures read { AgreesWithJudging IsStreamComparison (left_in P.bytes src.old) (left_in P.bytes src.new) stream_at (or_stop result) }
+    ensures faults { RisesOnReadFault (failed_in src.old) (failed_in src.new) (or_stop result) }
+{
+    match read_form::<FileSource<'a, P>, Comparison>(alloc, src) {
+        Ok(comparison) => Ok(comparison),
         Err(stop) => Err(answer_for(stop)),
     }
 }
