@@ -14,6 +14,7 @@ if TYPE_CHECKING:
 BESIDE = 64 << 20                                    # what a program takes beside a guest's pages
 # What mig_check may take: 16 bytes for each of 2^24 frames, a 256th of their pages for page tables, and what stands beside.
 MOST_OF_CHECK = (16 << 24) + (1 << 36 >> 8) + BESIDE
+MOST_OF_COMPARISON = MOST_OF_CHECK + (16 << 24)      # and mig_tool that compares in a file, which notes where each page stands
 
 
 def need_of(name: str) -> int:

@@ -114,7 +114,7 @@ class Cursor:
 
 class Regular:
     """A regular file, from the place on where it is open."""
-    is_walkable = True
+    is_walkable, is_by_place = True, False
 
     def __init__(self, fd: int, status: os.stat_result) -> None:
         self.fd, self.base, self.status = fd, os.lseek(fd, 0, os.SEEK_CUR), status
@@ -144,8 +144,8 @@ class Regular:
 
 
 class Plain(Regular):
-    """One that isn't packed."""
-    packed = None
+    """One that isn't packed. The program gets the file itself, and reads it by place."""
+    packed, is_by_place = None, True
 
     def __init__(self, fd: int, status: os.stat_result) -> None:
         super().__init__(fd, status)
@@ -180,6 +180,7 @@ class Plain(Regular):
 
 class Whole(Plain):
     """The same, of which the program gets every byte: what the disk can't give any more is noticed."""
+    is_by_place = False
 
     def input_from(self, offset: int) -> int:
         go_to(self.fd, self.base + offset)
@@ -277,7 +278,7 @@ class Packed(Regular):
 
 class Piped:
     """A pipe, a device or a socket: what was looked at is kept, and goes to the program first."""
-    packed, size, is_walkable = None, None, False
+    packed, size, is_walkable, is_by_place = None, None, False, False
 
     def __init__(self, fd: int) -> None:
         self.fd, self.kept, self.fed = fd, b'', 0

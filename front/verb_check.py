@@ -4,7 +4,7 @@ import sys
 
 from front import errors, forms, many, program, resolve, sources, verdict
 from front.files import chosen
-from front.sharing import MOST_OF_CHECK, Memory
+from front.sharing import MOST_OF_CHECK, MOST_OF_COMPARISON, Memory
 from front.text import put_lines
 from front.words import CHOICE, INPUT, at_once, in_json, takes_files, verb
 
@@ -20,7 +20,7 @@ COUNTED = verdict.OK, verdict.REFUSED, verdict.NO_SAVE, verdict.NOT_JUDGED, verd
 
 class Checks:
     """What is said of each file. mig_check judges it, which keeps no pages. With --compare mig_tool reads it once more where it has
-    frames that were sent again to be compared, and at once where it can't be read twice."""
+    frames that were sent again to be compared, and at once where it can't be read twice; it keeps pages where it can't read by place."""
 
     def __init__(self, words: 'Any') -> None:
         self.path, self.memory = program.find(resolve.CHECK), Memory(words.jobs)
@@ -38,6 +38,9 @@ class Checks:
         return self.compared(name, source) if self.tool and found.is_uncompared() else found
 
     def compared(self, name: str, source: 'Any') -> verdict.Verdict:
+        if source.is_by_place:
+            with self.memory.taken(MOST_OF_COMPARISON):
+                return verdict.compared(name, self.tool, source)
         return self.memory.given(name, lambda: verdict.compared(name, self.tool, source), source.is_walkable)
 
 
@@ -99,7 +102,8 @@ def offer(verbs: 'Any') -> None:
     words.add_argument('--read', dest='whole', action='store_true',
                        help="read every byte of each file, also those that nothing depends on, so that a disk that can't give them is noticed")
     words.add_argument('--compare', action='store_true',
-                       help='compare the frames that were sent again to be compared (VERIFY); that takes memory for the pages')
+                       help='compare the frames that were sent again to be compared (VERIFY); '
+                            'of what is packed or piped that takes memory for the pages')
     words.add_argument('--host', action='store_true', help='with --json: put the name of this host in each object')
     words.add_argument('--skip-seen', metavar='FILE',
                        help='with --json: pass over what FILE, of earlier such lines, tells of and is unchanged; FILE need not be there')

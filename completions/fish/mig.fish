@@ -32,7 +32,7 @@ complete -c mig -n '__fish_seen_subcommand_from check digest' -s j -x -d 'up to 
 complete -c mig -n '__fish_seen_subcommand_from check' -l json -d 'print one JSON object for each file, and no count'
 complete -c mig -n '__fish_seen_subcommand_from check' -s q -d 'print nothing of what was accepted but the count'
 complete -c mig -n '__fish_seen_subcommand_from check' -l read -d 'read every byte of each file, also those that nothing depends on, so that a disk that can\'t give them is noticed'
-complete -c mig -n '__fish_seen_subcommand_from check' -l compare -d 'compare the frames that were sent again to be compared (VERIFY); that takes memory for the pages'
+complete -c mig -n '__fish_seen_subcommand_from check' -l compare -d 'compare the frames that were sent again to be compared (VERIFY); of what is packed or piped that takes memory for the pages'
 complete -c mig -n '__fish_seen_subcommand_from check' -l host -d 'with --json: put the name of this host in each object'
 complete -c mig -n '__fish_seen_subcommand_from check' -l skip-seen -r -d 'with --json: pass over what FILE, of earlier such lines, tells of and is unchanged; FILE need not be there'
 complete -c mig -n '__fish_seen_subcommand_from compare' -l json -d 'print one JSON object, or one for each save that was refused'

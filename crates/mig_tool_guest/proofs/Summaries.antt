@@ -1,17 +1,16 @@
--- What is said of a stream that was read, or judged.
+-- What is said of a stream that was read, or compared in its file.
 use Rattle.mig_tool_guest.proofs.Common.{Passes, StreamOf, Status, ◌≡◌, ◌∙◌, ℕ, List, length, Option, Some, None, Result, Ok, Err, refl, sym, ap, subst, CarriedOut, GuestOf, SinkEffect, effects, AcceptedStream, Reading, mean_kind, Puts, accepted_is_stream, stream_at, IsStreamReading, ok_line, summary_of, verify_promise}
 use Rattle.mig_tool_guest.proofs.Reporting.{reported}
 use Rattle.mig_tool_guest.proofs.Says.{VerifySays}
 use Rattle.mig_tool_guest.specs.Fronts.{IsSummary, input_with}
 use Rattle.mig_bytes.specs.Judged.{AgreesWithJudging}
 use Rattle.mig_bytes.specs.declared.failure.WriteFailed.{WriteFailed}
-use Rattle.mig_libxl.specs.Reads.{IsStreamTally}
+use Rattle.mig_libxl.specs.Reads.{IsStreamComparison}
 use Rattle.mig_libxl_form.specs.Stream.{guest_of}
-use Rattle.mig_outline.specs.declared.judge.Tally.{Tally}
+use Rattle.mig_placing.specs.declared.comparison.Comparison.{Comparison}
 use Rattle.mig_restore_form.specs.Mean.{differs_of}
 use Rattle.mig_tool_report.specs.declared.outcome.Summary.{Summary}
 use Rattle.std.specs.FinMap as maps
-use Rattle.std.specs.Prelude.{false, is_some}
 
 -- that of a reading
 pub of_reading : (told left : Option (List ℕ)) (reading : Reading) (s : Summary) → s.version ≡ reading.version → s.kind ≡ reading.guest.kind → s.frames ≡ length (maps.entries reading.guest.frames) → s.records ≡ reading.records → s.differs ≡ reading.differs
@@ -25,20 +24,17 @@ of_reading (Some input) left reading s v k f n d (stream, rest, accepts, left_is
     let d' : s.differs ≡ differs_of is.image.opening.kind is.image.records = d ∙ is.differs in
     (stream, rest, accepts, left_is, record { image = is.image; is = is.is; said = λ i. record { version = v' i; kind = k' i; frames = f' i; records = n' i; differs = d' i } })
 
--- that of a tally, where nothing is compared
-none_there : (o : Option ℕ) → false ≡ is_some o → None ≡ o
-none_there None is = refl
-none_there (Some n) is = absurd (cc)
-
-pub of_tally : (told left : Option (List ℕ)) (tally : Tally) (s : Summary) → tally.verified ≡ false → s.version ≡ tally.version → s.kind ≡ tally.kind → s.frames ≡ tally.frames → s.records ≡ tally.records → s.differs ≡ None
-    → AgreesWithJudging IsStreamTally told left stream_at (Ok tally) → AgreesWithJudging IsSummary told left stream_at (Ok s)
-of_tally None left tally s none v k f n d h = tt
-of_tally (Some input) left tally s none v k f n d (stream, rest, accepts, left_is, is) =
+-- that of a comparison
+pub of_comparison : (told left : Option (List ℕ)) (comparison : Comparison) (s : Summary) → s.version ≡ comparison.tally.version → s.kind ≡ comparison.tally.kind → s.frames ≡ comparison.tally.frames → s.records ≡ comparison.tally.records → s.differs ≡ comparison.differs
+    → AgreesWithJudging IsStreamComparison told left stream_at (Ok comparison) → AgreesWithJudging IsSummary told left stream_at (Ok s)
+of_comparison None left comparison s v k f n d h = tt
+of_comparison (Some input) left comparison s v k f n d (stream, rest, accepts, left_is, compared) =
+    let is = compared.tally in
     let v' : s.version ≡ is.image.opening.version = v ∙ is.version in
     let k' : s.kind ≡ is.image.opening.kind = k ∙ is.kind in
     let f' : s.frames ≡ length (maps.entries (guest_of is.image stream).frames) = f ∙ is.frames ∙ maps.len-entries (guest_of is.image stream).frames in
     let n' : s.records ≡ length is.image.records = n ∙ is.records in
-    let d' : s.differs ≡ differs_of is.image.opening.kind is.image.records = d ∙ none_there (differs_of is.image.opening.kind is.image.records) (sym none ∙ is.verified) in
+    let d' : s.differs ≡ differs_of is.image.opening.kind is.image.records = d ∙ compared.differs in
     (stream, rest, accepts, left_is, record { image = is.image; is = is.is; said = λ i. record { version = v' i; kind = k' i; frames = f' i; records = n' i; differs = d' i } })
 
 -- ---- its line

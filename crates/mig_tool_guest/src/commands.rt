@@ -160,7 +160,7 @@ pub fn restore<S: Source, K: Sink, R: Sink>(
 }
 
 /// Reads a stream: what is said of it.
-pub(crate) fn summarised<S: Source>(alloc: Global, input: &mut S) -> Result<Summary, StreamAnswer>
+fn summarised<S: Source>(alloc: Global, input: &mut S) -> Result<Summary, StreamAnswer>
     ensures read { AgreesWithJudging IsSummary (S.left input.old) (S.left input.new) stream_at (or_stop result) }
     ensures faults { RisesOnReadFault (S.faults input.old) (S.faults input.new) (or_stop result) }
 {

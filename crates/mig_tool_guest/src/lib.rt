@@ -15,6 +15,7 @@
 mod addresses;
 mod checks;
 mod commands;
+mod comparing;
 mod files;
 mod passing;
 mod restoring;
