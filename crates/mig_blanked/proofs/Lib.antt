@@ -1,0 +1,4 @@
+pub mod Behind
+pub mod Formed
+pub mod Marks
+pub mod Outlines
