@@ -38,7 +38,8 @@ pub fn run<S: Source, K: Sink, R: Sink>(
 
 /// Does what the words say, as `run` does, of a file that is read from a place on. What it needs no page of, it reads none
 /// of: `show` and `verify` read those of page tables alone, and `verify` those behind a VERIFY, with the pages that these are
-/// compared with; and `normalise` and `restore` of an HVM guest, and `convert`, read each page where it is written, and keep none.
+/// compared with; and `normalise` and `convert`, and `restore` of an HVM guest, read each page where it is written, and keep
+/// none but those of page tables.
 pub fn run_file<P: PageFile, K: Sink, R: Sink>(
     alloc: Global,
     words: &[String],

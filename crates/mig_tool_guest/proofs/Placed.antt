@@ -66,27 +66,27 @@ same_legacy s g is =
 abbrev pub text_in : {P : Type 0} → PlacedGuest P → List ℕ → List ℕ
 text_in placed all = canon_any (with_frames placed.outline (frames_in_file (Some all) placed.places))
 
--- an accepted front of the input: the text of its guest is that of what was noted
-pub record Found {P : Type 0} (bytes : P → Option (List ℕ)) (placed : PlacedGuest P) (Accepts : Accepting) (left : Option (List ℕ)) (input : List ℕ) : Type 0 where
+-- an accepted front of the input: the text of its guest is what stands for it with the bytes of the file
+pub record Found {P : Type 0} (bytes : P → Option (List ℕ)) (file : P) (written : List ℕ → List ℕ) (Accepts : Accepting) (left : Option (List ℕ)) (input : List ℕ) : Type 0 where
   pub guest : GuestOf
   pub rest : List ℕ
   pub accepted : Accepts input guest rest
   pub left_is : left ≡ Some rest
   pub carried : IsCarried guest
   pub all : List ℕ
-  pub told : bytes placed.file.now ≡ Some all
-  pub text : text_in placed all ≡ canon_any guest
+  pub told : bytes file ≡ Some all
+  pub text : written all ≡ canon_any guest
 
 -- of every input that is told
-abbrev pub FindsAll : {P : Type 0} → (P → Option (List ℕ)) → PlacedGuest P → Accepting → (told left : Option (List ℕ)) → Type 0
-FindsAll bytes placed Accepts told left = (input : List ℕ) → told ≡ Some input → Found bytes placed Accepts left input
+abbrev pub FindsAll : {P : Type 0} → (P → Option (List ℕ)) → P → (List ℕ → List ℕ) → Accepting → (told left : Option (List ℕ)) → Type 0
+FindsAll bytes file written Accepts told left = (input : List ℕ) → told ≡ Some input → Found bytes file written Accepts left input
 
 module _ {P : Type 0} (bytes : P → Option (List ℕ)) (placed : PlacedGuest P) where
-  pub found_stream : placed.outline.kind ≡ Hvm → (told left : Option (List ℕ)) → IfSome told AreBytes → AgreesWithJudging {C = Place × Cause} (IsPlacedStream bytes) told left stream_at (Ok placed) → FindsAll bytes placed AcceptedStream told left
+  pub found_stream : placed.outline.kind ≡ Hvm → (told left : Option (List ℕ)) → IfSome told AreBytes → AgreesWithJudging {C = Place × Cause} (IsPlacedStream bytes) told left stream_at (Ok placed) → FindsAll bytes placed.file.now (text_in placed) AcceptedStream told left
   found_stream hvm None left are read input is = absurd (cc)
   found_stream hvm (Some input) left are (s, rest, accepts, left_is, h) other is =
       let accepted : AcceptedStream input (guest_of h.image s) rest = record { stream = s; image = h.image; spelled = accepted_is_stream input s rest accepts; image_is = h.is; means = refl } in
-      subst (Found bytes placed AcceptedStream left) (same_Some input other is)
+      subst (Found bytes placed.file.now (text_in placed) AcceptedStream left) (same_Some input other is)
       (record {
         guest = guest_of h.image s;
         rest = rest;
@@ -98,12 +98,12 @@ module _ {P : Type 0} (bytes : P → Option (List ℕ)) (placed : PlacedGuest P)
         text = ap (λ fs. canon_any (with_frames placed.outline fs)) h.frames ∙ ap canon_any (same_guest h.image s placed.outline h.guest hvm);
       })
 
-  pub found_legacy : (told left : Option (List ℕ)) → IfSome told AreBytes → AgreesWithJudging {C = LegacyPlace × LegacyCause} (IsPlacedLegacy bytes) told left legacy_at (Ok placed) → FindsAll bytes placed AcceptedLegacy told left
+  pub found_legacy : (told left : Option (List ℕ)) → IfSome told AreBytes → AgreesWithJudging {C = LegacyPlace × LegacyCause} (IsPlacedLegacy bytes) told left legacy_at (Ok placed) → FindsAll bytes placed.file.now (text_in placed) AcceptedLegacy told left
   found_legacy None left are read input is = absurd (cc)
   found_legacy (Some input) left are (s, rest, accepts, left_is, h) other is =
       let accepted = accepted_legacy input rest s (mean_legacy s) accepts refl in
       let whole = accepted_legacy_whole input (mean_legacy s) rest are accepted in
-      subst (Found bytes placed AcceptedLegacy left) (same_Some input other is)
+      subst (Found bytes placed.file.now (text_in placed) AcceptedLegacy left) (same_Some input other is)
       (record {
         guest = mean_legacy s;
         rest = rest;
@@ -120,17 +120,17 @@ module _ {P : Type 0} (bytes : P → Option (List ℕ)) (placed : PlacedGuest P)
 abbrev pub IsCopied : Outcome → Type 0
 IsCopied outcome = (outcome ≡ outcomes.Done) ⊎ ((outcome ≡ outcomes.WriteFault) ⊎ (outcome ≡ outcomes.ReadFault))
 
-module _ {P : Type 0} (bytes : P → Option (List ℕ)) (placed : PlacedGuest P) (Accepts : Accepting) (Refuses : Refusing) (told left old new : Option (List ℕ)) (found : FindsAll bytes placed Accepts told left) (outcome : Outcome) where
+module _ {P : Type 0} (bytes : P → Option (List ℕ)) (file : P) (written : List ℕ → List ℕ) (Accepts : Accepting) (Refuses : Refusing) (told left old new : Option (List ℕ)) (found : FindsAll bytes file written Accepts told left) (outcome : Outcome) where
   abbrev Comes : Option (List ℕ) → Outcome → Type 0
   Comes t o = OutcomeSays (λ input. Normalised Accepts input left old new) (λ input. PartWritten Accepts canon_any input left old new) Refuses t left o
 
-  pub part_copied : ((all : List ℕ) → bytes placed.file.now ≡ Some all → AppendsPart old new (text_in placed all)) → (input : List ℕ) → told ≡ Some input → PartWritten Accepts canon_any input left old new
+  pub part_copied : ((all : List ℕ) → bytes file ≡ Some all → AppendsPart old new (written all)) → (input : List ℕ) → told ≡ Some input → PartWritten Accepts canon_any input left old new
   part_copied wrote input is =
       let f = found input is in
       text_part Accepts input f.rest left old new f.guest f.accepted f.left_is (subst (AppendsPart old new) f.text (wrote f.all f.told))
 
-  pub came_copied : (outcome ≡ outcomes.Done → (all : List ℕ) → bytes placed.file.now ≡ Some all → Appends old new (text_in placed all))
-      → ((outcome ≡ outcomes.WriteFault) ⊎ (outcome ≡ outcomes.ReadFault) → (all : List ℕ) → bytes placed.file.now ≡ Some all → AppendsPart old new (text_in placed all))
+  pub came_copied : (outcome ≡ outcomes.Done → (all : List ℕ) → bytes file ≡ Some all → Appends old new (written all))
+      → ((outcome ≡ outcomes.WriteFault) ⊎ (outcome ≡ outcomes.ReadFault) → (all : List ℕ) → bytes file ≡ Some all → AppendsPart old new (written all))
       → IsCopied outcome → Comes told outcome
   came_copied done part answers = by told refl answers
     where

@@ -15,7 +15,8 @@ ghost use Rattle.mig_legacy.specs.Spelled.{AcceptedLegacy};
 ghost use Rattle.mig_tool_guest.specs.Promises.{convert_file_promise, normalise_file_promise, verify_promise};
 ghost use Rattle.mig_tool_report.specs.declared.outcome.Outcome.TheVariants as outcomes;
 
-use crate::commands::{normalised, tell_summary, unconverted, unread};
+use crate::blanked::write_taken_pv;
+use crate::commands::{tell_summary, unconverted, unread};
 use crate::comparing::compared_file;
 use mig_bytes::Sink;
 use mig_file::{FileSource, PageFile};
@@ -68,24 +69,23 @@ fn write_placed<P: PageFile, K: Sink>(
     }
 }
 
-/// Writes the canonical stream of a guest that was taken of a file up to here, with its pages in the file. One of a PV guest
-/// is read once more, with all pages.
+/// Writes the canonical stream of a guest that was taken of a file up to here, with its pages in the file.
 fn write_taken<'a, P: PageFile, K: Sink>(
     alloc: Global,
-    placed: &PlacedGuest<'a, P>,
+    placed: &mut PlacedGuest<'a, P>,
     taken: FileSource<'a, P>,
     input: &mut FileSource<'a, P>,
     out: &mut K,
 ) -> Outcome
-    requires read { AgreesWithJudging {C = Place × Cause} (IsPlacedStream P.bytes) (left_in P.bytes input.old) (left_in P.bytes taken) stream_at (Ok placed.now) }
-    requires formed { IsFormed placed.now.outline }
+    requires read { AgreesWithJudging {C = Place × Cause} (IsPlacedStream P.bytes) (left_in P.bytes input.old) (left_in P.bytes taken) stream_at (Ok placed.old) }
+    requires formed { IsFormed placed.old.outline }
     requires bytes { IfSome (P.bytes input.old.file.now) AreBytes }
     requires faults { failed_in taken ≡ failed_in input.old }
     ensures came { ComesTo normalise_file_promise (effects (input_effect (left_in P.bytes) failed_in input.old input.new) (sink_effect K.written K.faults out.old out.new) unreached) result }
     ensures part { result ≡ outcomes.ReadFault → (out.new ≡ out.old) ⊎ IsPartCopied (PartWritten AcceptedStream canon_any) (effects (input_effect (left_in P.bytes) failed_in input.old input.new) (sink_effect K.written K.faults out.old out.new) unreached) }
 {
     match placed.outline.kind() {
-        Kind::Pv => normalised(alloc, input, out),
+        Kind::Pv => write_taken_pv(alloc, placed, taken, input, out),
         Kind::Hvm => {
             *input = taken;
             write_placed(placed, input, out)
@@ -93,8 +93,8 @@ fn write_taken<'a, P: PageFile, K: Sink>(
     }
 }
 
-/// Reads a stream in a file, and writes it in its canonical form. Of an HVM guest it keeps no page: each is read again where
-/// it is written.
+/// Reads a stream in a file, and writes it in its canonical form. It keeps no page but those of page tables: each other one is
+/// read again where it is written.
 fn normalised_file<P: PageFile, K: Sink>(
     alloc: Global,
     input: &mut FileSource<'_, P>,
@@ -106,7 +106,7 @@ fn normalised_file<P: PageFile, K: Sink>(
     input.file().has_bytes();
     let mut taken = input.again();
     match place_any(alloc, &mut taken) {
-        Ok(placed) => write_taken(alloc, &placed, taken, input, out),
+        Ok(mut placed) => write_taken(alloc, &mut placed, taken, input, out),
         Err(answer) => {
             *input = taken;
             unread(answer)

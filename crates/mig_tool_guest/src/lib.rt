@@ -13,6 +13,7 @@
 #![tactic(auto)]
 
 mod addresses;
+mod blanked;
 mod checks;
 mod commands;
 mod comparing;
