@@ -26,10 +26,10 @@ def page_record(first):
     return struct.pack('<IIQ', 1, 8 + 512 * 8 + 512 * 4096, 512) + words + PAGES
 
 
-def hvm():
-    """The smallest stream with 4 MiB of pages."""
+def hvm(frames=FRAMES, behind=()):
+    """The smallest stream with pages, 4 MiB of them unless said otherwise, and these records behind them."""
     smallest = program.case('smallest-hvm')
-    return b''.join([smallest[:48], *(page_record(first) for first in range(0, FRAMES, 512)), smallest[48:]])
+    return b''.join([smallest[:48], *(page_record(first) for first in range(0, frames, 512)), *behind, smallest[48:]])
 
 
 def legacy():

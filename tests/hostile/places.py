@@ -1,13 +1,18 @@
 """Standard input that is a file: the commands that read one by place answer what they answer of a pipe, wherever in the file their input
 begins; and they leave the file where it stood."""
 import os
+import resource
+import struct
 import tempfile
 
 import failing
+import memory
 import program
 
 BEFORE = b'another\n'
 FAR = (5 << 30) + 3                                  # beyond what 32 bits count
+FRAMES, ENOUGH = 4096, 8 << 20                       # 16 MiB of pages, and so much memory for the program
+VERIFY = struct.pack('<II', 0xd, 0)
 
 
 def by_place(tool):
@@ -45,3 +50,32 @@ def is_left_where_it_stood(tool):
                 yield '%s, %s, with more behind it, at %d of a file: %s' % (name, program.named(words), place, why)
             if left != place:
                 yield '%s, %s: the file stands at %d, and stood at %d' % (name, program.named(words), left, place)
+
+
+def of_many_pages():
+    """By name, words and an input whose pages take twice the memory that the program may have."""
+    hvm, pv = memory.hvm(FRAMES), program.second.exercise.exercise(1, FRAMES)[0]
+    again = memory.hvm(FRAMES, (VERIFY, *(memory.page_record(first) for first in range(0, FRAMES, 512))))
+    for words in ['normalise'], ['restore', '4096']:
+        yield 'HVM', words, hvm
+    yield 'HVM, sent again behind a VERIFY', ['verify'], again
+    yield 'PV', ['normalise'], pv
+    yield 'PV', ['verify'], pv
+
+
+def limited():
+    resource.setrlimit(resource.RLIMIT_AS, (ENOUGH, ENOUGH))
+
+
+def pages_are_not_kept(tool):
+    """Of a file so little memory is enough, and from a pipe it isn't."""
+    for name, words, data in of_many_pages():
+        want = program.wanted(words, data)
+        with tempfile.TemporaryFile() as file:
+            file.write(data)
+            file.seek(0)
+            got = failing.run(tool, words, stdin=file, preexec_fn=limited)
+        for why in program.differences(got, want):
+            yield '%s, %s, of a file: %s' % (name, program.named(words), why)
+        if not program.is_no_memory(words, program.with_limit(tool, words, data, ENOUGH), want):
+            yield '%s, %s: from a pipe it was enough' % (name, program.named(words))

@@ -89,12 +89,12 @@ def passes_on(words):
 
 def reads_by_place(words):
     """Whether the command reads a file by place, and passes over what it has no need of."""
-    return words in OF_CHECK or words == ['verify'] or copies(words)
+    return words in OF_CHECK or words in (['verify'], ['show']) or copies(words)
 
 
 def copies(words):
     """Whether the command reads pages of a file once more where it writes them."""
-    return words in (['normalise'], ['convert'])
+    return words in (['normalise'], ['convert']) or words[:1] == ['restore']
 
 
 def no_read(words, front):
