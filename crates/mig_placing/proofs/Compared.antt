@@ -14,7 +14,7 @@ use Rattle.mig_pagestore_index.specs.Indexed.{ValueMap}
 use Rattle.mig_pagetypes.specs.declared.frame_word.FrameWord.{FrameWord}
 use Rattle.mig_placed.specs.InFile.{frame_in_file, frames_in_file, page_in_file}
 use Rattle.mig_placed.specs.Runs.{IsFirstCell}
-use Rattle.mig_placing.specs.Compared.{frame_at}
+use Rattle.mig_placing.specs.Compared.{frame_there}
 use Rattle.mig_restore_form.specs.Mean.{is_same_page}
 
 -- ---- the frame of a number
@@ -22,7 +22,7 @@ use Rattle.mig_restore_form.specs.Mean.{is_same_page}
 pub none_told : (file : Option (List ℕ)) (cells : ValueMap) (pfn : ℕ) → maps.get cells pfn ≡ None → maps.get (frames_in_file file cells) pfn ≡ None
 none_told file cells pfn none = get-mapped (frame_in_file file) cells pfn ∙ ap (option_map (frame_in_file file)) none
 
-pub frame_told : (file : Option (List ℕ)) (cells : ValueMap) (pfn first : ℕ) (word : FrameWord) → IsFirstCell cells pfn (first, word) → first ≡ pfn → maps.get (frames_in_file file cells) pfn ≡ Some (frame_at file word)
+pub frame_told : (file : Option (List ℕ)) (cells : ValueMap) (pfn first : ℕ) (word : FrameWord) → IsFirstCell cells pfn (first, word) → first ≡ pfn → maps.get (frames_in_file file cells) pfn ≡ Some (frame_there file word)
 frame_told file cells pfn first word is here =
     let (c, cell, got, kind, place) = is.there in
     let at : maps.get cells pfn ≡ Some c = subst (λ k. maps.get cells k ≡ Some c) here got in
@@ -56,10 +56,10 @@ none_there file (suc at) page is = absurd (omega (arith, is))
 -- ---- what is said of a cell
 
 module _ (file : Option (List ℕ)) (cell : FrameWord) (kind : PageType) (alike : Bool) (told : (page sent : Option (List ℕ)) → is_same_frame (Some (record { type = cell.kind; page = page })) (some_frame kind sent) ≡ (alike && is_same_page page sent)) where
-  pub other_type : (sent : Option (List ℕ)) → alike ≡ false → false ≡ is_same_frame (Some (frame_at file cell)) (some_frame kind sent)
+  pub other_type : (sent : Option (List ℕ)) → alike ≡ false → false ≡ is_same_frame (Some (frame_there file cell)) (some_frame kind sent)
   other_type sent differs = sym (told (page_in_file file cell.pfn) sent ∙ ap (λ b. b && is_same_page (page_in_file file cell.pfn) sent) differs)
 
-  pub page_alike : (sent : Option (List ℕ)) (same : Bool) → alike ≡ true → same ≡ is_same_page (page_in_file file cell.pfn) sent → same ≡ is_same_frame (Some (frame_at file cell)) (some_frame kind sent)
+  pub page_alike : (sent : Option (List ℕ)) (same : Bool) → alike ≡ true → same ≡ is_same_page (page_in_file file cell.pfn) sent → same ≡ is_same_frame (Some (frame_there file cell)) (some_frame kind sent)
   page_alike sent same agrees is = is ∙ sym (told (page_in_file file cell.pfn) sent ∙ ap (λ b. b && is_same_page (page_in_file file cell.pfn) sent) agrees)
 
 -- where no frame is there

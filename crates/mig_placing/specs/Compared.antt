@@ -9,8 +9,8 @@ use Rattle.mig_restore_form.specs.Stream.{ImageOf}
 use Rattle.mig_placing.specs.declared.comparison.Comparison.{Comparison}
 
 -- the frame that a cell says: its type, and the page at its place
-abbrev pub frame_at : Option (List ℕ) → FrameWord → FrameOf
-frame_at file cell = record { type = cell.kind; page = page_in_file file cell.pfn }
+abbrev pub frame_there : Option (List ℕ) → FrameWord → FrameOf
+frame_there file cell = record { type = cell.kind; page = page_in_file file cell.pfn }
 
 -- of an image: its tally, and how many entries behind a VERIFY differ
 pub record IsComparison (comparison : Comparison) (image : ImageOf) : Type 0 where

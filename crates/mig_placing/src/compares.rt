@@ -4,7 +4,7 @@ ghost use Rattle.std.specs.declared.option.Option.{Option};
 ghost use Rattle.mig_file.specs.Files.{left_at};
 ghost use Rattle.mig_outline.specs.Outline.{outline_frames, put_outline_entry};
 ghost use Rattle.mig_placed.specs.InFile.{frames_in_file, page_in_file};
-ghost use Rattle.mig_placing.specs.Compared.{frame_at};
+ghost use Rattle.mig_placing.specs.Compared.{frame_there};
 ghost use Rattle.mig_placing.specs.Places.{ArePlaced};
 ghost use Rattle.mig_restore_form.specs.Mean.{is_same_frame, is_same_page as same_page, some_frame};
 
@@ -22,7 +22,7 @@ use std::alloc::Global;
 
 /// What the places say of the frame of this number.
 fn cell_of(places: &Places, pfn: u64) -> Option<FrameWord>
-    ensures some { IfSome result (λ cell. (file : Option (List ℕ)) → maps.get (frames_in_file file places.now) pfn ≡ Some (frame_at file cell)) }
+    ensures some { IfSome result (λ cell. (file : Option (List ℕ)) → maps.get (frames_in_file file places.now) pfn ≡ Some (frame_there file cell)) }
     ensures none { IfNone result ((file : Option (List ℕ)) → maps.get (frames_in_file file places.now) pfn ≡ None) }
 {
     match places.next(pfn) {
@@ -65,7 +65,7 @@ fn has_cell<P: PageFile>(
     some: bool,
     page: &[u8; 4096],
 ) -> Result<bool, Failed>
-    ensures { IfOk result (λ same. (all : List ℕ) → P.bytes file.now ≡ Some all → same ≡ is_same_frame (Some (frame_at (Some all) cell)) (some_frame kind (if some then Some page.now else None))) }
+    ensures { IfOk result (λ same. (all : List ℕ) → P.bytes file.now ≡ Some all → same ≡ is_same_frame (Some (frame_there (Some all) cell)) (some_frame kind (if some then Some page.now else None))) }
 {
     if !is_of_type(cell.kind, kind) {
         return Ok(false);

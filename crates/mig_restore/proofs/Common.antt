@@ -35,7 +35,7 @@ pub use Rattle.mig_pvtables.specs.Faults.{fault_of_guest}
 pub use Rattle.mig_records.specs.Faults.{fault_of_count}
 pub use Rattle.mig_restore.specs.Compared.{IsCompared, IsImageCompared, IsWithinRecords, differs_behind, differs_with}
 pub use Rattle.mig_restore.specs.Kept.{EntryStep, NotesImage, NotesOn, kept_guest, put_frames}
-pub use Rattle.mig_restore.specs.PageReads.{entry_of}
+pub use Rattle.mig_restore.specs.PageReads.{entry_with}
 pub use Rattle.mig_restore.specs.Reads.{IsReading, IsTaken, IsTakenAndCompared}
 pub use Rattle.std.proofs.Common.{Bool, Err, List, None, Ok, Option, Result, Some, [], ap, append_assoc, arith, cond, drop, false, get_or, inl, inr, is_some, length, nat_eq, not, refl, rules, subst, sym, take, true, ℕ, ◌*◌, ◌++◌, ◌+◌, ◌-◌, ◌<◌, ◌^◌, ◌∙◌, ◌∷◌, ◌≡◌, ◌≢◌, ◌≤◌, ◌⊎◌}
 pub use Rattle.std.proofs.lemmas.Bool.{eq-eqb, ne_eqb}

@@ -1,5 +1,5 @@
 -- What the reader makes of a record where frames are compared.
-use Rattle.mig_restore.proofs.Common.{◌≡◌, ℕ, ◌+◌, List, [], ◌∷◌, ◌++◌, Bool, true, false, cond, not, nat_eq, ◌||◌, Option, Some, None, Result, refl, sym, ap, subst, ◌∙◌, Judged, AgreesWithJudging, any_stop, Passes, Ok, Err, Stop, Kind, GuestOf, FrameEntry, StreamRecord, ImageOf, TakenImage, Content, types_of, is_verified, placed_content, put_content, put_content_by, put_entries_by, put_entry, EntryStep, is_some, entries_in, checked_in, checked_of, differing, agrees, IsCompared, IsImageCompared, IsTaken, IsTakenAndCompared, differs_behind, differs_with, entry_of, FrameMap, NotesOn, one_more_record, pages_at, Nothing, Frames, Sets, Lists, Checks, IsPlaced, IsUnchecked, verified_more, checked_more, differing_join}
+use Rattle.mig_restore.proofs.Common.{◌≡◌, ℕ, ◌+◌, List, [], ◌∷◌, ◌++◌, Bool, true, false, cond, not, nat_eq, ◌||◌, Option, Some, None, Result, refl, sym, ap, subst, ◌∙◌, Judged, AgreesWithJudging, any_stop, Passes, Ok, Err, Stop, Kind, GuestOf, FrameEntry, StreamRecord, ImageOf, TakenImage, Content, types_of, is_verified, placed_content, put_content, put_content_by, put_entries_by, put_entry, EntryStep, is_some, entries_in, checked_in, checked_of, differing, agrees, IsCompared, IsImageCompared, IsTaken, IsTakenAndCompared, differs_behind, differs_with, entry_with, FrameMap, NotesOn, one_more_record, pages_at, Nothing, Frames, Sets, Lists, Checks, IsPlaced, IsUnchecked, verified_more, checked_more, differing_join}
 use Rattle.std.specs.FinMap as maps
 use Rattle.mig_bytes.proofs.Joins.{both_pass, same_passes}
 use Rattle.mig_restore_form.specs.Judging.{entries_at}
@@ -121,7 +121,7 @@ module _ {K : Type 0} (compares : Bool) (notes : K → List ℕ → Option (List
   )
 
 -- an entry that was compared with the frames that are kept
-pub told_apart : (g : GuestOf) (w : ℕ) (page : Option (List ℕ)) (same differs : Bool) (e : FrameEntry) (frames : FrameMap) → same ≡ agrees g.kind g.frames (entry_of w page) → differs ≡ not same → e ≡ entry_of w page → g.frames ≡ frames → differs ≡ not (agrees g.kind frames e)
+pub told_apart : (g : GuestOf) (w : ℕ) (page : Option (List ℕ)) (same differs : Bool) (e : FrameEntry) (frames : FrameMap) → same ≡ agrees g.kind g.frames (entry_with w page) → differs ≡ not same → e ≡ entry_with w page → g.frames ≡ frames → differs ≡ not (agrees g.kind frames e)
 told_apart g w page same differs e frames is now entry here = now ∙ ap not is ∙ (λ i. not (agrees g.kind (here i) (sym entry i)))
 
 -- ---- a whole image

@@ -14,5 +14,5 @@ pub record ReadsPage (type : PageType) (place top : ℕ) (left left' : Option (L
   pub bytes : OnOk result (AreBytes page)
 
 -- the entry that a word says with this page, or with none
-abbrev pub entry_of : ℕ → Option (List ℕ) → FrameEntry
-entry_of w page = record { pfn = word_pfn w; type = type_in_word w; page = page }
+abbrev pub entry_with : ℕ → Option (List ℕ) → FrameEntry
+entry_with w page = record { pfn = word_pfn w; type = type_in_word w; page = page }

@@ -1,6 +1,6 @@
 ghost use Rattle.std.specs.Prelude.{◌≡◌, Some, None, if◌then◌else◌};
 ghost use Rattle.mig_restore.specs.Common.{RisesOnReadFault, AgreesWithJudging, entry_at};
-ghost use Rattle.mig_restore.specs.PageReads.{ReadsPage, entry_of};
+ghost use Rattle.mig_restore.specs.PageReads.{ReadsPage, entry_with};
 
 use mig_bytes::{Source, Stop, are_bytes, take_part};
 use mig_guest::{Fill, Guest};
@@ -41,7 +41,7 @@ pub fn take_page<S: Source>(
     guest: &Guest,
     page: &mut [u8; 4096],
 ) -> Result<bool, Stop<Cause>>
-    ensures read { AgreesWithJudging (λ some e. e ≡ entry_of word (if some then Some page.new else None)) (S.left src.old) (S.left src.new) (entry_at guest.now.kind guest.now.top (place, word)) result }
+    ensures read { AgreesWithJudging (λ some e. e ≡ entry_with word (if some then Some page.new else None)) (S.left src.old) (S.left src.new) (entry_at guest.now.kind guest.now.top (place, word)) result }
     ensures faults { RisesOnReadFault (S.faults src.old) (S.faults src.new) result }
 {
     let in_stream = type_in(word);
