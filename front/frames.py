@@ -1,6 +1,8 @@
 """What became of each frame number of a stream: how it was sent last, how often, and in which rounds. For a picture the frames stand
 in spans, one cell for each number, or for a block of them where they are too many; where thousands in a row have no frame, no
 span is there."""
+import functools
+import struct
 
 TYPE_CHECKING = False                                # a checker of types takes it for true; typing itself is slow to load
 if TYPE_CHECKING:
@@ -33,9 +35,26 @@ ONE_MORE = bytes(min(times + 1, MOST_TIMES) for times in range(256))
 OF_BATCH, OF_HEAD, OF_WORD, OF_PAGE = 1024, 16, 8, 4096  # entries of a record as it is written, bytes of what stands in front of them
 
 
-def states_of(words: 'List[int]', zeros: bytes) -> 'Tuple[bytes, int]':
+@functools.lru_cache(maxsize=2)
+def counted_up(count: int) -> 'Tuple[int, int]':
+    """So many words that are counted up from 0, and as many ones, each as one number."""
+    spelled = struct.pack('<%dQ' % count, *range(count)), struct.pack('<Q', 1) * count
+    return int.from_bytes(spelled[0], 'little'), int.from_bytes(spelled[1], 'little')
+
+
+def words_of(spelled: memoryview) -> 'Sequence[int]':
+    """These words; a range where they follow one another, which is told of all at once."""
+    first, count = spelled[0], len(spelled)
+    if spelled[count - 1] - first == count - 1:
+        up, ones = counted_up(count)
+        if (up + first * ones).to_bytes(OF_WORD * count, 'little') == spelled.tobytes():
+            return range(first, first + count)
+    return spelled.tolist()
+
+
+def states_of(words: 'Sequence[int]', zeros: bytes) -> 'Tuple[bytes, int]':
     """The states of the frames that these words name, of whose pages those are zeros; and how many of the pages are theirs."""
-    if max(words) <= NUMBER:                         # pages of no type, as of an HVM guest
+    if (words[-1] if isinstance(words, range) else max(words)) <= NUMBER:  # pages of no type, as of an HVM guest
         return zeros[:len(words)].translate(OF_ZEROS + bytes(254)), len(words)
     states, page = bytearray(), 0
     for word in words:
@@ -45,11 +64,11 @@ def states_of(words: 'List[int]', zeros: bytes) -> 'Tuple[bytes, int]':
     return bytes(states), page
 
 
-def numbers_of(words: 'List[int]') -> 'Sequence[int]':
+def numbers_of(words: 'Sequence[int]') -> 'Sequence[int]':
     """The frame numbers in these words; a range where they follow one another."""
     first = words[0] & NUMBER
     behind = first + len(words)
-    if words[-1] - words[0] == len(words) - 1 and behind <= NUMBER and words == list(range(words[0], words[-1] + 1)):
+    if isinstance(words, range) and behind <= NUMBER:
         return range(first, behind)
     return [word & NUMBER for word in words]
 
@@ -97,7 +116,7 @@ class Frames:
             return
         whole, page = memoryview(words).cast('Q'), 0
         for at in range(0, len(whole), AT_ONCE):
-            part = whole[at:at + AT_ONCE].tolist()
+            part = words_of(whole[at:at + AT_ONCE])
             states, pages = states_of(part, zeros[page:page + len(part)])
             numbers = numbers_of(part)
             self.count(record, offset, numbers, states, OF_HEAD * (at == 0))
