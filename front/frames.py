@@ -6,7 +6,7 @@ import struct
 
 TYPE_CHECKING = False                                # a checker of types takes it for true; typing itself is slow to load
 if TYPE_CHECKING:
-    from typing import Any, Dict, Iterator, List, Optional, Sequence, Tuple
+    from typing import Any, Dict, Iterable, Iterator, List, Optional, Sequence, Tuple
 
 # The states of a frame number, each by its letter: those below a page's type, and the two of a page without one.
 NEVER, ABSENT, ZEROS, DATA, XALLOC, BROKEN = b'.-0dxb'
@@ -62,6 +62,18 @@ def states_of(words: 'Sequence[int]', zeros: bytes) -> 'Tuple[bytes, int]':
         states.append(state or OF_ZEROS[zeros[page]])
         page += state not in WITHOUT_A_PAGE
     return bytes(states), page
+
+
+def tally(chunks: 'Iterable[bytearray]', values: 'Iterable[int]') -> 'Dict[int, int]':
+    """How often each of these values stands in chunks of bytes that have no others."""
+    found = dict.fromkeys(values, 0)
+    for chunk in chunks:
+        left = len(chunk)
+        for value in found:
+            if left:
+                count = chunk.count(value)
+                found[value], left = found[value] + count, left - count
+    return found
 
 
 def numbers_of(words: 'Sequence[int]') -> 'Sequence[int]':
@@ -172,13 +184,13 @@ class Frames:
 
     def counts(self) -> 'Dict[str, int]':
         """How many numbers have each state, but for those that were never sent."""
-        found = {letter: sum(states.count(letter.encode()) for states in self.states.values()) for letter in STATES if letter != '.'}
-        return {letter: count for letter, count in found.items() if count}
+        found = tally(self.states.values(), ''.join(STATES).encode())
+        return {letter: found[ord(letter)] for letter in STATES if letter != '.' and found[ord(letter)]}
 
     def sent_times(self) -> 'Dict[int, int]':
         """How many numbers were sent so often."""
-        found = {times: sum(of_chunk.count(times) for of_chunk in self.times.values()) for times in range(1, MOST_TIMES + 1)}
-        return {times: count for times, count in found.items() if count}
+        found = tally(self.times.values(), range(MOST_TIMES + 1))
+        return {times: found[times] for times in range(1, MOST_TIMES + 1) if found[times]}
 
     def at_the_pause(self) -> 'Dict[str, int]':
         """What each of these frames takes when it is sent once, as it was sent last."""
