@@ -18,6 +18,7 @@ pub mod Openings
 pub mod HeadParts
 pub mod LibxlHeads
 pub mod Paging
+pub mod Leading
 pub mod Unseen
 pub mod BehindBodies
 pub mod Places

@@ -1,5 +1,5 @@
 -- From what a relay keeps to the bytes that it stands for.
-use Rattle.mig_relay.proofs.Common.{◌≡◌, ◌≢◌, ℕ, ◌≤◌, Bool, true, false, List, [], ◌∷◌, ◌++◌, length, take, drop, min, ◌+◌, ◌-◌, ◌^◌, ◌<◌, Option, Some, None, Result, Ok, Err, refl, sym, ap, subst, ◌∙◌, arith, append_assoc, append-nil, length-append, length-drop, take-append-drop, Consumes, Appends, AppendsPart, Judged, Passes, passes_not, Cause, Truncated, Place, StreamOf, IsPassable, fault_of_record_body, record_content, bodies_are_parts, before, with_places, in_hand, place_of_spot, Keeps, KeepsNext, HasRecords, Next, AtMarker, AtVersion, AtKind, AtHead, AtBody, AtFront, AtWords, AtPages, AtPadding, BeginsWithPart, HasPassed, IsRelayed, Turned, RisesOnAnswer, WritesOnReadFault, Outer, Spot, AtStart, AtLibxlHeader, AtLibxlHead, AtLibxlBody, AtLibxlPadding, InImage, AtEnd, spot, held, carry, FrontsAreCut, PassedPiece, IsUnfinished, is_judged_first, Refuses, Stops, StepMoved, MovedBy, counted, Fits, RelayAnswer, Refused, WriteFault, Memory, Relayed, Step, Coming, Relay, is_some, places_len, Stands, RisesOnFault, EndsInside, WritesSome, may_wait, most_waiting, ReadFault}
+use Rattle.mig_relay.proofs.Common.{◌≡◌, ◌≢◌, ℕ, ◌≤◌, Bool, true, false, List, [], ◌∷◌, ◌++◌, length, take, drop, min, ◌+◌, ◌-◌, ◌^◌, ◌<◌, Option, Some, None, Result, Ok, Err, refl, sym, ap, subst, ◌∙◌, arith, append_assoc, append-nil, length-append, length-drop, take-append-drop, Consumes, Appends, AppendsPart, Judged, Passes, passes_not, Cause, Truncated, Place, StreamOf, IsPassable, fault_of_record_body, record_content, bodies_are_parts, before, in_hand, place_of_spot, Keeps, KeepsNext, HasRecords, Next, AtMarker, AtVersion, AtKind, AtHead, AtBody, AtFront, AtWords, AtPages, AtPadding, BeginsWithPart, HasPassed, IsRelayed, Turned, RisesOnAnswer, WritesOnReadFault, Outer, Spot, AtStart, AtLibxlHeader, AtLibxlHead, AtLibxlBody, AtLibxlPadding, InImage, AtEnd, spot, held, carry, FrontsAreCut, PassedPiece, IsUnfinished, is_judged_first, Refuses, Stops, StepMoved, MovedBy, counted, Fits, RelayAnswer, Refused, WriteFault, Memory, Relayed, Step, Coming, Relay, is_some, Stands, RisesOnFault, EndsInside, WritesSome, may_wait, most_waiting, ReadFault}
 use Rattle.std.proofs.KnownBytes.{Appends-nil, Appends-trans, Consumes-trans}
 use Rattle.std.proofs.lemmas.Bool.{true≢false}
 use mathlib.Core.Logic.{inl, inr}
@@ -7,8 +7,12 @@ use Rattle.std.specs.Io.KnownBytes.{Keeps as Stays}
 use Rattle.mig_bytes.specs.Faults.{Rose}
 use Rattle.mig_relay.specs.Streams.{open_stream_at}
 use Rattle.mig_relay.proofs.Streams.{unfinished_is_not_accepted}
-use Rattle.mig_relay.specs.Relaying.{RelayedBy, PassedPart as IsWritten, RefusedPart, NoneIsAccepted, NoneWaits, IsCutPart, IsWrittenPart, TurnedBy, held_answer, unwritten}
-use Rattle.mig_relay.specs.Standing.{StandsForBytes, StepSays, PassesOn, IsRefusedBehind, WritesSomeBehind, StopsInside, is_at_end, is_within, goes_on}
+use Rattle.mig_relay.specs.Relaying.{HasFineHead, RelayedBy, PassedPart as IsWritten, RefusedPart, NoneIsAccepted, NoneWaits, IsCutPart, IsWrittenPart, TurnedBy, held_answer, unwritten}
+use Rattle.mig_relay.specs.Standing.{StandsForBytes, StepSays, PassesOn, IsRefusedBehind, WritesSomeBehind, StopsInside, behind_step, is_at_end, is_over, is_within, goes_on}
+use Rattle.mig_relay.specs.Following.{LeadsTo, begins_part, from_start, leads_on}
+use Rattle.mig_relay.specs.Keeping.{words_in_hand}
+use Rattle.mig_relay.specs.Steps.{LeavesWords}
+use Rattle.mig_relay.proofs.Leading.{all_come, keeps_number}
 use Rattle.mig_relay.proofs.Moves.{cut}
 use Rattle.mig_relay.proofs.Paging.{front_is, words_is, page_is}
 use Rattle.mig_relay.proofs.Places.{Told, told}
@@ -27,53 +31,51 @@ still_cut here {place} {size} {fault} {follows} is begun less = (place, cut here
 none_cut : (here : Spot) {place : Place} {size : ℕ} {fault : List ℕ → Option Cause} {follows : List ℕ → List ℕ → Judged (Place × Cause) StreamOf} → BeginsWithPart (spot here) place size fault follows → (begun : List ℕ) → begun ≡ [] → EndsInside (spot here begun)
 none_cut here is begun none = subst (λ l. EndsInside (spot here l)) (sym none) (still_cut here is [] is.some)
 
--- the words from this one on
-all_come : (ws : List ℕ) (page : ℕ) (coming : List (ℕ × ℕ)) → coming ≡ with_places page (drop page ws) → page ≤ length ws → page + length coming ≡ length ws
-all_come ws page coming is within = omega (arith, within, ap length is, places_len page (drop page ws), length-drop page ws)
-
 -- What is so wherever a relay stands. What is judged there is cut, but for the end; what comes next tells whether a record is
--- in hand; of what is judged at once no byte was passed on; and no more than may wait, and the part that comes next, is no
--- more than may wait with it.
+-- in hand; of what is judged at once no byte was passed on; a body has bytes, and its head no fault; and no more than may
+-- wait, and the part that comes next, is no more than may wait with it.
 record IsAt (r : Relay) (here : Spot) (begun : List ℕ) : Type 0 where
   cut : is_at_end r.coming ≡ false → EndsInside (spot here begun)
   within : is_within r.coming ≡ is_some (in_hand here)
   unbegun : is_judged_first here ≡ true → begun ≡ []
+  headed : HasFineHead here
   room : may_wait r.coming (length r.words.items) + held here ≤ most_waiting here
 
 module _ (r : Relay) where
   -- a part that is taken at once
   once : (here : Spot) (begun : List ℕ) (c : Coming) {place : Place} {size : ℕ} {fault : List ℕ → Option Cause} {follows : List ℕ → List ℕ → Judged (Place × Cause) StreamOf} → BeginsWithPart (spot here) place size fault follows → r.coming ≡ c → begun ≡ []
-      → is_within c ≡ is_some (in_hand here) → may_wait c (length r.words.items) + held here ≤ most_waiting here → IsAt r here begun
-  once here begun c is comes none within room = record { cut = λ _. none_cut here is begun none; within = ap is_within comes ∙ within; unbegun = λ _. none; room = rw comes room }
+      → is_within c ≡ is_some (in_hand here) → HasFineHead here → may_wait c (length r.words.items) + held here ≤ most_waiting here → IsAt r here begun
+  once here begun c is comes none within headed room = record { cut = λ _. none_cut here is begun none; within = ap is_within comes ∙ within; unbegun = λ _. none; headed = headed; room = rw comes room }
 
   is_at_next : (outer : Outer) (next : Next) (begun : List ℕ) → KeepsNext r next begun → IsAt r (InImage outer next) begun
-  is_at_next outer AtMarker begun (is, none) = once (InImage outer AtMarker) begun comes.Marker (lifted (carry outer) marker_is) is none refl (omega arith)
-  is_at_next outer AtVersion begun (is, none) = once (InImage outer AtVersion) begun comes.Version (lifted (carry outer) version_is) is none refl (omega arith)
-  is_at_next outer (AtKind version) begun (is, none) = once (InImage outer (AtKind version)) begun (comes.Kind version) (lifted (carry outer) (kind_is version)) is none refl (omega arith)
-  is_at_next outer (AtHead o records) begun (is, kept, none) = once (InImage outer (AtHead o records)) begun comes.Head (lifted (carry outer) (head_is o records kept.going)) is none refl (omega arith)
+  is_at_next outer AtMarker begun (is, none) = once (InImage outer AtMarker) begun comes.Marker (lifted (carry outer) marker_is) is none refl tt (omega arith)
+  is_at_next outer AtVersion begun (is, none) = once (InImage outer AtVersion) begun comes.Version (lifted (carry outer) version_is) is none refl tt (omega arith)
+  is_at_next outer (AtKind version) begun (is, none) = once (InImage outer (AtKind version)) begun (comes.Kind version) (lifted (carry outer) (kind_is version)) is none refl tt (omega arith)
+  is_at_next outer (AtHead o records) begun (is, kept, none) = once (InImage outer (AtHead o records)) begun comes.Head (lifted (carry outer) (head_is o records kept.going)) is none refl tt (omega arith)
   is_at_next outer (AtBody o records head) begun (is, kept, other, first, body) = record {
     cut = λ _.
         still_cut (InImage outer (AtBody o records head))
         (lifted (carry outer) (body_is o records head (fault_of_record_body head.kind) (record_content head.kind) (bodies_are_parts (before o records) head.kind head.len other.fine other.other) (omega (arith, body.less)))) begun body.less;
     within = ap is_within is;
     unbegun = λ judged. absurd (true≢false (sym judged));
+    headed = (omega (arith, body.less), other.fine);
     room = rw is (omega arith);
   }
-  is_at_next outer (AtFront o records head) begun (is, kept, pages, none) = once (InImage outer (AtFront o records head)) begun (comes.Front head) (front_is outer o records head) is none refl (omega arith)
-  is_at_next outer (AtWords o records head n) begun (is, kept, pages, count, none) = once (InImage outer (AtWords o records head n)) begun (comes.Words head n) (words_is outer o records head n count.0) is none refl (omega arith)
+  is_at_next outer (AtFront o records head) begun (is, kept, pages, none) = once (InImage outer (AtFront o records head)) begun (comes.Front head) (front_is outer o records head) is none refl tt (omega arith)
+  is_at_next outer (AtWords o records head n) begun (is, kept, pages, count, none) = once (InImage outer (AtWords o records head n)) begun (comes.Words head n) (words_is outer o records head n count.0) is none refl tt (omega arith)
   is_at_next outer (AtPages o records head coming stood) begun (is, kept, pages, whole, words, none) =
-      once (InImage outer (AtPages o records head coming stood)) begun (comes.Page head) (page_is outer o records head r coming stood words) is none refl (omega (arith, words.behind, all_come r.words.items r.page coming words.left (omega (arith, words.some))))
-  is_at_next outer (AtPadding o records head content) begun (is, kept, some, other, none) = once (InImage outer (AtPadding o records head content)) begun (comes.Padding head) (lifted (carry outer) (padding_is o records head content some)) is none refl (omega arith)
+      once (InImage outer (AtPages o records head coming stood)) begun (comes.Page head) (page_is outer o records head r coming stood words) is none refl tt (omega (arith, words.behind, all_come r.words.items r.page coming words.left (omega (arith, words.some))))
+  is_at_next outer (AtPadding o records head content) begun (is, kept, some, other, none) = once (InImage outer (AtPadding o records head content)) begun (comes.Padding head) (lifted (carry outer) (padding_is o records head content some)) is none refl tt (omega arith)
 
   is_at : (here : Spot) (begun : List ℕ) → Keeps r here begun → IsAt r here begun
-  is_at AtStart begun (is, alone, none) = once AtStart begun comes.Start start_is is none refl (omega arith)
-  is_at AtLibxlHeader begun (is, kept, none) = once AtLibxlHeader begun comes.LibxlHeader header_is is none refl (omega arith)
-  is_at (AtLibxlHead records) begun (is, kept, none) = once (AtLibxlHead records) begun comes.LibxlHead (libxl_head_is records kept.1) is none refl (omega arith)
+  is_at AtStart begun (is, alone, none) = once AtStart begun comes.Start start_is is none refl tt (omega arith)
+  is_at AtLibxlHeader begun (is, kept, none) = once AtLibxlHeader begun comes.LibxlHeader header_is is none refl tt (omega arith)
+  is_at (AtLibxlHead records) begun (is, kept, none) = once (AtLibxlHead records) begun comes.LibxlHead (libxl_head_is records kept.1) is none refl tt (omega arith)
   is_at (AtLibxlBody records head) begun (is, kept, bodied, body) =
-      record { cut = λ _. still_cut (AtLibxlBody records head) (libxl_body_is records head (omega (arith, body.less))) begun body.less; within = ap is_within is; unbegun = λ judged. absurd (true≢false (sym judged)); room = rw is (omega arith) }
-  is_at (AtLibxlPadding records head content) begun (is, kept, bodied, image, some, none) = once (AtLibxlPadding records head content) begun (comes.LibxlPadding head) (libxl_padding_is records head content some) is none refl (omega arith)
+      record { cut = λ _. still_cut (AtLibxlBody records head) (libxl_body_is records head (omega (arith, body.less))) begun body.less; within = ap is_within is; unbegun = λ judged. absurd (true≢false (sym judged)); headed = omega (arith, body.less); room = rw is (omega arith) }
+  is_at (AtLibxlPadding records head content) begun (is, kept, bodied, image, some, none) = once (AtLibxlPadding records head content) begun (comes.LibxlPadding head) (libxl_padding_is records head content some) is none refl tt (omega arith)
   is_at (InImage outer next) begun (around, k) = is_at_next outer next begun k
-  is_at (AtEnd s) begun (is, has, none) = record { cut = λ going. absurd (true≢false (sym (ap is_at_end is) ∙ going)); within = ap is_within is; unbegun = λ _. none; room = rw is (omega arith) }
+  is_at (AtEnd s) begun (is, has, none) = record { cut = λ going. absurd (true≢false (sym (ap is_at_end is) ∙ going)); within = ap is_within is; unbegun = λ _. none; headed = tt; room = rw is (omega arith) }
 
 -- a record in hand is known by what comes next
 pub within : (r : Relay) (here : Spot) (begun : List ℕ) → Keeps r here begun → is_within r.coming ≡ is_some (in_hand here)
@@ -133,7 +135,7 @@ stands_behind r t old new before now result moved (here, begun, k) = by result (
 
 -- a new relay has taken nothing
 pub begins : (r : Relay) → Keeps r AtStart [] → r.passed ≡ 0 → StandsForBytes r []
-begins r k none = record { here = AtStart; begun = []; keeps = k; same = λ more. refl; count = none }
+begins r k none = record { here = AtStart; begun = []; keeps = k; leads = from_start; same = λ more. refl; count = none }
 
 -- the count of the bytes so far, with those of a piece
 counted_on : (passed behind size more : ℕ) → passed ≡ min size (2 ^ 64 - 1) → behind ≡ counted passed more → behind ≡ min (size + more) (2 ^ 64 - 1)
@@ -146,6 +148,7 @@ module _ {r : Relay} {bytes : List ℕ} (s : StandsForBytes r bytes) where
     here = g.next;
     begun = g.front;
     keeps = g.keeps;
+    leads = leads_on bytes g.piece s.here g.next s.begun g.front s.leads g.follows (keeps_number g s.keeps);
     same = λ more. ap open_stream_at (append_assoc bytes g.piece more) ∙ s.same (g.piece ++ more) ∙ g.same more;
     count = subst (λ n. t.passed ≡ min n (2 ^ 64 - 1)) (sym (length-append bytes g.piece)) (counted_on r.passed t.passed (length bytes) (length g.piece) s.count g.count);
   }
@@ -183,7 +186,7 @@ module _ (r t : Relay) (old new before now : Option (List ℕ)) (result : Result
   by_result (Ok step) m = passes_on m
     where
       passes_on : PassedPiece s.here s.begun step r t old new before now → PassesOn s.here s.begun bytes step r t old new before now
-      passes_on g = record { piece = g.piece; some = g.some; taken = g.taken; written = g.written; stands = stands_on s g; follows = g.follows; is = g.is; words = g.words }
+      passes_on g = record { piece = g.piece; some = g.some; taken = g.taken; written = g.written; stands = stands_on s g; follows = g.follows; is = g.is }
   by_result (Err (Refused place cause)) m = (refused place cause old m.0, writes place m.1)
   by_result (Err ReadFault) m = stops m
   by_result (Err WriteFault) m = stops m
@@ -204,6 +207,35 @@ module _ (r t : Relay) (old new before now : Option (List ℕ)) (result : Result
       by (Err ReadFault) e says = says
       by (Err WriteFault) e says = says
       by (Err Memory) e says = says
+
+  -- and of the relay behind the step
+  pub says_behind : (u : Relay) → u ≡ behind_step result t → StepSays s.here s.begun bytes r u old new before now result
+  says_behind u is = by (goes_on result) refl
+    where
+      by : (b : Bool) → goes_on result ≡ b → StepSays s.here s.begun bytes r u old new before now result
+      by true on = let same : behind_step result t ≡ t = rw on refl in subst (λ (x : Relay). StepSays s.here s.begun bytes r x old new before now result) (sym (is ∙ same)) says_of
+      by false over = says_over u over
+
+-- a relay that goes on is as the step left it, and one that doesn't is over
+pub going_behind : (result : Result Step RelayAnswer) (t u : Relay) → u ≡ behind_step result t → goes_on result ≡ true → u ≡ t
+going_behind result t u is on = is ∙ rw on refl
+
+pub over_behind : (result : Result Step RelayAnswer) (t u : Relay) → u ≡ behind_step result t → goes_on result ≡ false → is_over u ≡ true
+over_behind result t u is over = let past : behind_step result t ≡ record t { coming = comes.Over } = rw over refl in ap is_over (is ∙ past)
+
+-- the same words are in hand
+pub words_behind_step : (result : Result Step RelayAnswer) (t u : Relay) → u ≡ behind_step result t → words_in_hand u ≡ words_in_hand t
+words_behind_step result t u is = ap words_in_hand is ∙ by (goes_on result) refl
+  where
+    by : (b : Bool) → goes_on result ≡ b → words_in_hand (behind_step result t) ≡ words_in_hand t
+    by true on = rw on refl
+    by false over = rw over refl
+
+pub leaves_words : (result : Result Step RelayAnswer) (r t u : Relay) → u ≡ behind_step result t → LeavesWords result r t → LeavesWords result r u
+leaves_words (Ok (steps.Head wrapped head)) r t u is left = words_behind_step (Ok (steps.Head wrapped head)) t u is ∙ left
+leaves_words (Ok steps.Words) r t u is left = tt
+leaves_words (Ok step) r t u is left = words_behind_step (Ok step) t u is ∙ left
+leaves_words (Err answer) r t u is left = words_behind_step (Err answer) t u is ∙ left
 
 -- ---- what was taken and written so far
 
@@ -229,7 +261,9 @@ pub record Gathered (waiting : List ℕ) (old new before now : Option (List ℕ)
   pub rest : List ℕ
   pub here : Spot
   pub begun : List ℕ
+  pub leads : LeadsTo (wrote ++ waiting) here begun
   pub same : (more : List ℕ) → open_stream_at ((wrote ++ waiting) ++ more) ≡ spot here (begun ++ more)
+  pub inside : is_judged_first here ≡ true → length begun + length rest ≤ held here
   pub cuts : FrontsAreCut AtStart [] (wrote ++ waiting)
   pub taken : Consumes old new ((wrote ++ waiting) ++ rest)
   pub written : Appends before now wrote
@@ -252,7 +286,9 @@ module _ (old new before now later : Option (List ℕ)) (waiting : List ℕ) (g 
             are = refl;
             here = g.here;
             begun = g.begun;
+            leads = subst (λ l. LeadsTo l g.here g.begun) (sym whole) g.leads;
             same = λ more. ap (λ l. open_stream_at (l ++ more)) whole ∙ g.same more;
+            inside = g.inside;
             few = omega (arith, length-append (drop k waiting) g.rest, length-drop k waiting, g.few);
             rest_few = g.rest_few;
           };
@@ -278,7 +314,9 @@ module _ (old new before now later : Option (List ℕ)) (waiting : List ℕ) (g 
         are = refl;
         here = g.here;
         begun = g.begun;
+        leads = subst (λ l. LeadsTo l g.here g.begun) (sym (append-nil (g.wrote ++ waiting))) g.leads;
         same = λ more. ap (λ l. open_stream_at (l ++ more)) (append-nil (g.wrote ++ waiting)) ∙ g.same more;
+        inside = g.inside;
         few = omega (arith, g.few);
         rest_few = g.rest_few;
       };
@@ -299,6 +337,7 @@ pub record Refusal (waiting : List ℕ) (old new before now : Option (List ℕ))
   pub refused : IsRefusedBehind [] old new place cause
   pub unfinished : IsUnfinished (open_stream_at (g.wrote ++ waiting))
   pub at : place_of_spot g.here ≡ Some place
+  pub headed : HasFineHead g.here
   pub unbegun : is_judged_first g.here ≡ true → g.begun ≡ []
   pub cut : is_judged_first g.here ≡ true → EndsInside (open_stream_at (g.wrote ++ waiting))
 
@@ -329,6 +368,7 @@ module _ (old new before now later : Option (List ℕ)) (waiting : List ℕ) (pu
     part = (all_written old new before now later waiting e.g put e.unfinished).0;
     written = refl;
     at = e.at;
+    headed = e.headed;
     unbegun = e.unbegun;
     cut = e.cut;
   }
@@ -414,6 +454,8 @@ module _ (r t : Relay) (waiting waits : List ℕ) (old mid new before now : Opti
     rest = rest;
     here = s.here;
     begun = s.begun ++ piece;
+    leads = subst (λ l. LeadsTo l s.here (s.begun ++ piece)) (longer piece is) (begins_part (h.wrote ++ waiting) piece s.here s.begun s.leads);
+    inside = λ judged. omega (arith, few, length-append s.begun piece, ap length ((is_at r s.here s.begun s.keeps).unbegun judged));
     same = λ more. ap (λ l. open_stream_at (l ++ more)) (sym (longer piece is)) ∙ ap open_stream_at (append_assoc (h.wrote ++ waiting) piece more) ∙ s.same (piece ++ more) ∙ ap (spot s.here) (sym (append_assoc s.begun piece more));
     cuts = cuts_on piece is cuts;
     taken = subst (Consumes old new) (sym (append_assoc (h.wrote ++ waiting) piece rest) ∙ ap (λ l. l ++ rest) (longer piece is)) (Consumes-trans old mid new (h.wrote ++ waiting) (piece ++ rest) h.taken taken);
@@ -446,6 +488,7 @@ module _ (r t : Relay) (waiting waits : List ℕ) (old mid new before now : Opti
     refused = refused_on old place cause h.taken f;
     unfinished = (fault, rest, ap open_stream_at (sym (longer wrote w.written)) ∙ s.same wrote ∙ is);
     at = at;
+    headed = (is_at r s.here s.begun s.keeps).headed;
     unbegun = λ judged. ap (λ l. s.begun ++ l) (first judged) ∙ append-nil s.begun ∙ (is_at r s.here s.begun s.keeps).unbegun judged;
     cut = λ judged. subst (λ l. EndsInside (open_stream_at l)) (sym (append-nil (h.wrote ++ waiting)) ∙ ap (λ l. (h.wrote ++ waiting) ++ l) (sym (first judged)) ∙ longer wrote w.written) (is_front s (before_end r s.here s.begun place s.keeps at));
   }

@@ -1,5 +1,5 @@
 -- Pages that nobody looks at.
-use Rattle.mig_relay.proofs.Common.{◌≡◌, ℕ, ◌+◌, ◌<◌, ◌≤◌, List, [], ◌++◌, length, length-append, drop, Option, Some, None, Result, Ok, Err, refl, sym, ap, subst, ◌∙◌, arith, cond, nat_lt, lt-ltb, append-nil, take, Judged, Passes, Faulty, part, part_whole, AgreesWithJudging, Stop, Cause, Truncated, Consumes, TakesFew}
+use Rattle.mig_relay.proofs.Common.{◌≡◌, ℕ, ◌<◌, ◌≤◌, List, [], ◌++◌, length, drop, Option, Some, None, Ok, Err, refl, ap, ◌∙◌, arith, cond, lt-ltb, append-nil, take, Judged, Passes, Faulty, part, part_whole, AgreesWithJudging, Cause, Truncated, Consumes}
 use Rattle.std.specs.Io.KnownBytes.{IsAtEnd}
 use Rattle.mig_bytes.specs.declared.stop.Stop.TheVariants as stops
 use Rattle.mig_relay.proofs.Paging.{blank, blank_len}

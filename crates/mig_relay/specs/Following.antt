@@ -5,7 +5,7 @@ use Rattle.mig_relay.specs.Common.{padding_len, le32, LibxlRecord, libxl_end_typ
 use Rattle.mig_headers.specs.declared.fault.Place.TheVariants.{ImageHeader, DomainHeader, Record, LibxlHeader, LibxlRecord as AtRecord}
 use Rattle.mig_records.specs.Words.{words}
 use Rattle.mig_relay.specs.Parts.{Next, AtMarker, AtVersion, AtKind, AtHead, AtBody, AtFront, AtWords, AtPages, AtPadding}
-use Rattle.mig_relay.specs.Spots.{Outer, Alone, Behind, Spot, AtStart, AtLibxlHeader, AtLibxlHead, AtLibxlBody, AtLibxlPadding, InImage, AtEnd, image_record, is_ident}
+use Rattle.mig_relay.specs.Spots.{Outer, Alone, Behind, Spot, AtStart, AtLibxlHeader, AtLibxlHead, AtLibxlBody, AtLibxlPadding, InImage, AtEnd, image_record, is_ident, number_of_words}
 
 -- ---- the place of what comes next
 
@@ -138,3 +138,16 @@ pub data ComesNext : Spot → List ℕ → List ℕ → Spot → List ℕ → Ty
       → length begun + length piece + to_come next ≡ to_come here + length front → ComesNext here begun piece next front
   -- the rest of it
   whole : (here next : Spot) (begun piece : List ℕ) (head : RecordHead) → in_hand here ≡ Some head → due here ≢ CountDue → FillsBody (due here) piece head → length begun + length piece ≡ to_come here → ComesBehind (head_spot here) head.kind next → ComesNext here begun piece next []
+
+-- ---- what leads to a part
+
+-- where pages come next, their words are those in hand before
+abbrev pub KeepsNumber : Spot → Spot → Type 0
+KeepsNumber here (InImage outer (AtPages o records head coming stood)) = length stood + length coming ≡ number_of_words here
+KeepsNumber here _ = ⊤
+
+-- These bytes lead there from the start of a stream, part by part; and the last of them are first bytes of what comes next.
+pub data LeadsTo : List ℕ → Spot → List ℕ → Type 0 where
+  from_start : LeadsTo [] AtStart []
+  leads_on : (bytes piece : List ℕ) (here next : Spot) (begun front : List ℕ) → LeadsTo bytes here begun → ComesNext here begun piece next front → KeepsNumber here next → LeadsTo (bytes ++ piece) next front
+  begins_part : (bytes piece : List ℕ) (here : Spot) (begun : List ℕ) → LeadsTo bytes here begun → LeadsTo (bytes ++ piece) here (begun ++ piece)

@@ -1,10 +1,11 @@
 -- What a relay of a whole stream does.
-use Rattle.std.specs.Prelude.{◌≡◌, true, ◌≤◌, ◌-◌, ◌^◌, ℕ, List, [], ◌++◌, length, min, Option, Some, Result, Ok, Err, ⊤, ◌⊎◌}
-use Rattle.mig_relay.specs.Common.{Consumes, Appends, Rose, Passes, Cause, Place, StreamOf, stream_at}
+use Rattle.std.specs.Prelude.{◌≡◌, true, ◌<◌, ◌≤◌, ◌+◌, ◌-◌, ◌^◌, ℕ, List, [], ◌++◌, length, min, Option, Some, None, Result, Ok, Err, ⊤, ◌⊎◌}
+use Rattle.mig_relay.specs.Common.{Consumes, Appends, Rose, Passes, Cause, Place, StreamOf, stream_at, before, fault_of_fields}
 use Rattle.mig_relay.specs.Streams.{open_stream_at}
-use Rattle.mig_relay.specs.Following.{place_of_spot}
+use Rattle.mig_relay.specs.Following.{LeadsTo, place_of_spot}
 use Rattle.mig_relay.specs.Keeping.{HasRecords}
-use Rattle.mig_relay.specs.Spots.{Spot, AtStart, spot, held}
+use Rattle.mig_relay.specs.Parts.{AtBody}
+use Rattle.mig_relay.specs.Spots.{Spot, AtStart, AtLibxlBody, InImage, spot, held}
 use Rattle.mig_relay.specs.Standing.{StandsForBytes, IsRefusedBehind, is_at_end}
 use Rattle.mig_relay.specs.Steps.{FrontsAreCut, EndsInside, is_judged_first}
 use Rattle.mig_relay.specs.Waiting.{Fits, most_waiting}
@@ -26,15 +27,18 @@ pub record PassedWhole (old new : Option (List ℕ)) (before now : Option (List 
   pub records : HasRecords relayed.records s
 
 -- Of the bytes that were taken, these others aren't written. The first of them were passed on and wait. What was passed on
--- ends in a part, of which it has the bytes begun, and the rest was taken of that part. The others are at most 8 for each
--- word of the part's PAGE_DATA, and 4608; and the rest alone is no more than the part has, and of a body than 4096.
+-- leads to a part, of which it has the bytes begun, and the rest was taken of that part: together no more than it has, where
+-- it is no body. The others are at most 8 for each word of the part's PAGE_DATA, and 4608; and the rest alone is no more
+-- than the part has, and of a body than 4096.
 pub record AreHeld (wrote others : List ℕ) : Type 0 where
   pub waiting : List ℕ
   pub rest : List ℕ
   pub are : others ≡ waiting ++ rest
   pub here : Spot
   pub begun : List ℕ
+  pub leads : LeadsTo (wrote ++ waiting) here begun
   pub same : (more : List ℕ) → open_stream_at ((wrote ++ waiting) ++ more) ≡ spot here (begun ++ more)
+  pub inside : is_judged_first here ≡ true → length begun + length rest ≤ held here
   pub few : length others ≤ most_waiting here
   pub rest_few : length rest ≤ held here
 
@@ -63,13 +67,20 @@ IsCutPart old new before now = (p : PassedPart old new before now) × EndsInside
 abbrev pub IsWrittenPart : Option (List ℕ) → Option (List ℕ) → Option (List ℕ) → Option (List ℕ) → Type 0
 IsWrittenPart old new before now = (p : PassedPart old new before now) × EndsInside (open_stream_at p.wrote) × NoneWaits p
 
+-- where a body comes next, it has bytes, and of an image's record nothing is wrong with the head
+abbrev pub HasFineHead : Spot → Type 0
+HasFineHead (AtLibxlBody records head) = 0 < head.len
+HasFineHead (InImage outer (AtBody o records head)) = (0 < head.len) × (fault_of_fields (before o records) head.kind head.len ≡ None)
+HasFineHead _ = ⊤
+
 -- The input is refused, with all causes but those that are left out. All that was passed on was written, and that ends in
--- the part of this place: in front of it, without a cause, or inside it where it is a body.
+-- the part of this place: in front of it, without a cause, or inside it where it is a body behind a head without fault.
 pub record RefusedPart (old new : Option (List ℕ)) (before now : Option (List ℕ)) (place : Place) (cause : Cause) : Type 0 where
   pub refused : IsRefusedBehind [] old new place cause
   pub part : PassedPart old new before now
   pub written : NoneWaits part
   pub at : place_of_spot part.held.here ≡ Some place
+  pub headed : HasFineHead part.held.here
   pub unbegun : is_judged_first part.held.here ≡ true → part.held.begun ≡ []
   pub cut : is_judged_first part.held.here ≡ true → EndsInside (open_stream_at part.wrote)
 

@@ -1,5 +1,5 @@
 -- Where a stream of either form goes on behind a faultless front (libxl migration stream, "Header" and "Records").
-use Rattle.std.specs.Prelude.{ℕ, ◌*◌, ◌==◌, ◌&&◌, nat_le, Bool, List, [], ◌∷◌, ◌++◌, length, take, Option, None, if◌then◌else◌}
+use Rattle.std.specs.Prelude.{ℕ, ◌+◌, ◌*◌, ◌==◌, ◌&&◌, nat_le, Bool, List, [], ◌∷◌, ◌++◌, length, take, Option, None, if◌then◌else◌}
 use Rattle.mig_relay.specs.Common.{padding_len, be64, Passes, LibxlRecord, LibxlContent, Image, libxc_context_type, libxl_ident, fault_of_marker, Cause, Truncated, Place, StreamOf, Bare, RecordHead, ImageOf}
 use Rattle.mig_bytes.specs.Judged.{Judged, ◌>>=◌, part, placed}
 use Rattle.mig_headers.specs.declared.fault.Place.TheVariants.{LibxlRecord as AtRecord}
@@ -60,6 +60,12 @@ spot (AtLibxlBody records head) input = do
 spot (AtLibxlPadding records head content) input = libxl_padded records head content input
 spot (InImage outer next) input = judged_next next input >>= carry outer
 spot (AtEnd s) input = Passes s input
+
+-- how many words has the PAGE_DATA in hand, from their count on
+abbrev pub number_of_words : Spot → ℕ
+number_of_words (InImage outer (AtWords o records head n)) = n
+number_of_words (InImage outer (AtPages o records head coming stood)) = length stood + length coming
+number_of_words _ = 0
 
 -- How many bytes of the part that comes next may have been taken and not written: all that it has, which are at most 8 of a
 -- padding, and of a body a piece of 4096.

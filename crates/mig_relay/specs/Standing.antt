@@ -1,12 +1,12 @@
 -- The bytes that a relay stands for, and what a step does for each list of them.
-use Rattle.std.specs.Prelude.{◌≡◌, ◌<◌, ◌-◌, ◌^◌, ℕ, Bool, true, false, List, [], ◌++◌, length, min, Option, Some, None, Result, Ok, Err, ⊤}
+use Rattle.std.specs.Prelude.{◌≡◌, ◌<◌, ◌-◌, ◌^◌, ℕ, Bool, true, false, List, [], ◌++◌, length, min, Option, Some, None, Result, Ok, Err, ⊤, if◌then◌else◌}
 use Rattle.std.specs.Io.KnownBytes.{Consumes, Appends, Keeps as Stays}
 use Rattle.mig_relay.specs.Common.{Faulty, Cause, Place, StreamOf}
 use Rattle.mig_relay.specs.Streams.{open_stream_at, IsPassable}
-use Rattle.mig_relay.specs.Following.{ComesNext, place_of_spot}
+use Rattle.mig_relay.specs.Following.{ComesNext, LeadsTo, place_of_spot}
 use Rattle.mig_relay.specs.Keeping.{Keeps, HasRecords}
 use Rattle.mig_relay.specs.Spots.{Spot, spot, held}
-use Rattle.mig_relay.specs.Steps.{IsStep, EndsInside, IsUnfinished, KeepsWordsInHand, WritesFront, is_judged_first}
+use Rattle.mig_relay.specs.Steps.{IsStep, EndsInside, IsUnfinished, WritesFront, is_judged_first}
 use Rattle.mig_relay.specs.declared.answer.RelayAnswer.{RelayAnswer}
 use Rattle.mig_relay.specs.declared.answer.RelayAnswer.TheVariants.{Refused, ReadFault, WriteFault, Memory}
 use Rattle.mig_relay.specs.declared.answer.Step.{Step}
@@ -15,12 +15,13 @@ use Rattle.mig_relay.specs.declared.state.Coming.{Coming}
 use Rattle.mig_relay.specs.declared.state.Coming.TheVariants as comes
 use Rattle.mig_relay.specs.declared.state.Relay.{Relay}
 
--- A relay stands for these bytes: whatever follows them, an input is judged as what comes next is judged from there on; and
--- it has counted them.
+-- A relay stands for these bytes: they lead to what comes next; whatever follows them, an input is judged as that is judged
+-- from there on; and it has counted them.
 pub record StandsForBytes (r : Relay) (bytes : List ℕ) : Type 0 where
   pub here : Spot
   pub begun : List ℕ
   pub keeps : Keeps r here begun
+  pub leads : LeadsTo bytes here begun
   pub same : (more : List ℕ) → open_stream_at (bytes ++ more) ≡ spot here (begun ++ more)
   pub count : r.passed ≡ min (length bytes) (2 ^ 64 - 1)
 
@@ -70,7 +71,6 @@ pub record PassesOn (here : Spot) (begun bytes : List ℕ) (step : Step) (r t : 
   pub stands : StandsForBytes t (bytes ++ piece)
   pub follows : ComesNext here begun piece stands.here stands.begun
   pub is : IsStep here piece t step
-  pub words : KeepsWordsInHand r t step
 
 -- the open refusal of these bytes and those that are left
 abbrev pub IsRefusedBehind : List ℕ → Option (List ℕ) → Option (List ℕ) → Place → Cause → Type 0
@@ -102,3 +102,7 @@ abbrev pub goes_on : Result Step RelayAnswer → Bool
 goes_on (Ok Done) = false
 goes_on (Ok step) = true
 goes_on (Err answer) = false
+
+-- a relay behind a step: it is over, where the step doesn't leave one that goes on
+abbrev pub behind_step : Result Step RelayAnswer → Relay → Relay
+behind_step result r = if goes_on result then r else record r { coming = comes.Over }

@@ -74,6 +74,12 @@ FrontsAreCut here begun piece = (front more : List ℕ) → piece ≡ front ++ m
 abbrev pub KeepsWordsInHand : Relay → Relay → Step → Type 0
 KeepsWordsInHand r t step = step ≡ Piece → words_in_hand t ≡ words_in_hand r
 
+-- Behind a head no words are in hand, and behind words these; whatever else is answered, they are the words of before.
+abbrev pub LeavesWords : Result Step RelayAnswer → Relay → Relay → Type 0
+LeavesWords (Ok (Head wrapped head)) r t = words_in_hand t ≡ []
+LeavesWords (Ok Words) r t = ⊤
+LeavesWords result r t = words_in_hand t ≡ words_in_hand r
+
 -- a piece was taken and written, and the relay has it behind it
 pub record PassedPiece (here : Spot) (begun : List ℕ) (step : Step) (r t : Relay) (old new : Option (List ℕ)) (before now : Option (List ℕ)) : Type 0 where
   pub piece : List ℕ

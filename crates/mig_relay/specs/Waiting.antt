@@ -1,7 +1,6 @@
 -- What waits to be written: how many bytes may, before and behind the next part.
 use Rattle.std.specs.Prelude.{ℕ, ◌≤◌, ◌+◌, ◌*◌, List, length}
-use Rattle.mig_relay.specs.Parts.{AtWords, AtPages}
-use Rattle.mig_relay.specs.Spots.{Spot, InImage}
+use Rattle.mig_relay.specs.Spots.{Spot, number_of_words}
 use Rattle.mig_relay.specs.declared.state.Coming.{Coming}
 use Rattle.mig_relay.specs.declared.state.Coming.TheVariants as comes
 use Rattle.mig_relay.specs.declared.state.Relay.{Relay}
@@ -21,8 +20,6 @@ abbrev pub Fits : Relay → List ℕ → Type 0
 Fits r waiting = length waiting ≤ may_wait r.coming (length r.words.items)
 
 -- How many bytes, of the part that comes next and in front of it, may have been taken and not written: 8 for each word of
--- its PAGE_DATA, and 4608. Each word whose page was taken has an entry, and each other one still comes.
+-- its PAGE_DATA, and 4608.
 abbrev pub most_waiting : Spot → ℕ
-most_waiting (InImage outer (AtWords o records head n)) = 8 * n + 4608
-most_waiting (InImage outer (AtPages o records head coming stood)) = 8 * (length stood + length coming) + 4608
-most_waiting _ = 4608
+most_waiting here = 8 * number_of_words here + 4608

@@ -3,7 +3,7 @@ ghost use Rattle.mig_relay.specs.Common.{End, type_number, padding_len, LibxlRec
 ghost use Rattle.mig_relay.specs.Keeping.{KeepsBody, KeepsHead, KeepsOpen, KeepsOuter, KeepsFirst, IsBodied, IsOther, top_with, with_one};
 ghost use Rattle.mig_relay.specs.Parts.{AtBody, AtPadding, record_with};
 ghost use Rattle.mig_relay.specs.Spots.{Outer, AtLibxlBody, AtLibxlPadding, InImage};
-ghost use Rattle.mig_relay.specs.Steps.{StepMoved, RisesOnFault};
+ghost use Rattle.mig_relay.specs.Steps.{LeavesWords, StepMoved, RisesOnFault};
 ghost use Rattle.mig_relay.specs.declared.state.Coming.TheVariants as comes;
 
 use crate::answer::{RelayAnswer, Step};
@@ -57,6 +57,7 @@ impl Relay {
         ensures moved { (outer : Outer) (o : Opening) (records : List StreamRecord) (begun : List ℕ) → KeepsOuter self.old outer → KeepsHead self.old o records head (top_with head.kind begun (before o records).top) → IsOther o records head → KeepsFirst self.old head begun
             → KeepsBody self.old head (fault_of_record_body head.kind) begun
             → StepMoved (InImage outer (AtBody o records head)) begun self.old self.new (S.left src.old) (S.left src.new) (K.written sink.old) (K.written sink.new) result }
+        ensures words { LeavesWords result self.old self.new }
         ensures faults { RisesOnFault (S.faults src.old) (S.faults src.new) (K.faults sink.old) (K.faults sink.new) result }
     {
         let place = Place::Record(u64::from(self.seen.records - 1));
@@ -92,6 +93,7 @@ impl Relay {
         requires count { 0 < self.old.seen.records }
         ensures moved { (outer : Outer) (o : Opening) (records : List StreamRecord) (content : Content) → KeepsOuter self.old outer → KeepsHead self.old o records head (before o (records ++ record_with records head content ∷ [])).top → head.kind ≢ type_number End
             → StepMoved (InImage outer (AtPadding o records head content)) [] self.old self.new (S.left src.old) (S.left src.new) (K.written sink.old) (K.written sink.new) result }
+        ensures words { LeavesWords result self.old self.new }
         ensures faults { RisesOnFault (S.faults src.old) (S.faults src.new) (K.faults sink.old) (K.faults sink.new) result }
     {
         let mut bytes = [0; 8];
@@ -120,6 +122,7 @@ impl Relay {
         requires room { IfSome self.old.wrapper (λ behind. behind.records < most_records) }
         ensures moved { (records : List LibxlRecord) (begun : List ℕ) → KeepsOpen self.old records → IsBodied head → KeepsBody self.old head (fault_of_libxl_body head.kind) begun
             → StepMoved (AtLibxlBody records head) begun self.old self.new (S.left src.old) (S.left src.new) (K.written sink.old) (K.written sink.new) result }
+        ensures words { LeavesWords result self.old self.new }
         ensures faults { RisesOnFault (S.faults src.old) (S.faults src.new) (K.faults sink.old) (K.faults sink.new) result }
     {
         let Some(behind) = self.wrapper else {
@@ -171,6 +174,7 @@ impl Relay {
         requires room { IfSome self.old.wrapper (λ behind. behind.records < most_records) }
         ensures moved { (records : List LibxlRecord) (content : LibxlContent) → KeepsOpen self.old records → IsBodied head → image_in content ≡ None
             → StepMoved (AtLibxlPadding records head content) [] self.old self.new (S.left src.old) (S.left src.new) (K.written sink.old) (K.written sink.new) result }
+        ensures words { LeavesWords result self.old self.new }
         ensures faults { RisesOnFault (S.faults src.old) (S.faults src.new) (K.faults sink.old) (K.faults sink.new) result }
     {
         let Some(behind) = self.wrapper else {

@@ -5,7 +5,7 @@ ghost use Rattle.mig_records.specs.Faults.{fault_of_length};
 ghost use Rattle.mig_relay.specs.Keeping.{HasBegun, HasBegunLibxl, KeepsOuter, KeepsGoing, KeepsRecords, fault_of_empty, with_one};
 ghost use Rattle.mig_relay.specs.Parts.{AtHead};
 ghost use Rattle.mig_relay.specs.Spots.{Outer, AtLibxlHead, InImage};
-ghost use Rattle.mig_relay.specs.Steps.{StepMoved, RisesOnFault};
+ghost use Rattle.mig_relay.specs.Steps.{LeavesWords, StepMoved, RisesOnFault};
 ghost use Rattle.mig_relay.specs.declared.state.Coming.TheVariants as comes;
 
 use crate::answer::{RelayAnswer, Step};
@@ -85,6 +85,7 @@ impl Relay {
         requires room { IfSome self.old.wrapper (λ behind. behind.records < most_records) }
         ensures moved { (outer : Outer) (o : Opening) (records : List StreamRecord) → KeepsOuter self.old outer → KeepsRecords self.old o records (types_of records) (before o records).top
             → StepMoved (InImage outer (AtHead o records)) [] self.old self.new (S.left src.old) (S.left src.new) (K.written sink.old) (K.written sink.new) result }
+        ensures words { LeavesWords result self.old self.new }
         ensures faults { RisesOnFault (S.faults src.old) (S.faults src.new) (K.faults sink.old) (K.faults sink.new) result }
     {
         let place = Place::Record(u64::from(self.seen.records));
@@ -152,6 +153,7 @@ impl Relay {
     ) -> Result<Step, RelayAnswer>
         requires { IsSome self.old.wrapper }
         ensures moved { (records : List LibxlRecord) → KeepsGoing self.old records → StepMoved (AtLibxlHead records) [] self.old self.new (S.left src.old) (S.left src.new) (K.written sink.old) (K.written sink.new) result }
+        ensures words { LeavesWords result self.old self.new }
         ensures faults { RisesOnFault (S.faults src.old) (S.faults src.new) (K.faults sink.old) (K.faults sink.new) result }
     {
         let Some(behind) = self.wrapper else {

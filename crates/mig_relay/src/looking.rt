@@ -6,7 +6,7 @@ ghost use Rattle.mig_relay.specs.Looking.{TakesUnseenPage};
 ghost use Rattle.mig_relay.specs.Parts.{AtPages};
 ghost use Rattle.mig_relay.specs.Spots.{Spot, Outer, InImage, begins_with_ident};
 ghost use Rattle.mig_relay.specs.Standing.{StandsForBytes, StepSays, is_over, is_at_end, is_at_start, goes_on, IsNotRefused};
-ghost use Rattle.mig_relay.specs.Steps.{StepMoved, RisesOnFault};
+ghost use Rattle.mig_relay.specs.Steps.{LeavesWords, StepMoved, RisesOnFault};
 ghost use Rattle.mig_relay.specs.Streams.{IsPassable};
 ghost use Rattle.mig_relay.specs.declared.answer.Step.TheVariants.{Done};
 
@@ -49,6 +49,7 @@ impl Relay {
         requires few { length self.old.words.items ≤ 2 ^ 24 }
         ensures moved { (outer : Outer) (o : Opening) (records : List StreamRecord) (coming : List (ℕ × ℕ)) (stood : List FrameEntry) → KeepsOuter self.old outer → KeepsHead self.old o records head (before o records).top → IsPages head → padding_len head.len ≡ 0 → KeepsWords self.old coming stood
             → StepMoved (InImage outer (AtPages o records head coming stood)) [] self.old self.new (S.left src.old) (S.left src.new) None None result }
+        ensures words { LeavesWords result self.old self.new }
         ensures faults { RisesOnFault (S.faults src.old) (S.faults src.new) 0 0 result }
     {
         let kind = type_in_guest(self.seen.kind, type_in(self.words[self.page]));
@@ -73,6 +74,7 @@ impl Relay {
         ensures ident { (left : List ℕ) → is_at_start self.old.coming ≡ true → S.left src.old ≡ Some left → begins_with_ident left ≡ true → IsNotRefused result }
         ensures over { is_at_end self.old.coming ≡ true → result ≡ Ok Done }
         ensures stays { is_at_end self.old.coming ≡ true → self.new ≡ self.old }
+        ensures words { LeavesWords result self.old self.new }
         ensures faults { RisesOnFault (S.faults src.old) (S.faults src.new) 0 0 result }
     {
         match self.coming {
@@ -90,19 +92,11 @@ impl Relay {
         ensures ident { (left : List ℕ) → is_at_start self.old.coming ≡ true → S.left src.old ≡ Some left → begins_with_ident left ≡ true → IsNotRefused result }
         ensures stands { goes_on result ≡ true → Stands self.new }
         ensures over { goes_on result ≡ false → is_over self.new ≡ true }
+        ensures words { LeavesWords result self.old self.new }
         ensures faults { RisesOnFault (S.faults src.old) (S.faults src.new) 0 0 result }
     {
-        match self.look_at_part(src) {
-            Ok(step) => {
-                if step == Step::Done {
-                    self.coming = Coming::Over;
-                }
-                Ok(step)
-            }
-            Err(answer) => {
-                self.coming = Coming::Over;
-                Err(answer)
-            }
-        }
+        let result = self.look_at_part(src);
+        self.end_behind(result);
+        result
     }
 }

@@ -3,7 +3,7 @@ ghost use Rattle.mig_relay.specs.Keeping.{KeepsOuter, KeepsWrapper};
 ghost use Rattle.mig_relay.specs.Parts.{AtMarker, AtVersion, AtKind};
 ghost use Rattle.mig_relay.specs.Spots.{Outer, AtStart, AtLibxlHeader, InImage, begins_with_ident, fault_of_first};
 ghost use Rattle.mig_relay.specs.Standing.{IsNotRefused};
-ghost use Rattle.mig_relay.specs.Steps.{StepMoved, RisesOnFault};
+ghost use Rattle.mig_relay.specs.Steps.{LeavesWords, StepMoved, RisesOnFault};
 
 use crate::answer::{RelayAnswer, Step};
 use crate::state::{Coming, Relay, answer};
@@ -40,6 +40,7 @@ impl Relay {
         requires { self.old.wrapper ≡ None }
         ensures ident { (left : List ℕ) → S.left src.old ≡ Some left → begins_with_ident left ≡ true → IsNotRefused result }
         ensures moved { StepMoved AtStart [] self.old self.new (S.left src.old) (S.left src.new) (K.written sink.old) (K.written sink.new) result }
+        ensures words { LeavesWords result self.old self.new }
         ensures faults { RisesOnFault (S.faults src.old) (S.faults src.new) (K.faults sink.old) (K.faults sink.new) result }
     {
         let mut bytes = [0; 8];
@@ -70,6 +71,7 @@ impl Relay {
     ) -> Result<Step, RelayAnswer>
         requires { KeepsWrapper self.old [] }
         ensures moved { StepMoved AtLibxlHeader [] self.old self.new (S.left src.old) (S.left src.new) (K.written sink.old) (K.written sink.new) result }
+        ensures words { LeavesWords result self.old self.new }
         ensures faults { RisesOnFault (S.faults src.old) (S.faults src.new) (K.faults sink.old) (K.faults sink.new) result }
     {
         let mut bytes = [0; 8];
@@ -95,6 +97,7 @@ impl Relay {
         sink: &mut K,
     ) -> Result<Step, RelayAnswer>
         ensures moved { (outer : Outer) → KeepsOuter self.old outer → StepMoved (InImage outer AtMarker) [] self.old self.new (S.left src.old) (S.left src.new) (K.written sink.old) (K.written sink.new) result }
+        ensures words { LeavesWords result self.old self.new }
         ensures faults { RisesOnFault (S.faults src.old) (S.faults src.new) (K.faults sink.old) (K.faults sink.new) result }
     {
         let mut bytes = [0; 8];
@@ -118,6 +121,7 @@ impl Relay {
         sink: &mut K,
     ) -> Result<Step, RelayAnswer>
         ensures moved { (outer : Outer) → KeepsOuter self.old outer → StepMoved (InImage outer AtVersion) [] self.old self.new (S.left src.old) (S.left src.new) (K.written sink.old) (K.written sink.new) result }
+        ensures words { LeavesWords result self.old self.new }
         ensures faults { RisesOnFault (S.faults src.old) (S.faults src.new) (K.faults sink.old) (K.faults sink.new) result }
     {
         let mut bytes = [0; 16];
@@ -144,6 +148,7 @@ impl Relay {
         version: u32,
     ) -> Result<Step, RelayAnswer>
         ensures moved { (outer : Outer) → KeepsOuter self.old outer → StepMoved (InImage outer (AtKind version)) [] self.old self.new (S.left src.old) (S.left src.new) (K.written sink.old) (K.written sink.new) result }
+        ensures words { LeavesWords result self.old self.new }
         ensures faults { RisesOnFault (S.faults src.old) (S.faults src.new) (K.faults sink.old) (K.faults sink.new) result }
     {
         let mut bytes = [0; 16];

@@ -3,7 +3,7 @@ ghost use Rattle.mig_relay.specs.Common.{padding_len, most_body, word_has_data, 
 ghost use Rattle.mig_relay.specs.Keeping.{KeepsHead, KeepsOuter, KeepsWords, IsPages};
 ghost use Rattle.mig_relay.specs.Parts.{AtFront, AtWords, AtPages};
 ghost use Rattle.mig_relay.specs.Spots.{Outer, InImage};
-ghost use Rattle.mig_relay.specs.Steps.{StepMoved, RisesOnFault};
+ghost use Rattle.mig_relay.specs.Steps.{LeavesWords, StepMoved, RisesOnFault};
 ghost use Rattle.mig_relay.specs.declared.state.Coming.TheVariants as comes;
 
 use crate::answer::{RelayAnswer, Step};
@@ -38,6 +38,7 @@ impl Relay {
         requires count { 0 < self.old.seen.records }
         ensures moved { (outer : Outer) (o : Opening) (records : List StreamRecord) → KeepsOuter self.old outer → KeepsHead self.old o records head (before o records).top → IsPages head
             → StepMoved (InImage outer (AtFront o records head)) [] self.old self.new (S.left src.old) (S.left src.new) (K.written sink.old) (K.written sink.new) result }
+        ensures words { LeavesWords result self.old self.new }
         ensures faults { RisesOnFault (S.faults src.old) (S.faults src.new) (K.faults sink.old) (K.faults sink.new) result }
     {
         let place = Place::Record(u64::from(self.seen.records - 1));
@@ -87,6 +88,7 @@ impl Relay {
         requires within { 8 + 8 * count ≤ head.len }
         ensures moved { (outer : Outer) (o : Opening) (records : List StreamRecord) → KeepsOuter self.old outer → KeepsHead self.old o records head (before o records).top → IsPages head
             → StepMoved (InImage outer (AtWords o records head count)) [] self.old self.new (S.left src.old) (S.left src.new) (K.written sink.old) (K.written sink.new) result }
+        ensures words { LeavesWords result self.old self.new }
         ensures faults { RisesOnFault (S.faults src.old) (S.faults src.new) (K.faults sink.old) (K.faults sink.new) result }
     {
         let place = Place::Record(u64::from(self.seen.records - 1));
@@ -121,6 +123,7 @@ impl Relay {
         requires few { length self.old.words.items ≤ 2 ^ 24 }
         ensures moved { (outer : Outer) (o : Opening) (records : List StreamRecord) (coming : List (ℕ × ℕ)) (stood : List FrameEntry) → KeepsOuter self.old outer → KeepsHead self.old o records head (before o records).top → IsPages head → padding_len head.len ≡ 0 → KeepsWords self.old coming stood
             → StepMoved (InImage outer (AtPages o records head coming stood)) [] self.old self.new (S.left src.old) (S.left src.new) (K.written sink.old) (K.written sink.new) result }
+        ensures words { LeavesWords result self.old self.new }
         ensures faults { RisesOnFault (S.faults src.old) (S.faults src.new) (K.faults sink.old) (K.faults sink.new) result }
     {
         let place = Place::Record(u64::from(self.seen.records - 1));

@@ -6,7 +6,7 @@ ghost use Rattle.mig_relay.specs.Waiting.{Fits};
 
 use crate::answer::{RelayAnswer, Relayed, Step};
 use crate::held::Held;
-use crate::state::Relay;
+use crate::state::{Relay, goes_on};
 use mig_bytes::{Sink, Source};
 use std::alloc::Global;
 
@@ -28,16 +28,6 @@ fn unwritten(step: Result<Step, RelayAnswer>) -> RelayAnswer
     match step {
         Err(RelayAnswer::ReadFault) => RelayAnswer::ReadFault,
         _ => RelayAnswer::WriteFault,
-    }
-}
-
-/// Whether a step leaves a relay that goes on.
-fn goes_on(step: Result<Step, RelayAnswer>) -> bool
-    ensures { result ≡ goes_on step }
-{
-    match step {
-        Ok(step) => step != Step::Done,
-        Err(_) => false,
     }
 }
 

@@ -4,8 +4,8 @@ ghost use Rattle.mig_relay.specs.Streams.{IsPassable};
 ghost use Rattle.mig_relay.specs.Following.{in_hand};
 ghost use Rattle.mig_relay.specs.Keeping.{Keeps, Stands, words_in_hand};
 ghost use Rattle.mig_relay.specs.Spots.{Spot, AtStart, begins_with_ident};
-ghost use Rattle.mig_relay.specs.Standing.{StandsForBytes, StepSays, is_over, is_at_end, is_at_start, is_within, goes_on, IsNotRefused};
-ghost use Rattle.mig_relay.specs.Steps.{StepMoved, RisesOnFault, answer_of, counted};
+ghost use Rattle.mig_relay.specs.Standing.{StandsForBytes, StepSays, is_over, is_at_end, is_at_start, is_within, behind_step, goes_on, IsNotRefused};
+ghost use Rattle.mig_relay.specs.Steps.{LeavesWords, StepMoved, RisesOnFault, answer_of, counted};
 ghost use Rattle.mig_relay.specs.Waiting.{may_wait};
 ghost use Rattle.mig_relay.specs.declared.answer.Step.TheVariants.{Done};
 
@@ -93,6 +93,16 @@ fn is_within(coming: Coming) -> bool
         | Coming::Page(_)
         | Coming::Padding(_) => true,
         _ => false,
+    }
+}
+
+/// Whether a step leaves a relay that goes on.
+pub(crate) fn goes_on(step: Result<Step, RelayAnswer>) -> bool
+    ensures { result ≡ goes_on step }
+{
+    match step {
+        Ok(step) => step != Step::Done,
+        Err(_) => false,
     }
 }
 
@@ -198,6 +208,7 @@ impl Relay {
         ensures ident { (left : List ℕ) → is_at_start self.old.coming ≡ true → S.left src.old ≡ Some left → begins_with_ident left ≡ true → IsNotRefused result }
         ensures over { is_at_end self.old.coming ≡ true → result ≡ Ok Done }
         ensures stays { is_at_end self.old.coming ≡ true → self.new ≡ self.old }
+        ensures words { LeavesWords result self.old self.new }
         ensures faults { RisesOnFault (S.faults src.old) (S.faults src.new) (K.faults sink.old) (K.faults sink.new) result }
     {
         match self.coming {
@@ -220,6 +231,15 @@ impl Relay {
         }
     }
 
+    /// The relay is over behind the last step: Done or an error.
+    pub(crate) fn end_behind(&mut self, step: Result<Step, RelayAnswer>)
+        ensures { self.new ≡ behind_step step self.old }
+    {
+        if !goes_on(step) {
+            self.coming = Coming::Over;
+        }
+    }
+
     /// Takes the next part, or a piece of it, and writes it: headers, heads, words and table pages only once they are
     /// judged, a body piece by piece, and then it is judged. `Done` behind the last part, with nothing taken; the relay is
     /// over then, as behind an error. `Refused` has the place and the cause of the first fault, and then the source was
@@ -239,19 +259,12 @@ impl Relay {
         ensures ident { (left : List ℕ) → is_at_start self.old.coming ≡ true → S.left src.old ≡ Some left → begins_with_ident left ≡ true → IsNotRefused result }
         ensures stands { goes_on result ≡ true → Stands self.new }
         ensures over { goes_on result ≡ false → is_over self.new ≡ true }
+        // No words are in hand behind a head; behind words these are, and else those of before.
+        ensures words { LeavesWords result self.old self.new }
         ensures faults { RisesOnFault (S.faults src.old) (S.faults src.new) (K.faults sink.old) (K.faults sink.new) result }
     {
-        match self.pass_part(src, sink) {
-            Ok(step) => {
-                if step == Step::Done {
-                    self.coming = Coming::Over;
-                }
-                Ok(step)
-            }
-            Err(answer) => {
-                self.coming = Coming::Over;
-                Err(answer)
-            }
-        }
+        let result = self.pass_part(src, sink);
+        self.end_behind(result);
+        result
     }
 }

@@ -1,4 +1,4 @@
-use Rattle.mig_relay.proofs.Common.{◌++◌, length-append, append-nil, arith, rules, subst, ◌≡◌}
+use Rattle.mig_relay.proofs.Common.{◌++◌, length-append, arith, rules}
 use Rattle.std.proofs.KnownBytes.{Consumes-trans, Consumes-kept}
 use Rattle.mig_relay.proofs.Unseen.{took, ended, failed}
 use Rattle.mig_relay.proofs.looking.take_unseen_page.Goals as goal

@@ -1,4 +1,4 @@
-use Rattle.mig_relay.proofs.Common.{◌≡◌, ◌≤◌, ◌+◌, ◌^◌, ◌∷◌, ◌++◌, None, Some, Ok, Err, length, length-append, arith, rules, refl, sym, subst, [], ap, ◌∙◌, Record, before, type_in_word, type_in_guest, fault_of_level, part, Truncated, AgreesWithJudging, TakesFew, AtPages, entry_of_word, InImage, answer_of, Relay, get_or_read}
+use Rattle.mig_relay.proofs.Common.{◌≡◌, ◌+◌, ◌∷◌, ◌++◌, None, Some, Ok, Err, length, length-append, arith, rules, refl, sym, subst, [], ap, ◌∙◌, Record, before, type_in_word, type_in_guest, fault_of_level, part, Truncated, AgreesWithJudging, TakesFew, AtPages, entry_of_word, InImage, answer_of, Relay, get_or_read}
 use Rattle.mig_pagetypes.specs.PageTypes.{level_of}
 use Rattle.mig_relay.specs.Steps.{counted}
 use Rattle.mig_relay.proofs.Moves.{not_taken, went}

@@ -1,23 +1,19 @@
-use Rattle.mig_relay.proofs.Common.{rules, refl, ap, Ok, ◌≡◌, Done}
-use Rattle.mig_relay.specs.Standing.{goes_on}
-use Rattle.mig_relay.proofs.Steps.{says_of, says_over, over_there, stands_behind}
-use Rattle.mig_relay.specs.declared.state.Coming.TheVariants as comes
+use Rattle.mig_relay.proofs.Common.{sym, subst}
+use Rattle.mig_relay.specs.Keeping.{Stands}
+use Rattle.mig_relay.proofs.Steps.{says_behind, going_behind, over_behind, leaves_words, over_there, stands_behind}
 use Rattle.mig_relay.proofs.state.Relay.step.Goals as goal
 
-pub returns-then-eq-clause-says : goal.returns-then-eq-clause-says
-returns-then-eq-clause-says g c = λ bytes s. let done : c.in-Ok.step ≡ Done = search rules in says_over c.args.self.now c.pass_part.new.self _ _ _ _ _ c.in-Ok.ensures.moved bytes s _ (ap (λ x. goes_on (Ok x)) done)
+pub returns-clause-says : goal.returns-clause-says
+returns-clause-says g c = λ bytes s. says_behind c.args.self.now c.pass_part-result.new.self _ _ _ _ _ c.pass_part-result.ensures.moved bytes s _ c.end_behind.ensures
 
-pub returns-else-eq-clause-says : goal.returns-else-eq-clause-says
-returns-else-eq-clause-says g c = λ bytes s. says_of c.args.self.now c.pass_part.new.self _ _ _ _ _ c.in-Ok.ensures.moved bytes s
+pub returns-clause-done : goal.returns-clause-done
+returns-clause-done g c = λ bytes whole s passes. c.pass_part-result.ensures.over (over_there s whole passes)
 
-pub returns-else-eq-clause-stands : goal.returns-else-eq-clause-stands
-returns-else-eq-clause-stands g c = stands_behind c.args.self.now c.pass_part.new.self _ _ _ _ _ c.in-Ok.ensures.moved c.requires
+pub returns-clause-stands : goal.returns-clause-stands
+returns-clause-stands g c = λ on. subst Stands (sym (going_behind _ _ _ c.end_behind.ensures on)) (stands_behind c.args.self.now c.pass_part-result.new.self _ _ _ _ _ c.pass_part-result.ensures.moved c.requires on)
 
-pub returns-else-eq-clause-done : goal.returns-else-eq-clause-done
-returns-else-eq-clause-done g c = λ bytes whole s passes. c.in-Ok.ensures.over (over_there s whole passes)
+pub returns-clause-over : goal.returns-clause-over
+returns-clause-over g c = over_behind _ _ _ c.end_behind.ensures
 
-pub returns-in-Err-clause-says : goal.returns-in-Err-clause-says
-returns-in-Err-clause-says g c = λ bytes s. says_over c.args.self.now c.pass_part.new.self _ _ _ _ _ c.in-Err.ensures.moved bytes s (record c.pass_part.new.self { coming = comes.Over }) refl
-
-pub returns-in-Err-clause-done : goal.returns-in-Err-clause-done
-returns-in-Err-clause-done g c = λ bytes whole s passes. c.in-Err.ensures.over (over_there s whole passes)
+pub returns-clause-words : goal.returns-clause-words
+returns-clause-words g c = leaves_words _ c.args.self.now _ _ c.end_behind.ensures c.pass_part-result.ensures.words
