@@ -158,22 +158,6 @@ pub copy_comes : (Accepts : Accepting) (Refuses : Refusing) (e : Effects) (outco
     → InputRises (status_of outcome) e.input.failed e.input.failed_now → OutputRises (status_of outcome) e.out.failed e.out.failed_now → ComesTo (copies_text (HasFront Accepts) Refuses (Normalised Accepts) (PartWritten Accepts canon_any)) e outcome
 copy_comes Accepts Refuses e outcome said answers read write = record { said = said; known = never_usage outcome answers; kept = λ never. absurd (never (may_write outcome answers)); read = read; write = write }
 
--- what is normalised with all pages kept comes to the same
-pub kept_comes : (e : Effects) (outcome : Outcome) → ComesTo normalise_promise e outcome → ComesTo normalise_file_promise e outcome
-kept_comes e outcome came = record { said = came.said; known = came.known; kept = λ never. came.kept (λ may. never (by may)); read = came.read; write = came.write }
-  where
-    by : (status_of outcome ≡ statuses.Done) ⊎ (status_of outcome ≡ statuses.WriteFault) → normalise_file_promise.MayWrite (status_of outcome)
-    by (inl is) = inl is
-    by (inr is) = inr (inl is)
-
--- and then nothing was written where a read failed
-pub kept_untouched : (e : Effects) (outcome : Outcome) → ComesTo normalise_promise e outcome → outcome ≡ outcomes.ReadFault → e.out.Untouched
-kept_untouched e outcome came failed = came.kept (by (ap status_of failed))
-  where
-    by : status_of outcome ≡ statuses.ReadFault → (status_of outcome ≡ statuses.Done) ⊎ (status_of outcome ≡ statuses.WriteFault) → ⊥
-    by is (inl done) = cc
-    by is (inr fault) = cc
-
 -- ---- the text that is copied
 
 -- what a writer does with the frames of these places in this file, it does with those that they read as there

@@ -52,13 +52,13 @@ unpassed : (told : Option (List ℕ)) (e : Effects) (answer : RelayAnswer) → I
 unpassed None e answer r = tt
 unpassed (Some input) e (answers.Refused place cause) r = let h = r.is.refused in (h.0, h.1, h.2)
 unpassed (Some input) e answers.ReadFault r = tt
-unpassed (Some input) e answers.WriteFault r = inl r.is.0
+unpassed (Some input) e answers.WriteFault r = inl r.is
 unpassed (Some input) e answers.Memory r = tt
 
 unpassed_says : (told left old new : Option (List ℕ)) (answer : RelayAnswer) → IsRelayed told left old new (Err answer) → SaysRelayed (status_of (outcome_of_relay answer)) told left old new
 unpassed_says told left old new (answers.Refused place cause) r = (place, cause, r.is)
 unpassed_says told left old new answers.ReadFault r = r.is
-unpassed_says told left old new answers.WriteFault r = inl r.is.0
+unpassed_says told left old new answers.WriteFault r = inl r.is
 unpassed_says told left old new answers.Memory r = r.is
 
 -- the counts of the input and the output rose as the answer says
@@ -82,7 +82,7 @@ record IsAnswered (e : Effects) (answer : RelayAnswer) : Type 0 where
 answered : (e : Effects) (answer : RelayAnswer) → IsRelayed e.input.told e.input.left e.out.old e.out.new (Err answer) → AnswerRises e answer → Reports (line_of (outcome_of_relay answer)) e.report.old e.report.new e.report.failed e.report.failed_now → IsAnswered e answer
 answered e (answers.Refused place cause) r rises line = record { known = λ u. cc; undone = λ d. cc; read = rises.0; out = omega (arith, rises.1); own = tt; stopped = λ f. cc }
 answered e answers.ReadFault r rises line = record { known = λ u. cc; undone = λ d. cc; read = (rises.0, rises.1); out = rises.2; own = tt; stopped = λ f. cc }
-answered e answers.WriteFault r rises line = record { known = λ u. cc; undone = λ d. cc; read = rises.0; out = rises.1; own = inr (put_some e line); stopped = λ _. record { rose = rises.2; part = r.is.0; line = line } }
+answered e answers.WriteFault r rises line = record { known = λ u. cc; undone = λ d. cc; read = rises.0; out = rises.1; own = inr (put_some e line); stopped = λ _. record { rose = rises.2; part = r.is; line = line } }
 answered e answers.Memory r rises line = record { known = λ u. cc; undone = λ d. cc; read = rises.0; out = omega (arith, rises.1); own = tt; stopped = λ f. cc }
 
 -- what came of a stream that wasn't passed on to its end: the line of its outcome is put

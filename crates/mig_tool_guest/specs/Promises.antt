@@ -1,6 +1,6 @@
 -- What each command that reads a guest, or passes its stream on, promises.
 use Rattle.std.specs.Prelude.{◌≡◌, ◌⊎◌, ℕ, List, ⊤, Some}
-use Rattle.mig_tool_guest.specs.Common.{Appends, AppendsPart, Rose, GuestOf, canon_any, AcceptedStream, PassedPart, IsDoneOrStarved, Promise, copies_text, reports_line, writes_text, ok_line, relayed_line, walked_line, EndsWithOwnLine, PutsLineOrFault}
+use Rattle.mig_tool_guest.specs.Common.{Appends, AppendsPart, Rose, GuestOf, canon_any, AcceptedStream, IsCutPart, IsDoneOrStarved, Promise, copies_text, reports_line, writes_text, ok_line, relayed_line, walked_line, EndsWithOwnLine, PutsLineOrFault}
 use Rattle.mig_legacy.specs.Spelled.{AcceptedLegacy}
 use Rattle.mig_tool_report.specs.Report.{checked_legacy_line, checked_line}
 use Rattle.mig_tool_report.specs.declared.status.Status.TheVariants as statuses
@@ -71,7 +71,7 @@ relay_promise = record {
   EndsWith = λ input. IsDoneOrStarved;
   Refuses = HasOpenRefusal;
   Done = λ input e. FrontRelayed (Appends e.report.old e.report.new) input e.input.left e.out.old e.out.new;
-  DonePart = λ input e. PassedPart (Some input) e.input.left e.out.old e.out.new ⊎ FrontRelayed (AppendsPart e.report.old e.report.new) input e.input.left e.out.old e.out.new;
+  DonePart = λ input e. IsCutPart (Some input) e.input.left e.out.old e.out.new ⊎ FrontRelayed (AppendsPart e.report.old e.report.new) input e.input.left e.out.old e.out.new;
   WriteRose = λ e. Rose e.out.failed e.out.failed_now ⊎ Rose e.report.failed e.report.failed_now;
   HasOwnLine = EndsWithOwnLine;
   PutsOwnLine = λ report status. PutsLineOrFault relayed_line report.old report.new status;

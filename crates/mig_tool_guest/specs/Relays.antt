@@ -27,21 +27,21 @@ pub record FrontRelayed (Reported : List ℕ → Type 0) (input : List ℕ) (lef
   pub reported : Reported (relayed_line summary)
 
 -- What was written is a front of what was taken, whatever the status: the whole of it, and that may pass, with status 0; with
--- status 1 all that was passed on in front of the refused part, or inside it where it is a body; with status 3 and 5 it ends
--- inside a part, without a cause, and with status 5 it is all that was passed on. With every status but 0 and 4 no front of
--- it is an accepted stream.
+-- status 1 all that was passed on in front of the refused part, or inside it where it is a body; with status 3, 4 and 5 it
+-- ends inside a part, without a cause, unless status 4 is the report's alone, and then it is as with status 0; and with
+-- status 5 it is all that was passed on. Where it isn't the whole, no front of it is an accepted stream.
 abbrev pub SaysRelayed : Status → Option (List ℕ) → Option (List ℕ) → Option (List ℕ) → Option (List ℕ) → Type 0
 SaysRelayed statuses.Done told left old new = (summary : RelaySummary) × PassedOn told left old new summary
-SaysRelayed statuses.WriteFault told left old new = PassedPart told left old new ⊎ ((summary : RelaySummary) × PassedOn told left old new summary)
+SaysRelayed statuses.WriteFault told left old new = IsCutPart told left old new ⊎ ((summary : RelaySummary) × PassedOn told left old new summary)
 SaysRelayed statuses.Refused told left old new = (place : Place) × (cause : Cause) × RefusedPart told left old new place cause
 SaysRelayed statuses.ReadFault told left old new = IsCutPart told left old new
 SaysRelayed statuses.Memory told left old new = IsWrittenPart told left old new
 SaysRelayed statuses.Usage told left old new = PassedPart told left old new
 
--- a write of the output failed, no front of what was written is an accepted stream, and the report got the line of that
+-- a write of the output failed, what was written ends inside a part, without a cause, and the report got the line of that
 pub record OutputStopped (e : Effects) : Type 0 where
   pub rose : Rose e.out.failed e.out.failed_now
-  pub part : PassedPart e.input.told e.input.left e.out.old e.out.new
+  pub part : IsCutPart e.input.told e.input.left e.out.old e.out.new
   pub line : Reports write_fault_line e.report.old e.report.new e.report.failed e.report.failed_now
 
 -- all was passed on, and of its line a part was reported, since a write of the report failed
