@@ -5,6 +5,7 @@ use Rattle.std.proofs.lemmas.Bool.{true≢false}
 use Rattle.std.proofs.lemmas.List.{nil_from_length}
 use Rattle.std.specs.Prelude.{◌≤◌}
 use Rattle.mig_bytes.specs.Faults.{Rose}
+use Rattle.mig_relay.specs.Following.{from_start}
 use Rattle.mig_relay.specs.Streams.{open_stream_at}
 use Rattle.mig_relay.proofs.Streams.{fronts_pass}
 use Rattle.mig_relay.specs.declared.answer.RelayAnswer.{RelayAnswer}
@@ -25,7 +26,7 @@ pub record Looks (r : Relay) (seen : SeenState) (old now : Option (List ℕ)) : 
 pub looks_first : (r : Relay) (seen : SeenState) (old : Option (List ℕ)) → Keeps r AtStart [] → StandsForBytes r [] → seen.front ≡ of_form false → seen.hand ≡ None → Looks r seen old old
 looks_first r seen old keeps stands front hand = record {
   bytes = [];
-  stands = record { here = AtStart; begun = []; keeps = keeps; same = λ more. refl; count = stands.count };
+  stands = record { here = AtStart; begun = []; keeps = keeps; leads = from_start; same = λ more. refl; count = stands.count };
   has = record {
     front = [];
     part = [];
