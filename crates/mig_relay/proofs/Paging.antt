@@ -133,10 +133,17 @@ all_pages from (w ∷ ws) =
     ∙ ap (λ n. cond (word_has_data w) 1 0 + n) (all_pages (from + 1) ws)
     ∙ sym (sum_by-cons (λ (word : ℕ). cond (word_has_data word) 1 0) w ws)
 
+-- the words from the next page on have pages: this one, and those of the others
+next_pages : (r : Relay) (coming : List (ℕ × ℕ)) (stood : List FrameEntry) → KeepsWords r coming stood → pages_to_come coming ≡ 1 + pages_to_come (others r)
+next_pages r coming stood kept = ap pages_to_come (kept.left ∙ ap (with_places r.page) (drop_more r.words.items r.page 0 kept.some)) ∙ paged_more r.page (next_word r) (others r) kept.paged
+
+pub page_comes : (r : Relay) (coming : List (ℕ × ℕ)) (stood : List FrameEntry) → KeepsWords r coming stood → 0 < pages_to_come coming
+page_comes r coming stood kept = omega (arith, next_pages r coming stood kept)
+
 -- behind the page of a word, those of the others
 pub page_left : (r held : Relay) (coming : List (ℕ × ℕ)) (stood : List FrameEntry) (size : ℕ) → KeepsWords r coming stood → held.words.items ≡ r.words.items → held.page ≡ r.page → size ≡ 4096 → size + 4096 * pages_to_come (with_places (held.page + 1) (drop (held.page + 1) held.words.items)) ≡ 4096 * pages_to_come coming
 page_left r held coming stood size kept same_words same_page is =
-    let first : pages_to_come coming ≡ 1 + pages_to_come (others r) = ap pages_to_come (kept.left ∙ ap (with_places r.page) (drop_more r.words.items r.page 0 kept.some)) ∙ paged_more r.page (next_word r) (others r) kept.paged in
+    let first = next_pages r coming stood kept in
     let same : pages_to_come (others held) ≡ pages_to_come (others r) = ap (λ n. pages_to_come (with_places (n + 1) (drop (n + 1) held.words.items))) same_page ∙ ap (λ l. pages_to_come (with_places (r.page + 1) (drop (r.page + 1) l))) same_words in
     omega (arith, first, same, is)
 

@@ -7,14 +7,14 @@ use Rattle.std.specs.Io.KnownBytes.{Keeps as Stays}
 use Rattle.mig_bytes.specs.Faults.{Rose}
 use Rattle.mig_relay.specs.Streams.{open_stream_at}
 use Rattle.mig_relay.proofs.Streams.{unfinished_is_not_accepted}
-use Rattle.mig_relay.specs.Relaying.{HasFineHead, RelayedBy, PassedPart as IsWritten, RefusedPart, NoneIsAccepted, NoneWaits, IsCutPart, IsWrittenPart, TurnedBy, held_answer, unwritten}
+use Rattle.mig_relay.specs.Relaying.{HasBytes, RelayedBy, PassedPart as IsWritten, RefusedPart, NoneIsAccepted, NoneWaits, IsCutPart, IsWrittenPart, TurnedBy, held_answer, unwritten}
 use Rattle.mig_relay.specs.Standing.{StandsForBytes, StepSays, PassesOn, IsRefusedBehind, WritesSomeBehind, StopsInside, behind_step, is_at_end, is_over, is_within, goes_on}
 use Rattle.mig_relay.specs.Following.{LeadsTo, begins_part, from_start, leads_on}
 use Rattle.mig_relay.specs.Keeping.{words_in_hand}
 use Rattle.mig_relay.specs.Steps.{LeavesWords}
 use Rattle.mig_relay.proofs.Leading.{all_come, keeps_number}
 use Rattle.mig_relay.proofs.Moves.{cut}
-use Rattle.mig_relay.proofs.Paging.{front_is, words_is, page_is}
+use Rattle.mig_relay.proofs.Paging.{front_is, words_is, page_is, page_comes}
 use Rattle.mig_relay.proofs.Places.{Told, told}
 use Rattle.mig_relay.proofs.SpotParts.{lifted, start_is, header_is, libxl_head_is, libxl_body_is, libxl_padding_is}
 use Rattle.mig_relay.proofs.Unrolls.{marker_is, version_is, kind_is, head_is, body_is, padding_is}
@@ -38,14 +38,14 @@ record IsAt (r : Relay) (here : Spot) (begun : List ℕ) : Type 0 where
   cut : is_at_end r.coming ≡ false → EndsInside (spot here begun)
   within : is_within r.coming ≡ is_some (in_hand here)
   unbegun : is_judged_first here ≡ true → begun ≡ []
-  headed : HasFineHead here
+  some : HasBytes here
   room : may_wait r.coming (length r.words.items) + held here ≤ most_waiting here
 
 module _ (r : Relay) where
   -- a part that is taken at once
   once : (here : Spot) (begun : List ℕ) (c : Coming) {place : Place} {size : ℕ} {fault : List ℕ → Option Cause} {follows : List ℕ → List ℕ → Judged (Place × Cause) StreamOf} → BeginsWithPart (spot here) place size fault follows → r.coming ≡ c → begun ≡ []
-      → is_within c ≡ is_some (in_hand here) → HasFineHead here → may_wait c (length r.words.items) + held here ≤ most_waiting here → IsAt r here begun
-  once here begun c is comes none within headed room = record { cut = λ _. none_cut here is begun none; within = ap is_within comes ∙ within; unbegun = λ _. none; headed = headed; room = rw comes room }
+      → is_within c ≡ is_some (in_hand here) → HasBytes here → may_wait c (length r.words.items) + held here ≤ most_waiting here → IsAt r here begun
+  once here begun c is comes none within some room = record { cut = λ _. none_cut here is begun none; within = ap is_within comes ∙ within; unbegun = λ _. none; some = some; room = rw comes room }
 
   is_at_next : (outer : Outer) (next : Next) (begun : List ℕ) → KeepsNext r next begun → IsAt r (InImage outer next) begun
   is_at_next outer AtMarker begun (is, none) = once (InImage outer AtMarker) begun comes.Marker (lifted (carry outer) marker_is) is none refl tt (omega arith)
@@ -58,13 +58,13 @@ module _ (r : Relay) where
         (lifted (carry outer) (body_is o records head (fault_of_record_body head.kind) (record_content head.kind) (bodies_are_parts (before o records) head.kind head.len other.fine other.other) (omega (arith, body.less)))) begun body.less;
     within = ap is_within is;
     unbegun = λ judged. absurd (true≢false (sym judged));
-    headed = (omega (arith, body.less), other.fine);
+    some = (omega (arith, body.less), other.fine);
     room = rw is (omega arith);
   }
   is_at_next outer (AtFront o records head) begun (is, kept, pages, none) = once (InImage outer (AtFront o records head)) begun (comes.Front head) (front_is outer o records head) is none refl tt (omega arith)
   is_at_next outer (AtWords o records head n) begun (is, kept, pages, count, none) = once (InImage outer (AtWords o records head n)) begun (comes.Words head n) (words_is outer o records head n count.0) is none refl tt (omega arith)
   is_at_next outer (AtPages o records head coming stood) begun (is, kept, pages, whole, words, none) =
-      once (InImage outer (AtPages o records head coming stood)) begun (comes.Page head) (page_is outer o records head r coming stood words) is none refl tt (omega (arith, words.behind, all_come r.words.items r.page coming words.left (omega (arith, words.some))))
+      once (InImage outer (AtPages o records head coming stood)) begun (comes.Page head) (page_is outer o records head r coming stood words) is none refl (page_comes r coming stood words) (omega (arith, words.behind, all_come r.words.items r.page coming words.left (omega (arith, words.some))))
   is_at_next outer (AtPadding o records head content) begun (is, kept, some, other, none) = once (InImage outer (AtPadding o records head content)) begun (comes.Padding head) (lifted (carry outer) (padding_is o records head content some)) is none refl tt (omega arith)
 
   is_at : (here : Spot) (begun : List ℕ) → Keeps r here begun → IsAt r here begun
@@ -72,10 +72,10 @@ module _ (r : Relay) where
   is_at AtLibxlHeader begun (is, kept, none) = once AtLibxlHeader begun comes.LibxlHeader header_is is none refl tt (omega arith)
   is_at (AtLibxlHead records) begun (is, kept, none) = once (AtLibxlHead records) begun comes.LibxlHead (libxl_head_is records kept.1) is none refl tt (omega arith)
   is_at (AtLibxlBody records head) begun (is, kept, bodied, body) =
-      record { cut = λ _. still_cut (AtLibxlBody records head) (libxl_body_is records head (omega (arith, body.less))) begun body.less; within = ap is_within is; unbegun = λ judged. absurd (true≢false (sym judged)); headed = omega (arith, body.less); room = rw is (omega arith) }
+      record { cut = λ _. still_cut (AtLibxlBody records head) (libxl_body_is records head (omega (arith, body.less))) begun body.less; within = ap is_within is; unbegun = λ judged. absurd (true≢false (sym judged)); some = omega (arith, body.less); room = rw is (omega arith) }
   is_at (AtLibxlPadding records head content) begun (is, kept, bodied, image, some, none) = once (AtLibxlPadding records head content) begun (comes.LibxlPadding head) (libxl_padding_is records head content some) is none refl tt (omega arith)
   is_at (InImage outer next) begun (around, k) = is_at_next outer next begun k
-  is_at (AtEnd s) begun (is, has, none) = record { cut = λ going. absurd (true≢false (sym (ap is_at_end is) ∙ going)); within = ap is_within is; unbegun = λ _. none; headed = tt; room = rw is (omega arith) }
+  is_at (AtEnd s) begun (is, has, none) = record { cut = λ going. absurd (true≢false (sym (ap is_at_end is) ∙ going)); within = ap is_within is; unbegun = λ _. none; some = tt; room = rw is (omega arith) }
 
 -- a record in hand is known by what comes next
 pub within : (r : Relay) (here : Spot) (begun : List ℕ) → Keeps r here begun → is_within r.coming ≡ is_some (in_hand here)
@@ -263,6 +263,7 @@ pub record Gathered (waiting : List ℕ) (old new before now : Option (List ℕ)
   pub begun : List ℕ
   pub leads : LeadsTo (wrote ++ waiting) here begun
   pub same : (more : List ℕ) → open_stream_at ((wrote ++ waiting) ++ more) ≡ spot here (begun ++ more)
+  pub some : HasBytes here
   pub inside : is_judged_first here ≡ true → length begun + length rest ≤ held here
   pub cuts : FrontsAreCut AtStart [] (wrote ++ waiting)
   pub taken : Consumes old new ((wrote ++ waiting) ++ rest)
@@ -288,6 +289,7 @@ module _ (old new before now later : Option (List ℕ)) (waiting : List ℕ) (g 
             begun = g.begun;
             leads = subst (λ l. LeadsTo l g.here g.begun) (sym whole) g.leads;
             same = λ more. ap (λ l. open_stream_at (l ++ more)) whole ∙ g.same more;
+            some = g.some;
             inside = g.inside;
             few = omega (arith, length-append (drop k waiting) g.rest, length-drop k waiting, g.few);
             rest_few = g.rest_few;
@@ -316,6 +318,7 @@ module _ (old new before now later : Option (List ℕ)) (waiting : List ℕ) (g 
         begun = g.begun;
         leads = subst (λ l. LeadsTo l g.here g.begun) (sym (append-nil (g.wrote ++ waiting))) g.leads;
         same = λ more. ap (λ l. open_stream_at (l ++ more)) (append-nil (g.wrote ++ waiting)) ∙ g.same more;
+        some = g.some;
         inside = g.inside;
         few = omega (arith, g.few);
         rest_few = g.rest_few;
@@ -337,7 +340,6 @@ pub record Refusal (waiting : List ℕ) (old new before now : Option (List ℕ))
   pub refused : IsRefusedBehind [] old new place cause
   pub unfinished : IsUnfinished (open_stream_at (g.wrote ++ waiting))
   pub at : place_of_spot g.here ≡ Some place
-  pub headed : HasFineHead g.here
   pub unbegun : is_judged_first g.here ≡ true → g.begun ≡ []
   pub cut : is_judged_first g.here ≡ true → EndsInside (open_stream_at (g.wrote ++ waiting))
 
@@ -368,7 +370,6 @@ module _ (old new before now later : Option (List ℕ)) (waiting : List ℕ) (pu
     part = (all_written old new before now later waiting e.g put e.unfinished).0;
     written = refl;
     at = e.at;
-    headed = e.headed;
     unbegun = e.unbegun;
     cut = e.cut;
   }
@@ -455,6 +456,7 @@ module _ (r t : Relay) (waiting waits : List ℕ) (old mid new before now : Opti
     here = s.here;
     begun = s.begun ++ piece;
     leads = subst (λ l. LeadsTo l s.here (s.begun ++ piece)) (longer piece is) (begins_part (h.wrote ++ waiting) piece s.here s.begun s.leads);
+    some = (is_at r s.here s.begun s.keeps).some;
     inside = λ judged. omega (arith, few, length-append s.begun piece, ap length ((is_at r s.here s.begun s.keeps).unbegun judged));
     same = λ more. ap (λ l. open_stream_at (l ++ more)) (sym (longer piece is)) ∙ ap open_stream_at (append_assoc (h.wrote ++ waiting) piece more) ∙ s.same (piece ++ more) ∙ ap (spot s.here) (sym (append_assoc s.begun piece more));
     cuts = cuts_on piece is cuts;
@@ -488,7 +490,6 @@ module _ (r t : Relay) (waiting waits : List ℕ) (old mid new before now : Opti
     refused = refused_on old place cause h.taken f;
     unfinished = (fault, rest, ap open_stream_at (sym (longer wrote w.written)) ∙ s.same wrote ∙ is);
     at = at;
-    headed = (is_at r s.here s.begun s.keeps).headed;
     unbegun = λ judged. ap (λ l. s.begun ++ l) (first judged) ∙ append-nil s.begun ∙ (is_at r s.here s.begun s.keeps).unbegun judged;
     cut = λ judged. subst (λ l. EndsInside (open_stream_at l)) (sym (append-nil (h.wrote ++ waiting)) ∙ ap (λ l. (h.wrote ++ waiting) ++ l) (sym (first judged)) ∙ longer wrote w.written) (is_front s (before_end r s.here s.begun place s.keeps at));
   }

@@ -2,9 +2,9 @@
 use Rattle.std.specs.Prelude.{◌≡◌, true, ◌<◌, ◌≤◌, ◌+◌, ◌-◌, ◌^◌, ℕ, List, [], ◌++◌, length, min, Option, Some, None, Result, Ok, Err, ⊤, ◌⊎◌}
 use Rattle.mig_relay.specs.Common.{Consumes, Appends, Rose, Passes, Cause, Place, StreamOf, stream_at, before, fault_of_fields}
 use Rattle.mig_relay.specs.Streams.{open_stream_at}
-use Rattle.mig_relay.specs.Following.{LeadsTo, place_of_spot}
+use Rattle.mig_relay.specs.Following.{LeadsTo, pages_to_come, place_of_spot}
 use Rattle.mig_relay.specs.Keeping.{HasRecords}
-use Rattle.mig_relay.specs.Parts.{AtBody}
+use Rattle.mig_relay.specs.Parts.{AtBody, AtPages}
 use Rattle.mig_relay.specs.Spots.{Spot, AtStart, AtLibxlBody, InImage, spot, held}
 use Rattle.mig_relay.specs.Standing.{StandsForBytes, IsRefusedBehind, is_at_end}
 use Rattle.mig_relay.specs.Steps.{FrontsAreCut, EndsInside, is_judged_first}
@@ -26,6 +26,14 @@ pub record PassedWhole (old new : Option (List ℕ)) (before now : Option (List 
   pub bytes : relayed.bytes ≡ min (length front) (2 ^ 64 - 1)
   pub records : HasRecords relayed.records s
 
+-- What comes next has bytes: a body, and nothing is wrong with the head of an image's record in front of it; and of pages
+-- there is one.
+abbrev pub HasBytes : Spot → Type 0
+HasBytes (AtLibxlBody records head) = 0 < head.len
+HasBytes (InImage outer (AtBody o records head)) = (0 < head.len) × (fault_of_fields (before o records) head.kind head.len ≡ None)
+HasBytes (InImage outer (AtPages o records head coming stood)) = 0 < pages_to_come coming
+HasBytes _ = ⊤
+
 -- Of the bytes that were taken, these others aren't written. The first of them were passed on and wait. What was passed on
 -- leads to a part, of which it has the bytes begun, and the rest was taken of that part: together no more than it has, where
 -- it is no body. The others are at most 8 for each word of the part's PAGE_DATA, and 4608; and the rest alone is no more
@@ -38,6 +46,7 @@ pub record AreHeld (wrote others : List ℕ) : Type 0 where
   pub begun : List ℕ
   pub leads : LeadsTo (wrote ++ waiting) here begun
   pub same : (more : List ℕ) → open_stream_at ((wrote ++ waiting) ++ more) ≡ spot here (begun ++ more)
+  pub some : HasBytes here
   pub inside : is_judged_first here ≡ true → length begun + length rest ≤ held here
   pub few : length others ≤ most_waiting here
   pub rest_few : length rest ≤ held here
@@ -67,20 +76,13 @@ IsCutPart old new before now = (p : PassedPart old new before now) × EndsInside
 abbrev pub IsWrittenPart : Option (List ℕ) → Option (List ℕ) → Option (List ℕ) → Option (List ℕ) → Type 0
 IsWrittenPart old new before now = (p : PassedPart old new before now) × EndsInside (open_stream_at p.wrote) × NoneWaits p
 
--- where a body comes next, it has bytes, and of an image's record nothing is wrong with the head
-abbrev pub HasFineHead : Spot → Type 0
-HasFineHead (AtLibxlBody records head) = 0 < head.len
-HasFineHead (InImage outer (AtBody o records head)) = (0 < head.len) × (fault_of_fields (before o records) head.kind head.len ≡ None)
-HasFineHead _ = ⊤
-
 -- The input is refused, with all causes but those that are left out. All that was passed on was written, and that ends in
--- the part of this place: in front of it, without a cause, or inside it where it is a body behind a head without fault.
+-- the part of this place: in front of it, without a cause, or inside it where it is a body.
 pub record RefusedPart (old new : Option (List ℕ)) (before now : Option (List ℕ)) (place : Place) (cause : Cause) : Type 0 where
   pub refused : IsRefusedBehind [] old new place cause
   pub part : PassedPart old new before now
   pub written : NoneWaits part
   pub at : place_of_spot part.held.here ≡ Some place
-  pub headed : HasFineHead part.held.here
   pub unbegun : is_judged_first part.held.here ≡ true → part.held.begun ≡ []
   pub cut : is_judged_first part.held.here ≡ true → EndsInside (open_stream_at part.wrote)
 
