@@ -1,0 +1,17 @@
+-- Names that several proofs of this crate use.
+pub use Rattle.mig_guest.specs.Footprints.{footprint_of}
+pub use Rattle.mig_guest.specs.History.{History, LogTook, Since}
+pub use Rattle.mig_guest.specs.Hosts.{HostFrame, HostFrames, HostOf, pfn_in}
+pub use Rattle.mig_guest.specs.Longs.{long_at}
+pub use Rattle.mig_guest.specs.Pfns.{Pfns, all_below, no_pfns, size}
+pub use Rattle.mig_guest.specs.Rounds.{Rounds, to_read}
+pub use Rattle.mig_headers.specs.declared.kind.Kind.{Kind}
+pub use Rattle.mig_headers.specs.declared.kind.Kind.TheVariants.{Hvm, Pv}
+pub use Rattle.mig_machine_script.specs.HostLines.{after_line, applies, logged_after}
+pub use Rattle.mig_machine_script.specs.ScriptLines.{LineOf}
+pub use Rattle.mig_pagetypes.specs.PageTypes.{level_of, type_of}
+pub use Rattle.mig_pagetypes.specs.declared.page_type.PageType.{PageType}
+pub use Rattle.mig_pvtables.specs.Faults.{fits_field}
+pub use Rattle.mig_pvtables.specs.P2mPages.{p2m_page}
+pub use Rattle.mig_records_pages.specs.Batches.{BatchesCut, FitsBatch, IsBehind}
+pub use Rattle.mig_records_pages.specs.Told.{FrameTold, all_told}

@@ -1,0 +1,4 @@
+mod Common
+pub mod FiveRounds
+pub mod FieldTypes
+pub mod ScriptWords

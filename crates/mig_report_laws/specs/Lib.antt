@@ -1,0 +1,4 @@
+mod Common
+pub mod Rows
+pub mod CauseTexts
+pub mod OtherTexts
