@@ -6,3 +6,5 @@ pub mod FieldTypes
 pub mod NamedFrames
 pub mod LinesApply
 pub mod LinesNamed
+pub mod WorkedExercise
+pub mod Batches

@@ -2,3 +2,4 @@ mod Common
 pub mod FiveRounds
 pub mod FieldTypes
 pub mod ScriptWords
+pub mod WorkedExercise

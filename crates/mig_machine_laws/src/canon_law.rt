@@ -1,0 +1,12 @@
+ghost use Rattle.std.specs.Prelude.{◌≡◌, ◌≤◌, ◌<◌, ◌+◌, ℕ, List, [], length};
+ghost use Rattle.mig_machine_laws.specs.Common.{Frame, batch, batches};
+
+/// The frames of a canonical stream stand in batches: each but the last has 1024 of them, the last has at least one, and there is
+/// none where there are no frames.
+#[tactic(auto, using(crate::proofs::Batches::full, crate::proofs::Batches::last, crate::proofs::Batches::two))]
+pub fn canonical_batches_are_full()
+    ensures full { (fs : List Frame) (k : ℕ) → k + 1 < batches fs → length (batch fs k) ≡ 1024 }
+    ensures last { (fs : List Frame) (k : ℕ) → k + 1 ≡ batches fs → (1 ≤ length (batch fs k)) × (length (batch fs k) ≤ 1024) }
+    ensures none { batches [] ≡ 0 }
+    ensures two { (fs : List Frame) → length fs ≡ 1025 → batches fs ≡ 2 }
+{}
