@@ -9,7 +9,7 @@ pub use Rattle.mig_headers.specs.declared.kind.Kind.{Kind}
 pub use Rattle.mig_headers.specs.declared.kind.Kind.TheVariants.{Hvm, Pv}
 pub use Rattle.mig_machine_script.specs.HostLines.{after_line, applies, logged_after}
 pub use Rattle.mig_machine_script.specs.ScriptLines.{LineOf}
-pub use Rattle.mig_pagetypes.specs.PageTypes.{level_of, type_of}
+pub use Rattle.mig_pagetypes.specs.PageTypes.{level_of, type_has_data, type_of}
 pub use Rattle.mig_pagetypes.specs.declared.page_type.PageType.{PageType}
 pub use Rattle.mig_pvtables.specs.Faults.{fits_field}
 pub use Rattle.mig_pvtables.specs.P2mPages.{p2m_page}

@@ -8,3 +8,4 @@ pub mod LinesApply
 pub mod LinesNamed
 pub mod WorkedExercise
 pub mod Batches
+pub mod LinesLeave

@@ -1,5 +1,5 @@
 -- What a line of a script asks for, and which lines are logged, in words.
-use Rattle.std.specs.Prelude.{◌≡◌, ◌≤◌, ◌<◌, ◌⊎◌, ℕ, ◌+◌, ◌/◌, ◌%◌, ◌^◌, ◌==◌, ◌&&◌, ◌||◌, Bool, true, nat_le, List, ◌∷◌, length, Some, None}
+use Rattle.std.specs.Prelude.{◌≡◌, ◌≤◌, ◌<◌, ◌⊎◌, ℕ, ◌+◌, ◌/◌, ◌%◌, ◌^◌, ◌==◌, ◌&&◌, ◌||◌, Bool, true, nat_le, List, ◌∷◌, length, Option, Some, None}
 use Rattle.std.specs.FinMap as maps
 use Rattle.mig_machine_laws.specs.Common.{HostFrame, HostFrames, HostOf, Kind, Pv, Hvm, PageType, level_of, long_at, type_of, LineOf, after_line}
 use Rattle.mig_machine_script.specs.ScriptLines.LineOf.{Write, Retype, Add, Remove, Exchange, Put, Dot}
@@ -54,3 +54,7 @@ pub data NamesPfn (pfn : ℕ) : LineOf → Type 0 where
 pub data IsNamedIn (pfn : ℕ) : HostOf → List LineOf → Type 0 where
   here : (h : HostOf) (line : LineOf) (lines : List LineOf) → NamesPfn pfn line → MayApply h line → IsNamedIn pfn h (line ∷ lines)
   later : (h : HostOf) (line : LineOf) (lines : List LineOf) → IsNamedIn pfn (after_line h line) lines → IsNamedIn pfn h (line ∷ lines)
+
+-- the frame of a frame number behind a line
+abbrev pub frame_after : HostOf → LineOf → ℕ → Option HostFrame
+frame_after h line pfn = maps.get (after_line h line).frames pfn

@@ -1,8 +1,8 @@
 //! What the definitions of a machine, its script and a live save say, in words of their own and worked through.
 //!
 //! Responsible for: how many rounds a save has and which log ends them; how many entries stand in a record, and in those of a canonical stream; what a slot of a
-//! table and of a P2M frame names; which types of frame a field of a vCPU may name; where a line of a script applies and what
-//! it logs; and the host and the script of the exercise, worked through. Left to others: to do it, since here
+//! table and of a P2M frame names; which types of frame a field of a vCPU may name; where a line of a script applies, what
+//! it leaves and what it logs; and the host and the script of the exercise, worked through. Left to others: to do it, since here
 //! are laws alone.
 #![tactic(auto)]
 
@@ -16,4 +16,7 @@ pub use canon_law::canonical_batches_are_full;
 pub use exercise_law::{worked_exercise_host, worked_exercise_numbers, worked_exercise_pages};
 pub use frames_law::{p2m_slots_say_machine_frames, slots_name_frames, worked_field_types};
 pub use rounds_law::{entries_behind_are_few, five_rounds_are_rounds, rounds_go_on_up_to_five};
-pub use script_law::{lines_apply_where_asked, lines_log_what_they_name};
+pub use script_law::{
+    lines_apply_where_asked, lines_leave_all_else, lines_leave_what_they_say,
+    lines_log_what_they_name,
+};

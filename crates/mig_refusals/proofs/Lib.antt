@@ -16,10 +16,13 @@ pub mod UsedFields
 pub mod StreamCauses
 pub mod StreamRecords
 pub mod StreamVerdicts
+pub mod AnyRow
 pub mod LegacyCauses
+pub mod LegacyTables
 pub mod LegacyToolstacks
 pub mod LegacyVerdicts
 pub mod ImageFileTests
+pub mod ImageFileTables
 pub mod ImageFilePlaces
 pub mod ImageFileFronts
 pub mod ImageFileVerdicts

@@ -5,5 +5,7 @@ pub mod Libxc
 pub mod Stream
 pub mod LegacyToolstack
 pub mod Legacy
+pub mod LegacyTables
 pub mod ImageFile
+pub mod ImageFileTables
 pub mod ImageFileFronts

@@ -3,6 +3,7 @@ ghost use Rattle.mig_refusals.specs.Common.{AreBytes, le64, SpelledAs, HostOf, m
 ghost use Rattle.mig_bytes.specs.Judged.Judged.{Faulty};
 ghost use Rattle.mig_refusals.specs.Refusals.{AreJudged, HasOneRefusal, IsAcceptedOrRefused, IsNeverBoth};
 ghost use Rattle.mig_refusals.specs.ImageFileFronts.{EndsInFrames, EndsInParts};
+ghost use Rattle.mig_refusals.specs.ImageFileTables.{ImageTablesSay};
 ghost use Rattle.mig_refusals.specs.ImageFile.{ImageCausesAscend, ImageTestsSay, PlaceIsOfPart, RefusedGuestImage, count_and_parts, head_and_frames};
 
 /// Judging refuses an input as a guest image for a cause at a place exactly where its form is refused so: behind parts without
@@ -55,4 +56,11 @@ pub fn image_file_place_is_of_part()
 pub fn image_file_front_is_spelled()
     ensures frames { (widest : ℕ) (front head : List ℕ) (n : ℕ) (host : HostOf) → widest ≤ most_width → AreBytes front → n ≤ le64 head 24 → SpelledAs (head_and_frames widest n) front (head, host) → EndsInFrames widest front head n host }
     ensures parts { (widest : ℕ) (front : List ℕ) (count n : ℕ) (framed host : HostOf) → widest ≤ most_width → AreBytes front → SpelledAs (count_and_parts widest n) front ((framed, count), host) → EndsInParts front count n host }
+{}
+
+/// The tables of causes say what the format says: of a file's head, of a frame's head and page, and of a part's head, bytes and
+/// padding some condition that holds has a cause exactly where the cause stands in words.
+#[tactic(auto, using(crate::proofs::ImageFileTables::tables_say))]
+pub fn image_file_tables_say()
+    ensures { ImageTablesSay }
 {}

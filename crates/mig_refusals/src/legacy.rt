@@ -1,6 +1,7 @@
 ghost use Rattle.mig_refusals.specs.Common.{AcceptedLegacy};
 ghost use Rattle.mig_legacy.specs.Stream.{IsLegacyRefused};
 ghost use Rattle.mig_refusals.specs.Refusals.{AreAllAcceptedOrRefused, AreJudged, HasOneRefusal, IsNeverBoth};
+ghost use Rattle.mig_refusals.specs.LegacyTables.{LegacyTablesSay};
 ghost use Rattle.mig_refusals.specs.Legacy.{ComputedCausesStand, LegacyCausesAscend, LegacyTestsSay, RefusedLegacy};
 
 /// Judging refuses an input as a legacy stream for a cause at a place exactly where a faultless front, as a legacy stream spells
@@ -47,4 +48,11 @@ pub fn legacy_computed_causes_stand()
 #[tactic(auto, using(crate::proofs::LegacyCauses::tests_say))]
 pub fn legacy_tests_say()
     ensures { LegacyTestsSay }
+{}
+
+/// The tables of causes say what the format says: of a start, of a chunk's type and place, of a greatest vCPU id, of a length, of
+/// the data of a toolstack and of a signature some condition that holds has a cause exactly where the cause stands in words.
+#[tactic(auto, using(crate::proofs::LegacyTables::tables_say))]
+pub fn legacy_tables_say()
+    ensures { LegacyTablesSay }
 {}

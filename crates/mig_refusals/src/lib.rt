@@ -15,11 +15,12 @@ mod stream;
 pub use image_file::{
     image_file_accepted_or_refused, image_file_causes_ascend, image_file_front_is_spelled,
     image_file_never_both, image_file_one_refusal, image_file_place_is_of_part,
-    image_file_refusals_agree, image_file_tests_say,
+    image_file_refusals_agree, image_file_tables_say, image_file_tests_say,
 };
 pub use legacy::{
     legacy_accepted_or_refused, legacy_causes_ascend, legacy_computed_causes_stand,
-    legacy_never_both, legacy_one_refusal, legacy_refusals_agree,
+    legacy_never_both, legacy_one_refusal, legacy_refusals_agree, legacy_tables_say,
+    legacy_tests_say,
 };
 pub use libxc::{
     libxc_accepted_or_refused, libxc_causes_stand, libxc_never_both, libxc_one_refusal,
