@@ -1,5 +1,5 @@
 -- How many frames stand in each batch of a canonical stream.
-use Rattle.std.proofs.Common.{◌≡◌, ◌≤◌, ◌<◌, ℕ, ◌+◌, ◌-◌, ◌*◌, ◌/◌, ◌%◌, List, length, take, drop, min, ap, ◌∙◌, arith, length-drop, length-take}
+use Rattle.std.proofs.Common.{◌≡◌, ◌≤◌, ◌<◌, ℕ, ◌+◌, ◌-◌, ◌*◌, List, length, drop, min, ap, ◌∙◌, arith, length-drop, length-take}
 use Rattle.mig_canon.specs.Canon.{batch, batches}
 use Rattle.mig_records_pages.specs.PageData.{Frame}
 

@@ -9,3 +9,4 @@ pub mod LinesNamed
 pub mod WorkedExercise
 pub mod Batches
 pub mod LinesLeave
+pub mod CanonOrder

@@ -1,6 +1,6 @@
 -- What a line leaves.
 use Rattle.std.specs.FinMap as maps
-use Rattle.std.proofs.Common.{◌≡◌, ◌≢◌, ◌≤◌, ℕ, ◌+◌, ◌++◌, Bool, true, false, cond, List, length, take, drop, Option, Some, None, refl, ap, sym, subst, ◌∙◌}
+use Rattle.std.proofs.Common.{◌≡◌, ◌≢◌, ◌≤◌, ℕ, ◌+◌, ◌++◌, Bool, true, false, cond, List, length, take, drop, Option, Some, None, refl, ap, subst, ◌∙◌}
 use Rattle.std.specs.Prelude.{replicate}
 use Rattle.std.specs.Option.{option_map, unwrap_or}
 use Rattle.std.proofs.lemmas.Bool.{false_from_ne_true}
@@ -14,8 +14,8 @@ use Rattle.mig_machine_script.specs.HostLines.{changed_by, typed_as}
 use Rattle.mig_machine_script.specs.ScriptLines.LineOf.{Write, Retype, Add, Remove, Exchange, Put, Dot}
 use Rattle.mig_machine_laws.proofs.Common.{HostFrame, HostOf, LineOf, PageType, after_line, applies, type_has_data, type_of}
 use Rattle.mig_machine_laws.specs.ScriptWords.{MayApply, NamesPfn, frame_after, is_allowed_number}
-use Rattle.mig_machine_laws.specs.ScriptWords.MayApply as may
-use Rattle.mig_machine_laws.specs.ScriptWords.NamesPfn as names
+use Rattle.mig_machine_laws.specs.ScriptWords.MayApply.{write as may_write, retype as may_retype}
+use Rattle.mig_machine_laws.specs.ScriptWords.NamesPfn.{write as names_write, retype as names_retype, add as names_add, remove as names_remove, exchange as names_exchange}
 use Rattle.mig_machine_laws.proofs.LinesApply.{asked}
 
 -- behind a line that applies
@@ -30,38 +30,38 @@ changed_there : (h : HostOf) (pfn : ℕ) (change : HostFrame → HostFrame) (fra
 changed_there h pfn change frame there = ap (λ o. maps.get (put_or_stay o h pfn change).frames pfn) there ∙ inserted h.frames pfn pfn (change frame) refl
 
 pub write : (h : HostOf) (pfn at : ℕ) (bytes page : List ℕ) (frame : HostFrame) → maps.get h.frames pfn ≡ Some frame → frame.page ≡ Some page → at + length bytes ≤ 4096
-    → frame_after h (Write pfn at bytes) pfn ≡ Some (record frame { page = Some (take at page ++ (bytes ++ drop (at + length bytes) page)) })
+    → frame_after h (Write pfn at bytes) pfn ≡ Some (record frame { page = Some ((take at page ++ bytes) ++ drop (at + length bytes) page) })
 write h pfn at bytes page frame there has fits =
-    applied_at h (Write pfn at bytes) pfn (may.write pfn at bytes page frame there has fits)
+    applied_at h (Write pfn at bytes) pfn (may_write pfn at bytes page frame there has fits)
     ∙ changed_there h pfn (λ f. record f { page = option_map (λ page. spliced page at bytes) f.page }) frame there
     ∙ ap (λ o. Some (record frame { page = option_map (λ page. spliced page at bytes) o })) has
 
 retyped_as : (h : HostOf) (pfn number : ℕ) (frame : HostFrame) (type : PageType) → maps.get h.frames pfn ≡ Some frame → type_of number ≡ Some type → is_allowed_number h.kind number ≡ true
     → frame_after h (Retype pfn number) pfn ≡ Some (record { type = type; machine = frame.machine; page = page_for type frame.page })
 retyped_as h pfn number frame type there is allowed =
-    applied_at h (Retype pfn number) pfn (may.retype pfn number frame there allowed)
+    applied_at h (Retype pfn number) pfn (may_retype pfn number frame there allowed)
     ∙ ap (λ o. maps.get (typed_as h pfn o).frames pfn) is
     ∙ changed_there h pfn (λ f. record { type = type; machine = f.machine; page = page_for type f.page }) frame there
 
 pub retype_keeps : (h : HostOf) (pfn number : ℕ) (frame : HostFrame) (type : PageType) (page : List ℕ) → maps.get h.frames pfn ≡ Some frame → type_of number ≡ Some type → is_allowed_number h.kind number ≡ true
     → type_has_data type ≡ true → frame.page ≡ Some page → frame_after h (Retype pfn number) pfn ≡ Some (record { type = type; machine = frame.machine; page = Some page })
-retype_keeps h pfn number frame type page there is allowed data has =
+retype_keeps h pfn number frame type page there is allowed paged has =
     retyped_as h pfn number frame type there is allowed
-    ∙ ap (λ b. Some (record { type = type; machine = frame.machine; page = cond b (Some (unwrap_or frame.page (replicate 4096 0))) None })) data
+    ∙ ap (λ b. Some (record { type = type; machine = frame.machine; page = cond b (Some (unwrap_or frame.page (replicate 4096 0))) None })) paged
     ∙ ap (λ o. Some (record { type = type; machine = frame.machine; page = Some (unwrap_or o (replicate 4096 0)) })) has
 
 pub retype_zeros : (h : HostOf) (pfn number : ℕ) (frame : HostFrame) (type : PageType) → maps.get h.frames pfn ≡ Some frame → type_of number ≡ Some type → is_allowed_number h.kind number ≡ true
     → type_has_data type ≡ true → frame.page ≡ None → frame_after h (Retype pfn number) pfn ≡ Some (record { type = type; machine = frame.machine; page = Some (replicate 4096 0) })
-retype_zeros h pfn number frame type there is allowed data none =
+retype_zeros h pfn number frame type there is allowed paged none =
     retyped_as h pfn number frame type there is allowed
-    ∙ ap (λ b. Some (record { type = type; machine = frame.machine; page = cond b (Some (unwrap_or frame.page (replicate 4096 0))) None })) data
+    ∙ ap (λ b. Some (record { type = type; machine = frame.machine; page = cond b (Some (unwrap_or frame.page (replicate 4096 0))) None })) paged
     ∙ ap (λ o. Some (record { type = type; machine = frame.machine; page = Some (unwrap_or o (replicate 4096 0)) })) none
 
 pub retype_drops : (h : HostOf) (pfn number : ℕ) (frame : HostFrame) (type : PageType) → maps.get h.frames pfn ≡ Some frame → type_of number ≡ Some type → is_allowed_number h.kind number ≡ true
     → type_has_data type ≡ false → frame_after h (Retype pfn number) pfn ≡ Some (record { type = type; machine = frame.machine; page = None })
-retype_drops h pfn number frame type there is allowed data =
+retype_drops h pfn number frame type there is allowed paged =
     retyped_as h pfn number frame type there is allowed
-    ∙ ap (λ b. Some (record { type = type; machine = frame.machine; page = cond b (Some (unwrap_or frame.page (replicate 4096 0))) None })) data
+    ∙ ap (λ b. Some (record { type = type; machine = frame.machine; page = cond b (Some (unwrap_or frame.page (replicate 4096 0))) None })) paged
 
 pub add : (h : HostOf) (pfn mfn : ℕ) → MayApply h (Add pfn mfn) → frame_after h (Add pfn mfn) pfn ≡ Some (record { type = Notab; machine = mfn; page = Some (replicate 4096 0) })
 add h pfn mfn may = applied_at h (Add pfn mfn) pfn may ∙ inserted h.frames pfn pfn (record { type = Notab; machine = mfn; page = Some (replicate 4096 0) }) refl
@@ -89,12 +89,12 @@ stays_typed h pfn q ne (Some type) = stays_at h pfn q (λ f. record { type = typ
 
 unchanged : (h : HostOf) (line : LineOf) (q : ℕ) → (NamesPfn q line → ⊥) → maps.get (changed_by h line).frames q ≡ maps.get h.frames q
 unchanged h (Write pfn at bytes) q not =
-    stays_at h pfn q (λ f. record f { page = option_map (λ page. spliced page at bytes) f.page }) (λ e. not (subst (λ p. NamesPfn q (Write p at bytes)) e (names.write at bytes))) (maps.get h.frames pfn)
-unchanged h (Retype pfn number) q not = stays_typed h pfn q (λ e. not (subst (λ p. NamesPfn q (Retype p number)) e (names.retype number))) (type_of number)
+    stays_at h pfn q (λ f. record f { page = option_map (λ page. spliced page at bytes) f.page }) (λ e. not (subst (λ p. NamesPfn q (Write p at bytes)) e (names_write at bytes))) (maps.get h.frames pfn)
+unchanged h (Retype pfn number) q not = stays_typed h pfn q (λ e. not (subst (λ p. NamesPfn q (Retype p number)) e (names_retype number))) (type_of number)
 unchanged h (Add pfn mfn) q not =
-    inserted_other h.frames pfn q (record { type = Notab; machine = mfn; page = Some (replicate 4096 0) }) (λ e. not (subst (λ p. NamesPfn q (Add p mfn)) e (names.add mfn)))
-unchanged h (Remove pfn) q not = removed_other h.frames pfn q (λ e. not (subst (λ p. NamesPfn q (Remove p)) e names.remove))
-unchanged h (Exchange pfn mfn) q not = stays_at h pfn q (λ f. record f { machine = mfn }) (λ e. not (subst (λ p. NamesPfn q (Exchange p mfn)) e (names.exchange mfn))) (maps.get h.frames pfn)
+    inserted_other h.frames pfn q (record { type = Notab; machine = mfn; page = Some (replicate 4096 0) }) (λ e. not (subst (λ p. NamesPfn q (Add p mfn)) e (names_add mfn)))
+unchanged h (Remove pfn) q not = removed_other h.frames pfn q (λ e. not (subst (λ p. NamesPfn q (Remove p)) e names_remove))
+unchanged h (Exchange pfn mfn) q not = stays_at h pfn q (λ f. record f { machine = mfn }) (λ e. not (subst (λ p. NamesPfn q (Exchange p mfn)) e (names_exchange mfn))) (maps.get h.frames pfn)
 unchanged h (Put code first second bytes) q not = refl
 unchanged h Dot q not = refl
 

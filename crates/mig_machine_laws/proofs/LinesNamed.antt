@@ -1,7 +1,7 @@
 -- What lines put into the log.
 use Rattle.std.proofs.Common.{◌≡◌, ◌⊎◌, ℕ, Bool, true, false, cond, List, [], ◌∷◌, Option, Some, None, inl, inr, refl, ap, sym, subst, ◌∙◌}
-use Rattle.std.specs.Prelude.{◌==◌, ◌||◌, ◌↔◌}
-use Rattle.std.proofs.lemmas.Bool.{both_ways, eq-eqb, eqb-true, or_cases, or_left, or_right}
+use Rattle.std.specs.Prelude.{◌==◌, ◌↔◌}
+use Rattle.std.proofs.lemmas.Bool.{eq-eqb, eqb-true, or_cases, or_left, or_right}
 use Rattle.mig_guest.specs.Pfns.{with_pfn}
 use Rattle.mig_machine_script.specs.HostLines.{logs, pfn_changed, with_logged}
 use Rattle.mig_machine_script.specs.ScriptLines.LineOf.{Write, Retype, Add, Remove, Exchange, Put, Dot}

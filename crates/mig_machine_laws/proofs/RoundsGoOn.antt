@@ -1,5 +1,5 @@
 -- How many rounds there are, and which logs go on.
-use Rattle.std.proofs.Common.{◌≡◌, ◌≤◌, ◌<◌, ◌⊎◌, ◌+◌, ◌∷◌, ◌++◌, ℕ, List, [], length, Option, Bool, true, false, inl, inr, refl, subst, arith}
+use Rattle.std.proofs.Common.{◌≡◌, ◌≤◌, ◌<◌, ◌+◌, ◌∷◌, ◌++◌, ℕ, List, [], length, Option, Bool, true, false, inl, inr, refl, subst, arith}
 use Rattle.std.specs.Prelude.{◌||◌}
 use Rattle.mig_guest.specs.Rounds.{GoesOn, OfEachLog}
 use Rattle.mig_machine_laws.proofs.Common.{Kind, Hvm, LogTook, History, Rounds, to_read, size, all_below, BatchesCut, FrameTold, IsBehind, all_told}
@@ -41,7 +41,7 @@ worked = (
     rest = λ p is. stays (all_below 50 p) is;
     once = ((((((tt, refl), refl), refl), refl), refl), refl);
   },
-  refl
+  refl,
 )
 
 pub behind : (start now : Option (List ℕ)) (n : ℕ) → IsBehind start now n → (batches : List (List FrameTold)) × BatchesCut start now batches × (n ≤ length (all_told batches) + 1024)

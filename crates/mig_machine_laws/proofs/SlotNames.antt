@@ -1,5 +1,5 @@
 -- What the slots of a table name.
-use Rattle.std.proofs.Common.{◌≡◌, ◌≤◌, ◌<◌, ◌⊎◌, ℕ, ◌/◌, ◌%◌, ◌^◌, Bool, true, false, cond, not, List, Option, Some, None, nat_le, refl, ap, ◌∙◌, arith}
+use Rattle.std.proofs.Common.{◌≡◌, ◌≤◌, ◌<◌, ◌⊎◌, ℕ, ◌/◌, ◌%◌, ◌^◌, Bool, true, false, cond, not, List, Some, None, nat_le, refl, ap, ◌∙◌, arith}
 use Rattle.std.specs.Prelude.{◌==◌, ◌&&◌, option_and_then}
 use Rattle.std.proofs.lemmas.Bool.{eq-eqb}
 use Rattle.mig_guest.specs.declared.table.Entry.TheVariants.{Blank, NotPresent, Superpage, Frame}
@@ -25,15 +25,15 @@ module _ (frames : HostFrames) (frame : HostFrame) (level slot : ℕ) (page : Li
 
   named_by_tests : (footprint_of frames frame).names slot ≡ option_and_then (pfn_in frames) (cond (is_blank_slot level slot) None (cond (is_present e) (Some (named_frame e)) None))
   named_by_tests =
-    ap (λ o. names_in frames (table_in o frame.page) slot) table
-    ∙ ap (λ o. names_in frames (table_in (Some level) o) slot) has
-    ∙ ap (option_and_then (pfn_in frames)) (named_is level slot e)
+      ap (λ o. names_in frames (table_in o frame.page) slot) table
+      ∙ ap (λ o. names_in frames (table_in (Some level) o) slot) has
+      ∙ ap (option_and_then (pfn_in frames)) (named_is level slot e)
 
   named_at : (blank present : Bool) → is_blank_slot level slot ≡ blank → is_present e ≡ present → (footprint_of frames frame).names slot ≡ option_and_then (pfn_in frames) (cond blank None (cond present (Some (named_frame e)) None))
   named_at blank present b p =
-    named_by_tests
-    ∙ ap (λ t. option_and_then (pfn_in frames) (cond t None (cond (is_present e) (Some (named_frame e)) None))) b
-    ∙ ap (λ t. option_and_then (pfn_in frames) (cond blank None (cond t (Some (named_frame e)) None))) p
+      named_by_tests
+      ∙ ap (λ t. option_and_then (pfn_in frames) (cond t None (cond (is_present e) (Some (named_frame e)) None))) b
+      ∙ ap (λ t. option_and_then (pfn_in frames) (cond blank None (cond t (Some (named_frame e)) None))) p
 
 pub not_blank : (level slot : ℕ) → (level ≡ 4 → (slot < 256) ⊎ (271 < slot)) → is_blank_slot level slot ≡ false
 not_blank level slot outside = grind (arith, outside)

@@ -1,6 +1,6 @@
 -- The host of the exercise with 8 frames, worked through.
 use Rattle.std.specs.FinMap as maps
-use Rattle.std.proofs.Common.{◌≡◌, ◌≤◌, ◌<◌, ℕ, zero, suc, ◌+◌, ◌-◌, ◌*◌, ◌%◌, ◌^◌, Bool, true, false, cond, nat_lt, List, [], ◌∷◌, ◌++◌, length, get_or, Option, Some, None, refl, ap, sym, subst, ◌∙◌, arith, length-append}
+use Rattle.std.proofs.Common.{◌≡◌, ◌<◌, ℕ, zero, suc, ◌+◌, ◌-◌, ◌*◌, ◌%◌, ◌^◌, Bool, true, false, cond, nat_lt, List, [], ◌∷◌, length, get_or, Some, None, refl, ap, sym, subst, ◌∙◌, arith, length-append}
 use Rattle.std.specs.Prelude.{◌==◌, unwrap_or}
 use Rattle.std.proofs.lemmas.Bool.{le-ltb, ne_eqb}
 use Rattle.byteorder.specs.Endian.{little_bytes}
@@ -10,7 +10,7 @@ use Rattle.mig_guest.specs.PartKeys.{p2m_key, shared_key, vcpu_key}
 use Rattle.mig_exercise.proofs.Frames.{frame_none, frame_there, p2m_there, shared_there, vcpu_there}
 use Rattle.mig_exercise.specs.ExerciseHosts.{IsExerciseSize, exercise_context, exercise_frame, exercise_machine, exercise_machine_of, exercise_p2m_list, exercise_page, first_contents, host_of_exercise, page_of_zeros, present_entry}
 use Rattle.mig_exercise.specs.ExerciseScripts.{exercise_write, script_of_exercise, writes_up_to}
-use Rattle.mig_exercise.specs.Numbers.{next_number, number}
+use Rattle.mig_exercise.specs.Numbers.{number}
 use Rattle.mig_machine_script.specs.ScriptLines.LineOf.{Write, Dot}
 use Rattle.mig_machine_laws.proofs.Common.{long_at}
 use Rattle.mig_machine_laws.specs.WorkedExercise.{PageSays, eight_context, eight_machines}
@@ -71,7 +71,7 @@ tables contents = (
   says (with_one 3) (0x1e8484067 ∷ []) 0 (one_is 3) (small_one 0x1e8484067 (omega arith)),
   says (with_one 4) (0x1e8483067 ∷ []) 0 (one_is 4) (small_one 0x1e8483067 (omega arith)),
   says (with_one 5) (0x1e8482067 ∷ []) 0 (one_is 5) (small_one 0x1e8482067 (omega arith)),
-  says (with_one 7) (0x1e8480067 ∷ []) 0 (one_is 7) (small_one 0x1e8480067 (omega arith))
+  says (with_one 7) (0x1e8480067 ∷ []) 0 (one_is 7) (small_one 0x1e8480067 (omega arith)),
 )
 
 abbrev machine_at : ℕ → ℕ
@@ -126,7 +126,7 @@ many contents = (
   long_of_longs 512 with_data 0 (omega arith) (omega arith),
   long_of_longs 512 with_data 511 (omega arith) (omega arith),
   long_of_longs 512 later_machine 87 (omega arith) (omega arith),
-  long_of_longs 512 later_machine 88 (omega arith) (omega arith)
+  long_of_longs 512 later_machine 88 (omega arith) (omega arith),
 )
 
 -- ---- numbers and lines

@@ -1,11 +1,13 @@
 -- Names that several definitions and contracts of this crate use.
 pub use Rattle.std.specs.List.{range_with_len}
 pub use Rattle.byteorder.specs.Endian.{little_bytes}
-pub use Rattle.mig_canon.specs.Canon.{batch, batches}
+pub use Rattle.mig_bytes.specs.Fields.{le32}
+pub use Rattle.mig_canon.specs.Canon.{batch, batches, bodies_of}
 pub use Rattle.mig_exercise.specs.ExerciseHosts.{IsExerciseSize, exercise_context, exercise_machine, exercise_p2m_list, exercise_page, exercise_type, first_contents, host_of_exercise, p2m_frame_count, page_of_zeros}
 pub use Rattle.mig_exercise.specs.ExerciseScripts.{exercise_write, script_of_exercise}
 pub use Rattle.mig_exercise.specs.Numbers.{number}
 pub use Rattle.mig_guest.specs.Footprints.{footprint_of}
+pub use Rattle.mig_guest.specs.Guests.{GuestOf}
 pub use Rattle.mig_guest.specs.History.{History, LogTook, Since}
 pub use Rattle.mig_guest.specs.Hosts.{HostFrame, HostFrames, HostOf, pfn_in}
 pub use Rattle.mig_guest.specs.Longs.{long_at}
@@ -20,6 +22,7 @@ pub use Rattle.mig_pagetypes.specs.PageTypes.{level_of, type_has_data, type_of}
 pub use Rattle.mig_pagetypes.specs.declared.page_type.PageType.{PageType}
 pub use Rattle.mig_pvtables.specs.Faults.{fits_field}
 pub use Rattle.mig_pvtables.specs.P2mPages.{p2m_page}
+pub use Rattle.mig_records.specs.Records.{Record}
 pub use Rattle.mig_records_pages.specs.Batches.{BatchesCut, FitsBatch, IsBehind}
 pub use Rattle.mig_records_pages.specs.PageData.{Frame, most_entries}
 pub use Rattle.mig_records_pages.specs.Told.{FrameTold, all_told}

@@ -1,6 +1,6 @@
 -- A history of five rounds, worked through.
-use Rattle.std.specs.Prelude.{false, ℕ, [], ◌∷◌}
-use Rattle.mig_machine_laws.specs.Common.{History, LogTook, Since, all_below, no_pfns}
+use Rattle.std.specs.Prelude.{false, [], ◌∷◌}
+use Rattle.mig_machine_laws.specs.Common.{History, LogTook, all_below, no_pfns}
 
 -- a round that reads 50 frame numbers, a call each, and takes a log that names them all
 abbrev pub full_round : LogTook

@@ -3,3 +3,4 @@ pub mod FiveRounds
 pub mod FieldTypes
 pub mod ScriptWords
 pub mod WorkedExercise
+pub mod CanonOrder

@@ -1,7 +1,7 @@
 -- What a line of a script asks for, and which lines are logged, in words.
 use Rattle.std.specs.Prelude.{◌≡◌, ◌≤◌, ◌<◌, ◌⊎◌, ℕ, ◌+◌, ◌/◌, ◌%◌, ◌^◌, ◌==◌, ◌&&◌, ◌||◌, Bool, true, nat_le, List, ◌∷◌, length, Option, Some, None}
 use Rattle.std.specs.FinMap as maps
-use Rattle.mig_machine_laws.specs.Common.{HostFrame, HostFrames, HostOf, Kind, Pv, Hvm, PageType, level_of, long_at, type_of, LineOf, after_line}
+use Rattle.mig_machine_laws.specs.Common.{HostFrame, HostFrames, HostOf, Kind, Pv, Hvm, level_of, long_at, LineOf, after_line}
 use Rattle.mig_machine_script.specs.ScriptLines.LineOf.{Write, Retype, Add, Remove, Exchange, Put, Dot}
 
 -- an entry of a table whose bit 0 is set, outside slots 256 to 271 of level 4, has this machine frame in its bits 12 to 51

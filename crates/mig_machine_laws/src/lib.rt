@@ -1,9 +1,9 @@
 //! What the definitions of a machine, its script and a live save say, in words of their own and worked through.
 //!
-//! Responsible for: how many rounds a save has and which log ends them; how many entries stand in a record, and in those of a canonical stream; what a slot of a
-//! table and of a P2M frame names; which types of frame a field of a vCPU may name; where a line of a script applies, what
-//! it leaves and what it logs; and the host and the script of the exercise, worked through. Left to others: to do it, since here
-//! are laws alone.
+//! Responsible for: how many rounds a save has and which log ends them; how many entries stand in a record; in which order and
+//! batches the records of a canonical stream stand; what a slot of a table and of a P2M frame names; which types of frame a
+//! field of a vCPU may name; where a line of a script applies, what it leaves and what it logs; and the host and the script of
+//! the exercise, worked through. Left to others: to do it, since here are laws alone.
 #![tactic(auto)]
 
 mod canon_law;
@@ -12,7 +12,7 @@ mod frames_law;
 mod rounds_law;
 mod script_law;
 
-pub use canon_law::canonical_batches_are_full;
+pub use canon_law::{canonical_batches_are_full, canonical_records_ascend};
 pub use exercise_law::{worked_exercise_host, worked_exercise_numbers, worked_exercise_pages};
 pub use frames_law::{p2m_slots_say_machine_frames, slots_name_frames, worked_field_types};
 pub use rounds_law::{entries_behind_are_few, five_rounds_are_rounds, rounds_go_on_up_to_five};

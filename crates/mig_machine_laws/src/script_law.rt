@@ -22,7 +22,7 @@ pub fn lines_log_what_they_name()
 #[tactic(auto, using(crate::proofs::LinesLeave::write, crate::proofs::LinesLeave::retype_keeps, crate::proofs::LinesLeave::retype_zeros, crate::proofs::LinesLeave::retype_drops, crate::proofs::LinesLeave::add, crate::proofs::LinesLeave::remove, crate::proofs::LinesLeave::exchange, crate::proofs::LinesLeave::put))]
 pub fn lines_leave_what_they_say()
     ensures write { (h : HostOf) (pfn at : ℕ) (bytes page : List ℕ) (frame : HostFrame) → maps.get h.frames pfn ≡ Some frame → frame.page ≡ Some page → at + length bytes ≤ 4096
-        → frame_after h (Write pfn at bytes) pfn ≡ Some (record frame { page = Some (take at page ++ (bytes ++ drop (at + length bytes) page)) }) }
+        → frame_after h (Write pfn at bytes) pfn ≡ Some (record frame { page = Some ((take at page ++ bytes) ++ drop (at + length bytes) page) }) }
     ensures retype_keeps { (h : HostOf) (pfn number : ℕ) (frame : HostFrame) (type : PageType) (page : List ℕ) → maps.get h.frames pfn ≡ Some frame → type_of number ≡ Some type → is_allowed_number h.kind number ≡ true
         → type_has_data type ≡ true → frame.page ≡ Some page → frame_after h (Retype pfn number) pfn ≡ Some (record { type = type; machine = frame.machine; page = Some page }) }
     ensures retype_zeros { (h : HostOf) (pfn number : ℕ) (frame : HostFrame) (type : PageType) → maps.get h.frames pfn ≡ Some frame → type_of number ≡ Some type → is_allowed_number h.kind number ≡ true

@@ -1,20 +1,17 @@
 -- The tables of causes of a guest image have the causes that stand in words.
-use Rattle.mig_refusals.proofs.Common.{◌≡◌, ◌⊎◌, inl, inr, ℕ, ◌<◌, List, length, Option, Some, None, IsSome, refl, ap, sym, subst, ◌∙◌, be64, le32, le64, both_ways, false_from_ne_true}
-use Rattle.std.specs.FinMap as maps
+use Rattle.mig_refusals.proofs.Common.{◌≡◌, inl, inr, ℕ, ◌<◌, List, refl, ap, sym, subst, le32, le64, both_ways, false_from_ne_true}
 use Rattle.mig_guest.specs.Hosts.{HostOf}
-use Rattle.mig_headers.specs.Pairs.{are_canonical_pairs}
 use Rattle.mig_headers.specs.declared.image_fault.ImageCause.{ImageCause}
-use Rattle.mig_headers.specs.declared.image_fault.ImageCause.TheVariants as causes
-use Rattle.mig_image.specs.GuestImage.{is_all_zero, leaves_out, most_width_of}
+use Rattle.mig_image.specs.GuestImage.{leaves_out, most_width_of}
 use Rattle.mig_image.specs.GuestImageForm.{content_causes, frame_causes, host_head_causes, padding_causes, page_causes, part_causes}
 use Rattle.mig_image.specs.GuestImageParts.{head_key, head_version}
 use Rattle.mig_image.specs.declared.version.GuestImageVersion.{GuestImageVersion}
 use Rattle.mig_image.specs.declared.version.GuestImageVersion.TheVariants.{One, Two}
 use Rattle.mig_refusals.specs.ImageFileTables.{ImageHeadHas, ImageFrameHas, ImagePageHas, ImagePartHas, ImageContentHas, ImagePaddingHas, ImageTablesSay, most_numbers}
 use Rattle.mig_refusals.specs.ImageFileTables.ImageHeadHas.{other_name, other_kind, not_zero, too_wide, wide_for_version, pv_without_width, wide_for_pv, many_frames, more_than_wide}
-use Rattle.mig_refusals.specs.ImageFileTables.ImageFrameHas as frame
+use Rattle.mig_refusals.specs.ImageFileTables.ImageFrameHas.{high_bits_1, high_bits_2, idle_flag_2, other_type, not_above as frame_not_above, outside, no_machine, large_machine, taken}
 use Rattle.mig_refusals.specs.ImageFileTables.ImagePageHas.{all_zeros}
-use Rattle.mig_refusals.specs.ImageFileTables.ImagePartHas as part
+use Rattle.mig_refusals.specs.ImageFileTables.ImagePartHas.{no_row, not_above as part_not_above, many_leaves, many_msrs, other_length}
 use Rattle.mig_refusals.specs.ImageFileTables.ImageContentHas.{other_pairs}
 use Rattle.mig_refusals.specs.ImageFileTables.ImagePaddingHas.{not_zeros}
 use Rattle.mig_refusals.proofs.AnyRow.{AnyRow, any_row, row_any}
@@ -61,28 +58,28 @@ module _ (h : HostOf) (head : List ℕ) where
   Has version c = ImageFrameHas version h head c
 
   frame_words : (version : GuestImageVersion) (c : ImageCause) → AnyRow (frame_causes version h head) c → Has version c
-  frame_words One c (inl is) = subst (Has One) is.1 (frame.high_bits_1 refl is.0)
-  frame_words Two c (inl is) = subst (Has Two) is.1 (elim is.0 [ inl high ↦ frame.high_bits_2 refl high | inr idle ↦ frame.idle_flag_2 refl idle.0 idle.1 ])
-  frame_words version c (inr (inl is)) = subst (Has version) is.1 (frame.other_type ((tests_say.other_type version h.kind head).0 (false_from_ne_true _ is.0)))
-  frame_words version c (inr (inr (inl is))) = let found = (tests_say.frame_from h _).0 is.0 in subst (Has version) is.1 (frame.not_above found.0 found.1 found.2)
-  frame_words version c (inr (inr (inr (inl is)))) = subst (Has version) is.1 (frame.outside is.0)
-  frame_words version c (inr (inr (inr (inr (inl is))))) = subst (Has version) is.1 (elim is.0 [ inl none ↦ frame.no_machine none | inr large ↦ frame.large_machine large ])
-  frame_words version c (inr (inr (inr (inr (inr (inl is)))))) = let found = (tests_say.machine h (le64 head 8)).0 is.0 in subst (Has version) is.1 (frame.taken found.0 found.1 found.2 found.3)
+  frame_words One c (inl is) = subst (Has One) is.1 (high_bits_1 refl is.0)
+  frame_words Two c (inl is) = subst (Has Two) is.1 (elim is.0 [ inl high ↦ high_bits_2 refl high | inr idle ↦ idle_flag_2 refl idle.0 idle.1 ])
+  frame_words version c (inr (inl is)) = subst (Has version) is.1 (other_type ((tests_say.other_type version h.kind head).0 (false_from_ne_true _ is.0)))
+  frame_words version c (inr (inr (inl is))) = let found = (tests_say.frame_from h _).0 is.0 in subst (Has version) is.1 (frame_not_above found.0 found.1 found.2)
+  frame_words version c (inr (inr (inr (inl is)))) = subst (Has version) is.1 (outside is.0)
+  frame_words version c (inr (inr (inr (inr (inl is))))) = subst (Has version) is.1 (elim is.0 [ inl none ↦ no_machine none | inr large ↦ large_machine large ])
+  frame_words version c (inr (inr (inr (inr (inr (inl is)))))) = let found = (tests_say.machine h (le64 head 8)).0 is.0 in subst (Has version) is.1 (taken found.0 found.1 found.2 found.3)
   frame_words version c (inr (inr (inr (inr (inr (inr none)))))) = absurd none
 
   frame_row : (version : GuestImageVersion) (c : ImageCause) → Has version c → AnyRow (frame_causes version h head) c
-  frame_row One _ (frame.high_bits_1 is high) = inl (high, refl)
-  frame_row Two _ (frame.high_bits_1 is high) = absurd (one_two is)
-  frame_row One _ (frame.high_bits_2 is high) = absurd (one_two (sym is))
-  frame_row Two _ (frame.high_bits_2 is high) = inl (inl high, refl)
-  frame_row One _ (frame.idle_flag_2 is flag idle) = absurd (one_two (sym is))
-  frame_row Two _ (frame.idle_flag_2 is flag idle) = inl (inr (flag, idle), refl)
-  frame_row version _ (frame.other_type other) = inr (inl (both_ways _ ((tests_say.other_type version h.kind head).1 other), refl))
-  frame_row version _ (frame.not_above q some le) = inr (inr (inl ((tests_say.frame_from h _).1 (q, some, le), refl)))
-  frame_row version _ (frame.outside out) = inr (inr (inr (inl (out, refl))))
-  frame_row version _ (frame.no_machine none) = inr (inr (inr (inr (inl (inl none, refl)))))
-  frame_row version _ (frame.large_machine large) = inr (inr (inr (inr (inl (inr large, refl)))))
-  frame_row version _ (frame.taken q f there is) = inr (inr (inr (inr (inr (inl ((tests_say.machine h (le64 head 8)).1 (q, f, there, is), refl))))))
+  frame_row One _ (high_bits_1 is high) = inl (high, refl)
+  frame_row Two _ (high_bits_1 is high) = absurd (one_two is)
+  frame_row One _ (high_bits_2 is high) = absurd (one_two (sym is))
+  frame_row Two _ (high_bits_2 is high) = inl (inl high, refl)
+  frame_row One _ (idle_flag_2 is flag idle) = absurd (one_two (sym is))
+  frame_row Two _ (idle_flag_2 is flag idle) = inl (inr (flag, idle), refl)
+  frame_row version _ (other_type other) = inr (inl (both_ways _ ((tests_say.other_type version h.kind head).1 other), refl))
+  frame_row version _ (frame_not_above q some le) = inr (inr (inl ((tests_say.frame_from h _).1 (q, some, le), refl)))
+  frame_row version _ (outside out) = inr (inr (inr (inl (out, refl))))
+  frame_row version _ (no_machine none) = inr (inr (inr (inr (inl (inl none, refl)))))
+  frame_row version _ (large_machine large) = inr (inr (inr (inr (inl (inr large, refl)))))
+  frame_row version _ (taken q f there is) = inr (inr (inr (inr (inr (inl ((tests_say.machine h (le64 head 8)).1 (q, f, there, is), refl))))))
 
 -- ---- a page
 
@@ -97,18 +94,18 @@ page_row version pfn page _ (all_zeros two zeros) = inl ((ap leaves_out two, (te
 -- ---- a part
 
 part_words : (h : HostOf) (head : List ℕ) (c : ImageCause) → AnyRow (part_causes h head) c → ImagePartHas h head c
-part_words h head c (inl is) = subst (ImagePartHas h head) is.1 (part.no_row (λ row. is.0 ((tests_say.fits (le32 head 0) h.kind (head_key head)).1 row)))
-part_words h head c (inr (inl is)) = let found = (tests_say.part_from h.parts (head_key head)).0 is.0 in subst (ImagePartHas h head) is.1 (part.not_above found.0 found.1 found.2)
-part_words h head c (inr (inr (inl is))) = subst (ImagePartHas h head) is.1 (elim is.0.0 [ inl leaves ↦ part.many_leaves leaves is.0.1 | inr msrs ↦ part.many_msrs msrs is.0.1 ])
-part_words h head c (inr (inr (inr (inl is)))) = subst (ImagePartHas h head) is.1 (part.other_length (λ row. is.0 ((tests_say.allowed (le32 head 0) h.width (le32 head 12)).1 row)))
+part_words h head c (inl is) = subst (ImagePartHas h head) is.1 (no_row (λ row. is.0 ((tests_say.fits (le32 head 0) h.kind (head_key head)).1 row)))
+part_words h head c (inr (inl is)) = let found = (tests_say.part_from h.parts (head_key head)).0 is.0 in subst (ImagePartHas h head) is.1 (part_not_above found.0 found.1 found.2)
+part_words h head c (inr (inr (inl is))) = subst (ImagePartHas h head) is.1 (elim is.0.0 [ inl leaves ↦ many_leaves leaves is.0.1 | inr msrs ↦ many_msrs msrs is.0.1 ])
+part_words h head c (inr (inr (inr (inl is)))) = subst (ImagePartHas h head) is.1 (other_length (λ row. is.0 ((tests_say.allowed (le32 head 0) h.width (le32 head 12)).1 row)))
 part_words h head c (inr (inr (inr (inr none)))) = absurd none
 
 part_row : (h : HostOf) (head : List ℕ) (c : ImageCause) → ImagePartHas h head c → AnyRow (part_causes h head) c
-part_row h head _ (part.no_row none) = inl ((λ fits. none ((tests_say.fits (le32 head 0) h.kind (head_key head)).0 fits)), refl)
-part_row h head _ (part.not_above q some above) = inr (inl ((tests_say.part_from h.parts (head_key head)).1 (q, some, above), refl))
-part_row h head _ (part.many_leaves leaves many) = inr (inr (inl ((inl leaves, many), refl)))
-part_row h head _ (part.many_msrs msrs many) = inr (inr (inl ((inr msrs, many), refl)))
-part_row h head _ (part.other_length none) = inr (inr (inr (inl ((λ allows. none ((tests_say.allowed (le32 head 0) h.width (le32 head 12)).0 allows)), refl))))
+part_row h head _ (no_row none) = inl ((λ fits. none ((tests_say.fits (le32 head 0) h.kind (head_key head)).0 fits)), refl)
+part_row h head _ (part_not_above q some above) = inr (inl ((tests_say.part_from h.parts (head_key head)).1 (q, some, above), refl))
+part_row h head _ (many_leaves leaves many) = inr (inr (inl ((inl leaves, many), refl)))
+part_row h head _ (many_msrs msrs many) = inr (inr (inl ((inr msrs, many), refl)))
+part_row h head _ (other_length none) = inr (inr (inr (inl ((λ allows. none ((tests_say.allowed (le32 head 0) h.width (le32 head 12)).0 allows)), refl))))
 
 -- ---- its bytes, and what stands behind them
 

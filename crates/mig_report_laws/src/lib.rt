@@ -8,6 +8,7 @@
 mod text_law;
 
 pub use text_law::{
-    worked_cause_texts, worked_exercise_words, worked_exit_codes, worked_image_cause_texts, worked_legacy_cause_texts,
-    worked_place_texts, worked_record_names, worked_unsound_texts, worked_walk_end_texts,
+    worked_cause_texts, worked_exercise_words, worked_exit_codes, worked_image_cause_texts,
+    worked_legacy_cause_texts, worked_place_texts, worked_record_names, worked_unsound_texts,
+    worked_walk_end_texts,
 };
