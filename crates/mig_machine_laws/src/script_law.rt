@@ -19,7 +19,7 @@ pub fn lines_log_what_they_name()
 {}
 
 /// What a line leaves where it applies: the frame that it names, or the part, has become this.
-#[tactic(auto, using(crate::proofs::LinesLeave::write, crate::proofs::LinesLeave::retype_keeps, crate::proofs::LinesLeave::retype_zeros, crate::proofs::LinesLeave::retype_drops, crate::proofs::LinesLeave::add, crate::proofs::LinesLeave::remove, crate::proofs::LinesLeave::exchange, crate::proofs::LinesLeave::put))]
+#[tactic(auto, using(crate::proofs::LinesLeave::write, crate::proofs::LinesLeave::add, crate::proofs::LinesLeave::remove, crate::proofs::LinesLeave::exchange, crate::proofs::LinesLeave::put))]
 pub fn lines_leave_what_they_say()
     ensures write { (h : HostOf) (pfn at : ℕ) (bytes page : List ℕ) (frame : HostFrame) → maps.get h.frames pfn ≡ Some frame → frame.page ≡ Some page → at + length bytes ≤ 4096
         → frame_after h (Write pfn at bytes) pfn ≡ Some (record frame { page = Some ((take at page ++ bytes) ++ drop (at + length bytes) page) }) }
