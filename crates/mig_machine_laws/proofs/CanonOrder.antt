@@ -35,7 +35,7 @@ ascend_joined : (high low : ℕ) → high ≤ low → (rs ss : List Record) → 
 ascend_joined high low le [] ss below above first second = second
 ascend_joined high low le (r ∷ rs) ss below above first second = (
   all_joined (λ s. record_rank r ≤ record_rank s) rs ss first.0 (all_weaker (λ s. low ≤ record_rank s) (λ s. record_rank r ≤ record_rank s) (λ s h. let b = below.0 in omega (arith, le, h, b)) ss above),
-  ascend_joined high low le rs ss below.1 above first.1 second
+  ascend_joined high low le rs ss below.1 above first.1 second,
 )
 
 join : (a b c d : ℕ) → a ≤ c → b ≤ c → b ≤ d → (rs ss : List Record) → Within a b rs → Within c d ss → Within a d (rs ++ ss)

@@ -1,9 +1,9 @@
 -- Names that several proofs of this crate use.
 pub use Rattle.mig_guest.specs.Footprints.{footprint_of}
-pub use Rattle.mig_guest.specs.History.{History, LogTook, Since}
+pub use Rattle.mig_guest.specs.History.{History, LogTook}
 pub use Rattle.mig_guest.specs.Hosts.{HostFrame, HostFrames, HostOf, pfn_in}
 pub use Rattle.mig_guest.specs.Longs.{long_at}
-pub use Rattle.mig_guest.specs.Pfns.{Pfns, all_below, no_pfns, size}
+pub use Rattle.mig_guest.specs.Pfns.{Pfns, all_below, size}
 pub use Rattle.mig_guest.specs.Rounds.{Rounds, to_read}
 pub use Rattle.mig_headers.specs.declared.kind.Kind.{Kind}
 pub use Rattle.mig_headers.specs.declared.kind.Kind.TheVariants.{Hvm, Pv}
@@ -13,5 +13,5 @@ pub use Rattle.mig_pagetypes.specs.PageTypes.{level_of, type_has_data, type_of}
 pub use Rattle.mig_pagetypes.specs.declared.page_type.PageType.{PageType}
 pub use Rattle.mig_pvtables.specs.Faults.{fits_field}
 pub use Rattle.mig_pvtables.specs.P2mPages.{p2m_page}
-pub use Rattle.mig_records_pages.specs.Batches.{BatchesCut, FitsBatch, IsBehind}
+pub use Rattle.mig_records_pages.specs.Batches.{BatchesCut, IsBehind}
 pub use Rattle.mig_records_pages.specs.Told.{FrameTold, all_told}

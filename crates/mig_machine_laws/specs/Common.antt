@@ -8,7 +8,7 @@ pub use Rattle.mig_exercise.specs.ExerciseScripts.{exercise_write, script_of_exe
 pub use Rattle.mig_exercise.specs.Numbers.{number}
 pub use Rattle.mig_guest.specs.Footprints.{footprint_of}
 pub use Rattle.mig_guest.specs.Guests.{GuestOf}
-pub use Rattle.mig_guest.specs.History.{History, LogTook, Since}
+pub use Rattle.mig_guest.specs.History.{History, LogTook}
 pub use Rattle.mig_guest.specs.Hosts.{HostFrame, HostFrames, HostOf, pfn_in}
 pub use Rattle.mig_guest.specs.Longs.{long_at}
 pub use Rattle.mig_guest.specs.PartKeys.{p2m_key, shared_key, vcpu_key}
