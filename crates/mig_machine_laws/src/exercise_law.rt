@@ -4,7 +4,7 @@ ghost use Rattle.mig_machine_laws.specs.Common.{IsExerciseSize, Pv, exercise_con
 ghost use Rattle.mig_machine_laws.specs.WorkedExercise.{PageSays, eight_context, eight_machines, eight_types};
 ghost use Rattle.mig_machine_script.specs.ScriptLines.LineOf.{Write};
 
-/// The host of the exercise with 8 frames: their types and machine frames, and its parts.
+/// The host of the exercise with 8 frames has these types and machine frames, and these parts.
 #[tactic(auto, using(crate::proofs::WorkedExercise::frames, crate::proofs::WorkedExercise::none, crate::proofs::WorkedExercise::list, crate::proofs::WorkedExercise::context))]
 pub fn worked_exercise_host()
     ensures shape { (seed : ℕ) → ((host_of_exercise seed 8).kind ≡ Pv) × ((host_of_exercise seed 8).width ≡ 8) }
@@ -17,9 +17,9 @@ pub fn worked_exercise_host()
     ensures context { (place : ℕ) → place < 646 → long_at (exercise_context 8) place ≡ eight_context place }
 {}
 
-/// What its pages say: nothing; a table each with the next one in slot 0, and the table of level 1 with the frame of data, with
-/// flags 0x67; the machine frame of each frame number; and the first number of the seed. Of 600 frames the table of level 1
-/// names the first 512 of data, PFNs 8 to 519, and the second P2M frame ends with PFN 599.
+/// Its first two pages are zero. Each table names the next one in slot 0 with flags 0x67, and that of level 1 names the frame of
+/// data. The P2M frame says the machine frame of each frame number, and the frame of data the first number of the seed. Of 600
+/// frames the table of level 1 names the first 512 of data, PFNs 8 to 519, and the second P2M frame ends with PFN 599.
 pub fn worked_exercise_pages()
     ensures zeros { (contents : ℕ → List ℕ) → PageSays (exercise_page 8 contents 0) [] 0 × PageSays (exercise_page 8 contents 1) [] 0 × PageSays page_of_zeros [] 0 }
     ensures tables { (contents : ℕ → List ℕ) → PageSays (exercise_page 8 contents 2) (0x1e8484067 ∷ []) 0 × PageSays (exercise_page 8 contents 3) (0x1e8483067 ∷ []) 0
@@ -30,8 +30,8 @@ pub fn worked_exercise_pages()
         × (long_at (exercise_page 600 contents 7) 87 ≡ 2000000) × (long_at (exercise_page 600 contents 7) 88 ≡ 2 ^ 64 - 1) }
 {}
 
-/// The first two numbers of seed 1, how many P2M frames there are, the first two lines of a script for 10 frames, which has 20 of
-/// them with a dot behind each, and how few and how many frames there may be.
+/// Seed 1 begins with these two numbers. There are so many P2M frames. The script for 10 frames begins with these two lines, and has
+/// 20 of them with a dot behind each. An exercise has from 8 to 65536 frames.
 pub fn worked_exercise_numbers()
     ensures numbers { (number 1 0 ≡ 7806831264735756412) × (number 1 1 ≡ 9396908728118811419) }
     ensures p2m { (p2m_frame_count 8 ≡ 1) × (p2m_frame_count 512 ≡ 1) × (p2m_frame_count 513 ≡ 2) × (p2m_frame_count 65536 ≡ 128) }

@@ -12,31 +12,31 @@ pub fn worked_cause_texts()
     ensures { Answers text_of_cause cause_texts }
 {}
 
-/// Each cause of a legacy stream.
+/// Each cause of a legacy stream is printed so.
 #[tactic(auto, using(crate::proofs::Texts::legacy_causes))]
 pub fn worked_legacy_cause_texts()
     ensures { Answers text_of_legacy_cause legacy_cause_texts }
 {}
 
-/// Each cause of a guest image.
+/// Each cause of a guest image is printed so.
 #[tactic(auto, using(crate::proofs::Texts::image_causes))]
 pub fn worked_image_cause_texts()
     ensures { Answers text_of_image_cause image_cause_texts }
 {}
 
-/// Each cause for which a host can't be seen as a guest.
+/// Each cause for which a host can't be seen as a guest is printed so.
 #[tactic(auto, using(crate::proofs::Texts::unsounds))]
 pub fn worked_unsound_texts()
     ensures { Answers text_of_unsound unsound_texts }
 {}
 
-/// Each reason for which an address means no frame.
+/// Each reason for which an address means no frame is printed so.
 #[tactic(auto, using(crate::proofs::Texts::walk_ends))]
 pub fn worked_walk_end_texts()
     ensures { Answers text_of_walk_end walk_end_texts }
 {}
 
-/// Each place of a refusal.
+/// Each place of a refusal is printed so.
 #[tactic(auto, using(crate::proofs::Texts::places))]
 pub fn worked_place_texts()
     ensures { Answers refusal_place place_texts }
