@@ -1,5 +1,5 @@
 -- How many rounds there are, and which logs go on.
-use Rattle.std.proofs.Common.{◌≡◌, ◌≤◌, ◌<◌, ◌+◌, ◌∷◌, ◌++◌, ℕ, List, [], length, Option, Bool, true, false, inl, inr, refl, subst, arith}
+use Rattle.std.proofs.Common.{◌≡◌, ◌≤◌, ◌<◌, ◌+◌, ◌∷◌, ◌++◌, ℕ, List, [], length, Option, Bool, true, false, inl, inr, refl, ap, subst, arith, length-append}
 use Rattle.std.specs.Prelude.{◌||◌}
 use Rattle.mig_guest.specs.Rounds.{GoesOn, OfEachLog}
 use Rattle.mig_machine_laws.proofs.Common.{Kind, Hvm, LogTook, History, Rounds, to_read, size, all_below, BatchesCut, FrameTold, IsBehind, all_told}
@@ -44,5 +44,5 @@ worked = (
   refl,
 )
 
-pub behind : (start now : Option (List ℕ)) (n : ℕ) → IsBehind start now n → (batches : List (List FrameTold)) × BatchesCut start now batches × (n ≤ length (all_told batches) + 1024)
-behind start now n is = (is.batches, is.cut, is.few)
+pub behind : (start now : Option (List ℕ)) (more : ℕ) (sent : List FrameTold) → IsBehind start now more sent → (batches : List (List FrameTold)) × BatchesCut start now batches × (length sent + more ≤ length (all_told batches) + 1024)
+behind start now more sent is = (is.batches, is.cut, omega (arith, ap length is.all, length-append (all_told is.batches) is.held, is.few))

@@ -22,5 +22,5 @@ pub fn five_rounds_are_rounds()
 pub fn entries_behind_are_few()
     ensures most { most_entries ≡ 1024 }
     ensures batch { (batch : List FrameTold) → FitsBatch batch → (1 ≤ length batch) × (length batch ≤ 1024) }
-    ensures behind { (start now : Option (List ℕ)) (n : ℕ) → IsBehind start now n → (batches : List (List FrameTold)) × BatchesCut start now batches × (n ≤ length (all_told batches) + 1024) }
+    ensures behind { (start now : Option (List ℕ)) (more : ℕ) (sent : List FrameTold) → IsBehind start now more sent → (batches : List (List FrameTold)) × BatchesCut start now batches × (length sent + more ≤ length (all_told batches) + 1024) }
 {}
