@@ -38,6 +38,13 @@ def catch_signals(handler: 'Callable[[int, Any], None]') -> None:
             signal.signal(number, handler)
 
 
+def default_signals() -> None:
+    """Has a signal that asks for an end do so at once, but for one that was ignored from the start."""
+    for number in SIGNALS:
+        if signal.getsignal(number) != signal.SIG_IGN:
+            signal.signal(number, signal.SIG_DFL)
+
+
 def surroundings(words: 'List[str]', given: 'Mapping[str, str]') -> 'Mapping[str, str]':
     """A program's environment for these words. Its pages come in two thirds of the time where the C library asks for huge ones, which it
     does where GLIBC_TUNABLES says so; what is said there of huge pages already stays."""

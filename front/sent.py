@@ -2,96 +2,43 @@
 it, so heads of records are followed here before `show` has listed them; that each lies where the lengths of `show` put it is
 looked at behind that (`Sent.fits`). No byte of a page is kept."""
 import os
-import queue
-import re
 import struct
 import threading
 from array import array
-from itertools import repeat
 
 from front import errors, places, program, sources
+from front.zeros import MOST_PAGES, PAGE, PAGES_AT_ONCE, Readers, zeros_in
 
 TYPE_CHECKING = False                                # a checker of types takes it for true; typing itself is slow to load
 if TYPE_CHECKING:
-    from typing import Any, Callable, Dict, Iterator, List, Optional, Tuple
-
-    Run = Optional[Tuple[int, int, int]]             # of pages: the number of their record, the place of the first, how many
+    from typing import Any, Callable, Dict, List, Optional, Tuple
 
 PAGE_DATA = 1                                        # a type of record in an image
-PAGE, WORD, COUNT = 4096, 8, 8                       # bytes of a page, of a word, and of the number of words with what is reserved
-PAGES_AT_ONCE = 64                                   # so many are read at once, which a core has in its own cache
-READERS, MOST_WAITING = 2, 8                         # threads that read pages of a file, and runs of pages that wait for them
+WORD, COUNT = 8, 8                                   # bytes of a word, and of the number of words with what is reserved
 MOST_BODY = 1 << 27                                  # bytes of a body; `show` refuses a longer one
-MOST_ENTRIES = 1 << 25                               # frame numbers that are kept, 9 bytes each
+MOST_ENTRIES = MOST_PAGES                            # frame numbers that are kept, 9 bytes each
 MOST_RECORDS = 1 << 17                               # that are listed
-ZEROS = [bytes(PAGE * count) for count in range(PAGES_AT_ONCE + 1)]  # by how many pages they are
-RUN_OF_ZEROS = re.compile(b'\\0+')
-
-
-def zeros_in(data: bytes) -> bytes:
-    """A byte for each of these pages: 1 where it is all zeros."""
-    first_bytes = data[::PAGE]
-    found = bytearray(len(first_bytes))
-    for run in RUN_OF_ZEROS.finditer(first_bytes):
-        begins, ends = run.span()
-        if data.startswith(ZEROS[ends - begins], PAGE * begins):
-            found[begins:ends] = b'\1' * (ends - begins)
-        else:
-            found[begins:ends] = map(data.startswith, repeat(ZEROS[1]), range(PAGE * begins, PAGE * ends, PAGE))
-    return bytes(found)
-
-
-class Readers:
-    """Threads that look for pages of zeros in a file, while its records are walked."""
-
-    def __init__(self, read: 'Callable[[int, int], bytes]') -> None:
-        self.read = read
-        self.zeros = {}  # type: Dict[int, bytes]
-        self.fault = None  # type: Optional[BaseException]
-        self.waiting = queue.Queue(MOST_WAITING)  # type: queue.Queue[Run]
-        self.threads = [threading.Thread(target=self.work, daemon=True) for _ in range(READERS)]
-        for thread in self.threads:
-            thread.start()
-
-    def work(self) -> None:
-        for number, place, count in iter(self.waiting.get, None):
-            try:
-                self.zeros[number] = b'' if self.fault else b''.join(self.pieces(place, count))
-            except BaseException as fault:           # whoever waits for the threads tells it
-                self.fault = fault
-
-    def pieces(self, place: int, count: int) -> 'Iterator[bytes]':
-        for at in range(0, count, PAGES_AT_ONCE):
-            data = self.read(place + PAGE * at, PAGE * min(count - at, PAGES_AT_ONCE))
-            yield zeros_in(data[:len(data) // PAGE * PAGE])
-
-    def end(self) -> 'Dict[int, bytes]':
-        """Which pages of each record are zeros, once all that were asked for are read."""
-        for _ in self.threads:
-            self.waiting.put(None)
-        for thread in self.threads:
-            thread.join()
-        if self.fault:
-            raise self.fault
-        return self.zeros
 
 
 class Sent:
-    """The records of a stream as their heads say, with the words and the pages of zeros of those that have some. What can be read at
-    any place is read by threads."""
+    """The records of a stream as their heads say, with the words and the pages of zeros of those that have some. Pages that can be read at
+    any place are read by `readers`, up to `end`."""
 
-    def __init__(self, cursor: 'sources.Cursor', is_wrapped: bool, is_by_place: bool) -> None:
-        self.cursor = cursor
-        self.readers = Readers(cursor.read_bytes) if is_by_place else None
+    def __init__(self, cursor: 'sources.Cursor', is_wrapped: bool, readers: 'Optional[Readers]') -> None:
+        self.cursor, self.readers = cursor, readers
+        self.asked = {}  # type: Dict[int, Tuple[int, int]]
         self.lengths, self.words, self.zeros = array('I'), {}, {}  # type: array[int], Dict[int, bytes], Dict[int, bytes]
         self.entries, self.is_whole = 0, True        # of the words that are kept, and whether all are
         try:
             self.wrapper() if is_wrapped else self.image()
         except errors.Lost:                          # `show` tells why
             pass
-        finally:
-            if self.readers:
-                self.zeros = self.readers.end()
+
+    def end(self) -> None:
+        """Waits until all pages are read."""
+        if self.readers:
+            self.readers.end()
+            self.zeros = {number: self.readers.found(*run) for number, run in self.asked.items()}
 
     def wrapper(self) -> None:
         """Goes over a libxl stream."""
@@ -131,13 +78,13 @@ class Sent:
         """Reads the body of a PAGE_DATA: its length tells how many pages stand behind the words."""
         count = struct.unpack('<I4x', self.read(COUNT))[0]
         pages, left = divmod(length - COUNT - WORD * count, PAGE)
-        if left or pages < 0:
+        if left or not 0 <= pages <= count:
             raise errors.Lost
         number, words = len(self.lengths) - 1, self.read(WORD * count)
         self.is_whole = self.is_whole and self.entries + count <= MOST_ENTRIES
         if self.readers:
             if self.is_whole:
-                self.readers.waiting.put((number, self.cursor.place, pages))
+                self.asked[number] = self.readers.ask(self.cursor.place, pages)
             self.cursor.skip(PAGE * pages)
         else:
             zeros = b''.join(zeros_in(self.read(PAGE * min(left, PAGES_AT_ONCE))) for left in range(pages, 0, -PAGES_AT_ONCE))
@@ -241,16 +188,28 @@ class Shared:
         return self.source.ended(accepted)  # type: ignore[no-any-return]
 
 
-def beside(path: str, source: 'Any', begins: int, is_wrapped: bool, most: int) -> 'Any':
-    """What the program answers to `show`, the text that it wrote, or a little more of it than is kept, and what was sent."""
-    shared = None if source.is_walkable and not source.packed else Shared(source)
-    with program.Work(path, ['show'], shared or source, begins, program.PIPE) as work:
-        if shared:
-            shared.began()
+def of_file(source: 'Any', begins: int, is_wrapped: bool, most: int, readers: Readers) -> 'Any':
+    """The same as `beside`, of a file that can be read at any place."""
+    sent = Sent(source.cursor(begins), is_wrapped, readers)
+    with program.Work(program.find(), ['show'], source, begins, program.PIPE) as work:
+        text = sources.read_upto(work.out, most + 1)
+        if len(text) > most:
+            work.kill()
+        sent.end()
+    return work.said, text, sent
+
+
+def beside(source: 'Any', begins: int, is_wrapped: bool, most: int, readers: 'Optional[Readers]') -> 'Any':
+    """What the program answers to `show`, the text that it wrote, or a little more of it than is kept, and what was sent. Readers are at
+    hand where the source can be read at any place."""
+    if readers:
+        return of_file(source, begins, is_wrapped, most, readers)
+    shared = Shared(source)
+    with program.Work(program.find(), ['show'], shared, begins, program.PIPE) as work:
+        shared.began()
         collected = Collected(work.out, most)
-        sent = Sent((shared or source).cursor(begins), is_wrapped, shared is None)
-        if shared:
-            shared.pass_all(collected.is_alive)
+        sent = Sent(shared.cursor(begins), is_wrapped, None)
+        shared.pass_all(collected.is_alive)
         collected.join()
         if len(collected.text) > most:
             work.kill()

@@ -169,6 +169,18 @@ class Plain(Regular):
     def length_to(self, offset: int) -> int:
         return min(self.size, offset)
 
+    def opened_again(self) -> 'Optional[Plain]':
+        """The same file with a place of its own, so that another program may read it meanwhile; None where that can't be had."""
+        fd = -1
+        try:
+            fd = os.open('/proc/self/fd/%d' % self.fd, os.O_RDONLY | os.O_CLOEXEC)
+            os.lseek(fd, self.base, os.SEEK_SET)
+            return type(self)(fd, self.status)
+        except OSError:
+            if fd >= 0:
+                os.close(fd)
+            return None
+
     def cursor(self, offset: int) -> Cursor:
         return Cursor(self.at, lambda count: None, offset)
 

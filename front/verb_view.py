@@ -2,15 +2,17 @@
 the program's `show`, and what `mig info` tells stands at the top."""
 import json
 import sys
+import threading
 from itertools import islice
 
 from front import errors, forms, page, places, program, resolve, sent, sources, verb_info, verdict, write
 from front.frames import Frames
 from front.parts import RECORD, stream_of, tree_of
 from front.progress import LINE
-from front.sharing import Memory
+from front.sharing import MOST_OF_CHECK, Memory
 from front.text import put_lines, shown
 from front.words import INPUT, in_json, verb, writes_over
+from front.zeros import Readers
 
 TYPE_CHECKING = False                                # a checker of types takes it for true; typing itself is slow to load
 if TYPE_CHECKING:
@@ -128,6 +130,45 @@ class View:
         return 'Each part of the stream is well formed.%s Whether the guest is whole mig check tells.' % behind, True
 
 
+class Checked(threading.Thread):
+    """What mig_check says of a file, which it reads by place, while `show` lists its records: by an opening of the file of its own, where
+    that can be had, since programs move the place of the one that they get; else it is asked behind that."""
+
+    def __init__(self, name: str, source: 'Any', memory: Memory) -> None:
+        super().__init__(daemon=True)
+        self.name_of_file, self.source, self.memory = name, source, memory
+        self.found, self.fault = None, None  # type: Optional[verdict.Verdict], Optional[BaseException]
+        self.again = source.opened_again()
+
+    def __enter__(self) -> 'Checked':
+        if self.again:
+            self.start()
+        return self
+
+    def __exit__(self, *_: object) -> None:
+        if self.again:
+            self.join()
+            self.again.close()
+
+    def run(self) -> None:
+        try:
+            self.found = self.judged(self.again)
+        except BaseException as fault:               # it is raised where the verdict is asked for
+            self.fault = fault
+
+    def judged(self, source: 'Any') -> verdict.Verdict:
+        with self.memory.taken(MOST_OF_CHECK):
+            return verdict.judged(self.name_of_file, program.find(resolve.CHECK), source)
+
+    def verdict(self) -> verdict.Verdict:
+        if not self.again:
+            return self.judged(self.source)
+        self.join()
+        if self.fault:
+            raise self.fault
+        return self.found  # type: ignore[return-value]
+
+
 def read(name: str, source: 'Any') -> 'Tuple[verb_info.Info, Optional[View]]':
     """What is told of a source, and what its page is drawn from; nothing where it has none."""
     form = forms.form_of(source)
@@ -136,10 +177,20 @@ def read(name: str, source: 'Any') -> 'Tuple[verb_info.Info, Optional[View]]':
     early = verdict.without_program(name, form)
     if early:
         return verb_info.without_judging(verb_info.Info.of(early)), None
+    memory = Memory(1)
+    if source.packed or not source.is_walkable:
+        return of_form(name, source, form, memory, None, None)
+    with Readers(source.fd, source.base, source.size) as readers, Checked(name, source, memory) as checked:
+        return of_form(name, source, form, memory, readers, checked)
+
+
+def of_form(name: str, source: 'Any', form: forms.Form, memory: Memory, readers: 'Optional[Readers]',
+            checked: 'Optional[Checked]') -> 'Tuple[verb_info.Info, Optional[View]]':
+    """The same of a source in which a stream was found. What can be read by place has readers, and is checked."""
     told, ahead = verb_info.domain_of(source, form), source.at(form.begins, verb_info.AHEAD)  # type: Any, bytes
     is_wrapped = ahead.startswith(forms.LIBXL_MAGIC)
-    with Memory(1).taken(verb_info.MOST_TAKEN):
-        said, text, read = sent.beside(program.find(), source, form.begins, is_wrapped, verb_info.MOST_TEXT)
+    with memory.taken(verb_info.MOST_TAKEN):
+        said, text, read = sent.beside(source, form.begins, is_wrapped, verb_info.MOST_TEXT, readers)
     if len(text) > verb_info.MOST_TEXT or text.count(b'{') > sent.MOST_RECORDS + 1 or said.line == 'fault: memory':
         said, text = program.Answer(errors.NO_MEMORY, verb_info.TOO_MANY), b''
     found = verdict.of_answer(name, source, form, 'show', said)
@@ -147,8 +198,8 @@ def read(name: str, source: 'Any') -> 'Tuple[verb_info.Info, Optional[View]]':
     if found.status not in (errors.OK, errors.REFUSED):
         return told, None
     judged = None
-    if found.status == errors.OK and source.is_walkable and not source.packed:  # a check of a file by place reads little of it
-        judged = verdict.judged(name, program.find(resolve.CHECK), source)
+    if found.status == errors.OK and checked:        # a check of a file by place reads little of it
+        judged = checked.verdict()
         if judged.status not in (errors.OK, errors.REFUSED):
             return told._replace(found=judged), None
     return told, drawn(told, judged, text, read, form.begins, is_wrapped)
