@@ -5,18 +5,20 @@ import os
 import sys
 
 from front import errors, files, forms, headers, program, sources, text, verdict
+from front.holes import Sparse
 from front.progress import LINE
 from front.text import put_lines, shown, tell
 from front.words import CHOICE, INPUT, INTO, OUT, in_json, takes_files, takes_header, verb, writes_over
 
 TYPE_CHECKING = False                                # a checker of types takes it for true; typing itself is slow to load
 if TYPE_CHECKING:
-    from typing import Any, List, Optional
+    from typing import Any, List, Optional, Union
 
     from front.words import Words
 
 LIBXL_FRONT = bytes.fromhex('4c6962786c466d74 00000002 00000000 01000000 00000000')
 LIBXL_END = bytes(8)
+WRITE_FAULT = 'fault: write'                         # the program's line
 HEADERS = {'xl': headers.XlHeader, 'libvirt': headers.LibvirtHeader}  # by the toolstack that is named
 MODE = 0o600                                         # a guest's memory is its owner's alone, whoever may read the save
 UNSYNCED = errno.EINVAL, errno.ENOTSUP, errno.EACCES  # of a folder whose file system has no such call, or which can't be read
@@ -148,25 +150,58 @@ def copy(pipe: int, out: int) -> None:
         put(out, block)
 
 
-def with_header(pipe: int, out: int, front: bytes) -> None:
+class Straight:
+    """A file or a pipe that gets all bytes as they come."""
+
+    def __init__(self, fd: int) -> None:
+        self.fd = fd
+
+    def put(self, data: bytes) -> None:
+        put(self.fd, data)
+
+    def copy(self, pipe: int) -> None:
+        copy(pipe, self.fd)
+
+    def end(self) -> None:
+        """All is written."""
+
+
+def with_header(pipe: int, out: 'Union[Straight, Sparse]', front: bytes) -> None:
     """Passes on what the program writes, with a header in front, and with a libxl stream around a bare image."""
     first = sources.read_upto(pipe, len(forms.LIBXL_MAGIC))
     if not first:
         return
     bare = first != forms.LIBXL_MAGIC
-    put(out, front + LIBXL_FRONT * bare + first)
-    copy(pipe, out)
-    put(out, LIBXL_END * bare)
+    out.put(front + LIBXL_FRONT * bare + first)
+    out.copy(pipe)
+    out.put(LIBXL_END * bare)
 
 
-def answer(words: 'Any', path: str, command: 'List[str]', source: 'Any', form: forms.Form, out: int) -> program.Answer:
-    """What the program answers, while its output goes to a file descriptor."""
-    if not words.toolstack:
-        return program.run(path, command, source, form.begins, out)
-    front = form.header.before_v2(configuration(source, form, words.toolstack))
-    with program.Work(path, command, source, form.begins, program.PIPE) as work:
-        with_header(work.out, out, front)
+def passed_on(path: str, command: 'List[str]', source: 'Any', begins: int, out: 'Union[Straight, Sparse]', front: 'Optional[bytes]') -> program.Answer:
+    """What the program answers, while its output is passed on, with a header in front where there is one."""
+    with program.Work(path, command, source, begins, program.PIPE) as work:
+        if front is None:
+            out.copy(work.out)
+        else:
+            with_header(work.out, out, front)
+        out.end()
     return work.said
+
+
+def answer(words: 'Any', path: str, command: 'List[str]', source: 'Any', form: forms.Form, output: Output) -> program.Answer:
+    """What the program answers, while its output goes to OUT. One that gets all of it as it comes is written by the program itself."""
+    out = Sparse(output.fd) if words.holes and output.part else Straight(output.fd)  # type: Union[Straight, Sparse]
+    if words.toolstack:
+        front = form.header.before_v2(configuration(source, form, words.toolstack))
+        return passed_on(path, command, source, form.begins, out, front)
+    if isinstance(out, Straight):
+        return program.run(path, command, source, form.begins, output.fd)
+    try:
+        return passed_on(path, command, source, form.begins, out, None)
+    except errors.Refused as refused:
+        if refused.status != errors.WRITE_FAULT:
+            raise
+        return program.Answer(errors.WRITE_FAULT, WRITE_FAULT)  # as the program itself tells it
 
 
 def command_of(words: 'Any') -> 'List[str]':
@@ -182,7 +217,7 @@ def written(words: 'Any', path: str, name: str, source: 'Any', output: Output) -
         return early
     if words.toolstack:
         configuration(source, form, words.toolstack)
-    said = answer(words, path, command_of(words), source, form, output.fd)
+    said = answer(words, path, command_of(words), source, form, output)
     if said.status == errors.USAGE:
         raise errors.BadWords(errors.USAGE, '--base has to be from 1 to 1099494850560')
     return verdict.of_answer(name, source, form, words.verb, said)
@@ -229,6 +264,8 @@ def offer(verbs: 'Any', name: str, says: str, with_toolstacks: bool = True) -> '
     words.add_argument('-t', '--target-directory', dest='directory', metavar='DIR', help='write one result for each PATH in DIR')
     words.add_argument('--skip-existing', action='store_true', help='with -t: pass over what has its result in DIR')
     writes_over(words)
+    words.add_argument('--holes', action='store_true', default=True, help='leave out blocks of zeros, which take no room on the disk then (so it is)')
+    words.add_argument('--no-holes', dest='holes', action='store_false', help='write all zeros to the disk')
     in_json(words, 'print one JSON object, or with -t one for each file and no count')
     if with_toolstacks:
         takes_header(words, "put %s's header back in front", ', so that `%s` takes OUT')
