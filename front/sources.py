@@ -213,6 +213,7 @@ class Packed(Regular):
     def __init__(self, fd: int, status: os.stat_result, packer: str) -> None:
         super().__init__(fd, status)
         self.packed = packer
+        self.whole = None  # type: Optional[int]   # a file that has all of it unpacked, where that was asked for
         self.running = None  # type: Any           # the unpacker, where one is at work
         self.front = self.look(0, forms.LOOK)
 
@@ -255,12 +256,28 @@ class Packed(Regular):
         return Cursor(lambda _, count: read_upto(fd, count), lambda count: pass_over(fd, count), offset)
 
     def input_from(self, offset: int) -> int:
+        if self.whole is not None:
+            go_to(self.whole, offset)
+            return self.whole
         self.running = self.unpack()
         pass_over(self.running.stdout.fileno(), offset)
         return int(self.running.stdout.fileno())
 
+    def unpack_into(self, folder: str) -> None:
+        """Unpacks all into a file of a folder that has no name, which a program reads by place then."""
+        from front import holes                      # which stands on this
+        self.whole = holes.unnamed(folder)
+        out, self.running = holes.Sparse(self.whole, shown(folder)), self.unpack()
+        out.copy(self.running.stdout.fileno())
+        out.end()
+        said = self.stop()
+        if said:
+            raise errors.Unreadable(said)
+
     def ended(self, accepted: bool) -> 'Optional[str]':
         """Where the program accepted the stream, all is unpacked, so that the packer's own checksum is looked at."""
+        if self.whole is not None:
+            return super().ended(accepted)
         if accepted and not drain(self.running.stdout.fileno()):
             self.kill()
             return 'more than %d MiB follow the stream, and what packed it has its checksum behind them' % (MOST_BEHIND >> 20)
@@ -285,6 +302,8 @@ class Packed(Regular):
 
     def close(self) -> None:
         self.kill()
+        if self.whole is not None:
+            os.close(self.whole)
         super().close()
 
 
