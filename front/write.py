@@ -177,7 +177,8 @@ def with_header(pipe: int, out: 'Union[Straight, Sparse]', front: bytes) -> None
     out.put(LIBXL_END * bare)
 
 
-def passed_on(path: str, command: 'List[str]', source: 'Any', begins: int, out: 'Union[Straight, Sparse]', front: 'Optional[bytes]') -> program.Answer:
+def passed_on(path: str, command: 'List[str]', source: 'Any', begins: int, out: 'Union[Straight, Sparse]',
+              front: 'Optional[bytes]') -> program.Answer:
     """What the program answers, while its output is passed on, with a header in front where there is one."""
     with program.Work(path, command, source, begins, program.PIPE) as work:
         if front is None:
