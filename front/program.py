@@ -12,7 +12,7 @@ from front.text import shown
 
 TYPE_CHECKING = False                                # a checker of types takes it for true; typing itself is slow to load
 if TYPE_CHECKING:
-    from typing import Any, Callable, List, Mapping, Optional, Protocol, Sequence, Set, Tuple
+    from typing import Any, Callable, List, Mapping, Optional, Protocol, Sequence, Set, Tuple, Union
 
     class Input(Protocol):
         """What a program's standard input is made from: front/sources.py has several."""
@@ -31,18 +31,12 @@ KEEPS_NO_PAGES = ['relay'], ['show'], [], ['legacy']  # type: Tuple[List[str], .
 SIGNALS = signal.SIGINT, signal.SIGTERM, signal.SIGHUP
 
 
-def catch_signals(handler: 'Callable[[int, Any], None]') -> None:
-    """Has a function called where a signal asks for an end; one that was ignored from the start, as under nohup, stays so."""
+def catch_signals(handler: 'Union[Callable[[int, Any], None], signal.Handlers]') -> None:
+    """Has a function called where a signal asks for an end, or the system do what it does then; a signal that was ignored from the start,
+    as under nohup, stays so."""
     for number in SIGNALS:
         if signal.getsignal(number) != signal.SIG_IGN:
             signal.signal(number, handler)
-
-
-def default_signals() -> None:
-    """Has a signal that asks for an end do so at once, but for one that was ignored from the start."""
-    for number in SIGNALS:
-        if signal.getsignal(number) != signal.SIG_IGN:
-            signal.signal(number, signal.SIG_DFL)
 
 
 def surroundings(words: 'List[str]', given: 'Mapping[str, str]') -> 'Mapping[str, str]':

@@ -82,7 +82,7 @@ class Readers:
         """What a fork does, up to the end of its parent's words, or of its parent. Its status is the number of an error."""
         status = errno.EFAULT
         try:
-            program.default_signals()
+            program.catch_signals(signal.SIG_DFL)
             signal.pthread_sigmask(signal.SIG_SETMASK, before)
             os.close(self.jobs)
             for job in iter(lambda: os.read(jobs, JOB.size), b''):
