@@ -13,27 +13,38 @@ from programs import command
 
 HERE = os.path.dirname(os.path.realpath(__file__))
 # In this order they find what they need of one another: the devices of Xen, and the folder that dom0 shares with the test.
+# Those of PARTS are parts of others of these in one kernel or another, and then no files.
 MODULES = ('xen-evtchn', 'xen-privcmd', 'xen-gntdev', 'xen-gntalloc', 'xenfs', 'virtio_ring', 'virtio',
-           'virtio_pci_legacy_dev', 'virtio_pci_modern_dev', 'virtio_pci', 'netfs', 'fscache', '9pnet', '9pnet_virtio', '9p')
+           'virtio_pci_legacy_dev', 'virtio_pci_modern_dev', 'virtio_pci', 'virtio_console', 'netfs', 'fscache', '9pnet', '9pnet_virtio', '9p')
+PARTS = {'netfs', 'fscache', 'virtio_pci_legacy_dev', 'virtio_pci_modern_dev'}
 FOLDERS = ('bin', 'sbin', 'dev', 'proc', 'sys', 'run', 'tmp', 'etc/xen', 'root', 'share', 'lib/modules', 'var/log/xen',
            'var/lib/xen', 'var/lib/xenstored')
 LOADED, DISK = 4 * 512, 1 << 20                       # so much of the disk is loaded; its size
-XZ = b'\xfd7zXZ\0'
+XZ, ZSTD = b'\xfd7zXZ\0', b'\x28\xb5\x2f\xfd'
+ELF = b'\x7fELF'
+LINKED = 'bin', 'sbin', 'lib', 'lib64'                # links into usr, in suites whose packages have all below usr
 
 
-def kernel_of(boot_image):
-    """The ELF kernel in a bzImage, which a PV guest starts from. Linux's boot protocol says where its payload stands."""
+def place_kernel(boot_image, path):
+    """Unpacks the ELF kernel in a bzImage, which a PV guest starts from. Linux's boot protocol says where its payload stands;
+    behind it are four bytes of its length."""
     with open(boot_image, 'rb') as file:
         data = file.read()
     setup = ((data[0x1f1] or 4) + 1) * 512
     offset, length = struct.unpack_from('<II', data, 0x248)
-    payload = data[setup + offset:setup + offset + length]
-    if not payload.startswith(XZ):
-        raise Fault('the payload of %s is not packed by xz' % boot_image)
-    kernel = lzma.LZMADecompressor().decompress(payload)
-    if not kernel.startswith(b'\x7fELF'):
-        raise Fault('no ELF kernel stands in %s' % boot_image)
-    return kernel
+    payload = data[setup + offset:setup + offset + length - 4]
+    if payload.startswith(ZSTD):
+        with open(path + '.zst', 'wb') as file:
+            file.write(payload)
+        command(['zstd', '-d', '-q', '-f', path + '.zst', '-o', path], 'unpacking ' + boot_image)
+    elif payload.startswith(XZ):
+        with open(path, 'wb') as file:
+            file.write(lzma.LZMADecompressor().decompress(payload))
+    else:
+        raise Fault('the payload of %s is packed by neither xz nor zstd' % boot_image)
+    with open(path, 'rb') as file:
+        if file.read(len(ELF)) != ELF:
+            raise Fault('no ELF kernel stands in %s' % boot_image)
 
 
 class Archive:
@@ -119,18 +130,41 @@ def one(pattern):
 
 def small_files(root):
     for name, text in (('etc/passwd', 'root:x:0:0:root:/root:/bin/sh\n'), ('etc/group', 'root:x:0:\n'),
-                       ('etc/hosts', '127.0.0.1 localhost\n'), ('etc/xen/xl.conf', ''),
-                       ('lib/modules/order', '\n'.join(MODULES) + '\n')):
+                       ('etc/hosts', '127.0.0.1 localhost\n'), ('etc/xen/xl.conf', '')):
         with open(os.path.join(root, name), 'w') as file:
             file.write(text)
 
 
+def place_modules(root, kernel):
+    """Puts the modules where dom0_init finds them, in the order in which it loads them."""
+    built_in, order = one(os.path.join(kernel, '**/modules.builtin')), []
+    with open(built_in) as file:
+        needless = {os.path.basename(line.strip()) for line in file}
+    for module in MODULES:
+        found = glob.glob(os.path.join(os.path.dirname(built_in), '**', module + '.ko*'), recursive=True)
+        if found:
+            with (lzma.open if found[0].endswith('.xz') else open)(found[0], 'rb') as packed, \
+                    open(os.path.join(root, 'lib/modules', module + '.ko'), 'wb') as file:
+                shutil.copyfileobj(packed, file)
+            order.append(module)
+        elif module + '.ko' not in needless and module not in PARTS:
+            raise Fault('no module %s was unpacked' % module)
+    with open(os.path.join(root, 'lib/modules/order'), 'w') as file:
+        file.write('\n'.join(order) + '\n')
+
+
+def link_folders(root):
+    for name in LINKED:
+        if not os.path.lexists(os.path.join(root, name)) and os.path.isdir(os.path.join(root, 'usr', name)):
+            os.symlink('usr/' + name, os.path.join(root, name))
+
+
 def fill_root(root, kernel):
+    link_folders(root)
     for folder in FOLDERS:
         os.makedirs(os.path.join(root, folder), exist_ok=True)
     small_files(root)
-    for module in MODULES:
-        shutil.copy(one(os.path.join(kernel, 'lib/modules/**/%s.ko' % module)), os.path.join(root, 'lib/modules'))
+    place_modules(root, kernel)
     if not os.path.lexists(os.path.join(root, 'bin/sh')):
         os.symlink('busybox', os.path.join(root, 'bin/sh'))
     shutil.copy(os.path.join(HERE, 'dom0_init'), os.path.join(root, 'init'))
@@ -140,46 +174,49 @@ def fill_root(root, kernel):
 def sources_sum():
     """A checksum of what says how dom0 is built, so that what an earlier version of it built isn't booted."""
     added = hashlib.sha256()
-    for name in 'dom0.py', 'dom0_init', 'packages.py':
+    for name in 'dom0.py', 'dom0_init', 'packages.py', 'suites.py':
         with open(os.path.join(HERE, name), 'rb') as file:
             added.update(file.read())
     return added.hexdigest()
 
 
-def is_built(done):
-    try:
+def once(folder, make):
+    """Makes what stands in a folder, where these sources didn't make it before."""
+    done = os.path.join(folder, 'built')
+    if os.path.exists(done):
         with open(done) as file:
-            return file.read() == sources_sum()
-    except FileNotFoundError:
-        return False
+            if file.read() == sources_sum():
+                return
+    make()
+    with open(done, 'w') as file:
+        file.write(sources_sum())
 
 
-def guest_programs(lab):
-    guest_archive(lab)
-    boot_disk(lab)
-    tiny_guests(lab)
-
-
-def build(cache, lab):
-    """Builds all that is booted in the folder `lab`. Of that the guests' programs alone are built again where it is there."""
-    done = os.path.join(lab, 'built')
-    if is_built(done):
-        guest_programs(lab)
-        return
+def unpack(cache, lab):
+    """Unpacks all sets of packages of a cache, each into a folder of its own in `lab`."""
     cache.fill()
-    for name in 'dom0', 'kernel', 'hypervisor', 'emulator':
+    for name in cache.sets:
         shutil.rmtree(os.path.join(lab, name), ignore_errors=True)
         cache.unpack(name, os.path.join(lab, name))
+
+
+def build_host(cache, lab):
+    """Builds Xen, dom0's kernel and dom0's file system in the folder `lab`."""
+    unpack(cache, lab)
     with gzip.open(one(os.path.join(lab, 'hypervisor/boot/xen-4*.gz'))) as packed, open(os.path.join(lab, 'xen'), 'wb') as file:
         shutil.copyfileobj(packed, file)
-    with open(os.path.join(lab, 'vmlinux'), 'wb') as file:
-        file.write(kernel_of(one(os.path.join(lab, 'kernel/boot/vmlinuz-*'))))
-    guest_programs(lab)
+    place_kernel(one(os.path.join(lab, 'kernel/boot/vmlinuz-*')), os.path.join(lab, 'vmlinux'))
     fill_root(os.path.join(lab, 'dom0'), os.path.join(lab, 'kernel'))
     with open(os.path.join(lab, 'dom0.cpio'), 'wb') as file:
         archive = Archive(file)
         archive.console()
         archive.tree(os.path.join(lab, 'dom0'))
         archive.end()
-    with open(done, 'w') as file:
-        file.write(sources_sum())
+
+
+def build(cache, lab):
+    """Builds all that is booted in the folder `lab`, of that the guests' programs each time."""
+    once(lab, lambda: build_host(cache, lab))
+    guest_archive(lab)
+    boot_disk(lab)
+    tiny_guests(lab)
