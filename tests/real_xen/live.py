@@ -63,10 +63,11 @@ class Joined:
         program = subprocess.Popen([self.tool, 'relay'], stdin=self.one, stdout=self.other, stderr=subprocess.PIPE,
                                    preexec_fn=ends_with_parent)
         self.said = program.communicate()[1].decode().strip()
-        if program.returncode:                       # both xl would wait for one another
-            for machine in self.machines:
-                machine.run('killall xl')
-        self.copied(self.one, self.other)
+        if program.returncode == 0:
+            self.copied(self.one, self.other)
+            return
+        for machine in self.machines:                # where the program ended, both xl would wait for one another
+            machine.run('killall xl')
 
 
 class Move:
