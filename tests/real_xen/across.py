@@ -36,13 +36,14 @@ class Crossing:
     def __init__(self, trip, other):
         self.guest, self.sent = trip.guest, trip
         self.arrived = Trip(other, trip.tool, trip.guest, other.lab)
-        self.to = os.path.basename(other.lab)
         self.of_original = None                      # what went wrong with the original
 
     def steps(self):
-        yield 'its save as it is is restored by %s and goes on' % self.to, self.original
-        yield 'its canonical stream is restored by %s and goes on' % self.to, lambda: self.ours(self.arrived.canonical_goes_on)
-        yield 'its save, relayed in dom0, is restored by %s and goes on' % self.to, lambda: self.ours(self.relayed)
+        one, other = (os.path.basename(trip.machine.lab) for trip in (self.sent, self.arrived))
+        for what, step in (('its save as it is', self.original),
+                           ('its canonical stream', lambda: self.ours(self.arrived.canonical_goes_on)),
+                           ('its save, relayed in dom0,', lambda: self.ours(self.relayed))):
+            yield 'of %s: %s is restored by %s and goes on' % (one, what, other), step
         self.arrived.clear()
 
     def original(self):
