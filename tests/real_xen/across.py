@@ -1,11 +1,11 @@
 """A guest that one Xen saved is given to another Xen: as it is, as a canonical stream, and passed on by `mig_tool relay` in the
-other's dom0. What the other Xen doesn't do with the original either is told apart from what it doesn't do with ours alone."""
+other's dom0. What the other Xen refuses of the original, too, is told apart from what it refuses of ours alone."""
 import os
 import re
 import shutil
 
 import streams
-from guests import Broken
+from guests import Refused
 from trips import Trip
 
 OURS = 'tiny', 'tiny2', 'tinypvh2', 'hvm1'           # the guests that are nothing but our own program
@@ -17,7 +17,7 @@ DOMAIN = re.compile(r'\b(HVM|d|Domain |domain )\d+')  # its number is another on
 
 
 class Theirs(Exception):
-    """The other Xen doesn't take the original either."""
+    """The other Xen refuses the original, too."""
 
 
 def sent(trip):
@@ -36,7 +36,7 @@ class Crossing:
     def __init__(self, trip, other):
         self.guest, self.sent = trip.guest, trip
         self.arrived = Trip(other, trip.tool, trip.guest, other.lab)
-        self.of_original = None                      # what went wrong with the original
+        self.of_original = None                      # how the original was refused
 
     def steps(self):
         one, other = (os.path.basename(trip.machine.lab) for trip in (self.sent, self.arrived))
@@ -51,16 +51,16 @@ class Crossing:
         shutil.copyfile(self.sent.need('save'), self.arrived.path('save'))
         try:
             return self.arrived.back('save')
-        except (Broken, TimeoutError) as broken:
-            self.of_original = DOMAIN.sub(r'\1', str(broken))
+        except Refused as refused:
+            self.of_original = DOMAIN.sub(r'\1', str(refused))
             raise Theirs(self.of_original) from None
 
     def ours(self, step):
-        """Does a step with a stream of ours. What the original died of is no fault of ours."""
+        """Does a step with a stream of ours. Where it is refused with the words with which the original was, it isn't at fault."""
         try:
             return step()
-        except (Broken, TimeoutError) as broken:
-            if DOMAIN.sub(r'\1', str(broken)) != self.of_original:
+        except Refused as refused:
+            if DOMAIN.sub(r'\1', str(refused)) != self.of_original:
                 raise
             raise Theirs('as the original') from None
 
