@@ -1,6 +1,7 @@
 -- A machine that is exact stays so, call by call.
-use Rattle.mig_machine.proofs.Common.{◌≡◌, ℕ, ◌+◌, ◌-◌, ◌^◌, ◌≤◌, ◌<◌, min, Bool, true, false, cond, List, [], ◌∷◌, length, Option, Some, None, is_some, refl, sym, ap, subst, ◌∙◌, arith, option_map, HostOf, History, LogTook, Since, and_call, after_log, Pfns, pfns_of_words, no_pfns, LineOf, ran, after, logged_after, touched, MachineSeen, HistoryNoted, calls_of, is_paused, log_of, history_of, history_told, course_of, asked_before, AreExact, StandRoundPause, IsExactFrom, IsLaterMachine, RunsOn, unwrap_or, one_more, no_history, ran_between, after_between, touched_on, touched_same, asked_in, AllCounted, IsExactBy}
+use Rattle.mig_machine.proofs.Common.{◌≡◌, ℕ, ◌+◌, ◌-◌, ◌^◌, ◌≤◌, ◌<◌, min, Bool, true, false, cond, List, [], ◌∷◌, length, Option, Some, None, is_some, refl, sym, ap, subst, ◌∙◌, arith, option_map, HostOf, History, LogTook, Since, and_call, after_log, Pfns, pfns_of_words, no_pfns, LineOf, ran, after, logged_after, touched, MachineSeen, HistoryNoted, calls_of, is_paused, log_of, history_of, history_told, course_of, asked_before, AreExact, StandRoundPause, IsExactFrom, IsLaterMachine, RunsOn, unwrap_or, one_more, no_history, ran_between, after_between, touched_on, touched_same, asked_in, AllCounted, IsExactBy, AsksOn, IsLaterHistory}
 use Rattle.mig_machine_script.specs.Courses.{IsLaterCourse}
+use Rattle.mig_machine.proofs.Laters.{asks_call, history_asked, history_logged, runs_till}
 
 -- ---- what the lines of a call do
 
@@ -120,9 +121,16 @@ asked_once h b n k s r one = record {
   stopped = r.stopped;
 }
 
-pub later_by_call : (a b : MachineSeen) (n : HistoryNoted) (s : Since) → RunsOn a b → s.calls ≡ one_more (history_of a).since.calls → history_told n ≡ record { taken = (history_of a).taken; since = s; live = (history_of a).live }
+pub later_by_call : (a b : MachineSeen) (n : HistoryNoted) (s : Since) → RunsOn a b → AsksOn (history_of a).since s → s.calls ≡ one_more (history_of a).since.calls → history_told n ≡ record { taken = (history_of a).taken; since = s; live = (history_of a).live }
     → IsLaterMachine a (record b { noted = n })
-later_by_call a b n s r one told = record { course = r.course; exact = λ h e. subst (λ (k : History). IsExactBy h (record b { noted = n }) k) (sym told) (asked_once h b n (history_of a) s (ready h a b e r) one) }
+later_by_call a b n s r on one told =
+    let till = runs_till a b r in
+    record {
+      course = r.course;
+      history = subst (IsLaterHistory (history_of a)) (sym told) (history_asked (history_of a) s on);
+      calls = record { pause = till.pause; behind = till.behind };
+      exact = λ h e. subst (λ (k : History). IsExactBy h (record b { noted = n }) k) (sym told) (asked_once h b n (history_of a) s (ready h a b e r) one);
+    }
 
 -- logs that were all taken before the pause
 all_live : (l : List LogTook) (runs live : ℕ) → length l ≤ live → asked_before l < runs → StandRoundPause runs live l
@@ -153,6 +161,11 @@ later_by_pause a b n d is r told =
     subst (λ (x : ℕ). IsLaterMachine a (record b { behind = Some x; noted = n })) (sym is)
     (record {
       course = record { script = r.course.script; calls = r.course.calls; runs = r.course.runs; host = r.course.host };
+      history = subst (IsLaterHistory (history_of a)) (sym told) (history_asked (history_of a) (and_call (history_of a).since) (asks_call (history_of a).since));
+      calls = let till = runs_till a b r in record {
+        pause = λ live _. omega (arith, r.runs ∙ ap (λ p. cond p a.runs (one_more a.runs)) live);
+        behind = λ paused. (refl, (till.behind paused).1);
+      };
       exact = λ h e. subst (λ (k : History). IsExactBy h (record b { behind = Some (unwrap_or b.behind 0); noted = n }) k) (sym told) (paused_so h b n (history_of a) b.behind refl (ready h a b e r));
     })
 
@@ -185,7 +198,14 @@ took_log h b w n k none r =
     longer = omega arith
 
 pub later_by_log : (a b : MachineSeen) (w : List ℕ) (n : HistoryNoted) → RunsOn a b → pfns_of_words w ≡ no_pfns → history_told n ≡ after_log (is_paused b) (log_of b) (history_of a) → IsLaterMachine a (record b { log = w; noted = n })
-later_by_log a b w n r none told = record { course = r.course; exact = λ h e. subst (λ (k : History). IsExactBy h (record b { log = w; noted = n }) k) (sym told) (took_log h b w n (history_of a) none (ready h a b e r)) }
+later_by_log a b w n r none told =
+    let till = runs_till a b r in
+    record {
+      course = r.course;
+      history = subst (IsLaterHistory (history_of a)) (sym told) (history_logged (is_paused b) (log_of b) (history_of a));
+      calls = record { pause = till.pause; behind = till.behind };
+      exact = λ h e. subst (λ (k : History). IsExactBy h (record b { log = w; noted = n }) k) (sym told) (took_log h b w n (history_of a) none (ready h a b e r));
+    }
 
 -- ---- the first machine
 

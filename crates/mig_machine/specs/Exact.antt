@@ -2,6 +2,7 @@
 use Rattle.std.specs.Prelude.{◌≡◌, ℕ, ◌+◌, ◌-◌, ◌^◌, ◌≤◌, ◌<◌, min, List, [], ◌∷◌, length, true, false, if◌then◌else◌}
 use Rattle.std.specs.Option.{option_map}
 use Rattle.mig_machine.specs.Common.{HostOf, LogTook, History, one_more, Pfns, OfEachLog, IsLaterCourse, ran, ran_between, after, logged_after, touched}
+use Rattle.mig_machine.specs.Histories.{IsLaterHistory}
 use Rattle.mig_machine.specs.MachineSeen.{MachineSeen, calls_of, is_paused, log_of, history_of, course_of}
 
 -- how many calls were made up to and with the last of these logs, which stand the latest first
@@ -54,8 +55,15 @@ pub record RunsOn (a b : MachineSeen) : Type 0 where
   pub behind : b.behind ≡ option_map one_more a.behind
   pub log : log_of b ≡ logged_after a.host (ran_between a.lines a.runs b.runs) (log_of a)
 
+-- Calls up to the pause run lines: where the pause was made between, it is one of those that did, and behind it none does.
+pub record RunsTillPaused (a b : MachineSeen) : Type 0 where
+  pub pause : is_paused a ≡ false → is_paused b ≡ true → one_more a.runs ≤ b.runs
+  pub behind : is_paused a ≡ true → (is_paused b ≡ true) × (b.runs ≡ a.runs)
+
 -- The second is the first one later on: it has the same script, no fewer calls were made, its host is what the lines run
--- between make of the host of the first, and where the first was exact it is too.
+-- between make of the host of the first, its history goes on from that of the first, and where the first was exact it is too.
 pub record IsLaterMachine (a b : MachineSeen) : Type 0 where
   pub course : IsLaterCourse (course_of a) (course_of b)
+  pub history : IsLaterHistory (history_of a) (history_of b)
+  pub calls : RunsTillPaused a b
   pub exact : (h : HostOf) → IsExactFrom h a → IsExactFrom h b

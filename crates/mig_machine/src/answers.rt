@@ -1,7 +1,8 @@
 ghost use Rattle.std.specs.Prelude.{◌≡◌, ℕ, ◌+◌, ◌/◌, ◌≤◌, length};
-ghost use Rattle.mig_machine.specs.Common.{seen_at, page_peeked, pfns_of_words, no_pfns, later_itself, later_still};
-ghost use Rattle.mig_machine.specs.MachineSeen.{machine_state, course_of};
+ghost use Rattle.mig_machine.specs.Common.{seen_at, page_peeked, pfns_of_words, no_pfns};
+ghost use Rattle.mig_machine.specs.MachineSeen.{machine_state};
 ghost use Rattle.mig_machine.specs.Exact.{IsLaterMachine};
+ghost use Rattle.mig_machine.specs.LaterMachines.{machine_itself, machine_still};
 
 use crate::machine::ScriptMachine;
 use mig_bytes::Failed;
@@ -94,7 +95,7 @@ impl Machine for ScriptMachine {
         Ok(())
     }
 
-    ghost later_self = { λ m. record { course = later_itself (course_of m); exact = λ h e. e } };
+    ghost later_self = { machine_itself };
 
-    ghost later_on = { λ a b c p q. record { course = later_still (course_of a) (course_of b) (course_of c) p.course q.course; exact = λ h e. q.exact h (p.exact h e) } };
+    ghost later_on = { machine_still };
 }

@@ -1,8 +1,8 @@
 ghost use Rattle.std.proofs.Common.{◌∙◌, le_refl, le_trans};
 ghost use Rattle.std.specs.Prelude.{refl, ◌≡◌, ◌+◌, ◌/◌, ◌<◌, ◌↔◌, length, IsTrue, IsErr, IfOk, IfSome, OnOk, OnErr};
-ghost use Rattle.mig_machine.specs.Common.{FaultHasCause, counted_up, IsListed, pfn_in, seen_at, page_peeked, Peeked, LookedUp, LogTaken, Paused, IsValidState, pfns_of_words, later_itself, later_still};
+ghost use Rattle.mig_machine.specs.Common.{FaultHasCause, counted_up, IsListed, pfn_in, seen_at, page_peeked, Peeked, LookedUp, LogTaken, Paused, IsValidState, pfns_of_words};
 ghost use Rattle.mig_machine.specs.Failing.{failing_state, IsLaterFailing, IsFailingCall};
-ghost use Rattle.mig_machine.specs.MachineSeen.{course_of};
+ghost use Rattle.mig_machine.specs.LaterMachines.{machine_itself, machine_still};
 
 use crate::machine::ScriptMachine;
 use mig_bytes::Failed;
@@ -52,6 +52,7 @@ impl FailingMachine {
     }
 
     /// Counts a call, and fails where its number is listed.
+    #[tactic(auto, using(crate::specs::LaterMachines::machine_itself))]
     fn count(&mut self) -> Result<(), Failed>
         ensures listed { IsErr result ↔ IsListed self.old.failing self.old.number }
         ensures failed { OnErr result (self.new ≡ record self.old { number = counted_up self.old.number; faults = counted_up self.old.faults }) }
@@ -139,7 +140,7 @@ impl Machine for FailingMachine {
         self.inner.pause()
     }
 
-    ghost later_self = { λ m. record { inner = record { course = later_itself (course_of m.inner); exact = λ h e. e }; failing = refl; number = le_refl m.number; faults = le_refl m.faults } };
+    ghost later_self = { λ m. record { inner = machine_itself m.inner; failing = refl; number = le_refl m.number; faults = le_refl m.faults } };
 
-    ghost later_on = { λ a b c p q. record { inner = record { course = later_still (course_of a.inner) (course_of b.inner) (course_of c.inner) p.inner.course q.inner.course; exact = λ h e. q.inner.exact h (p.inner.exact h e) }; failing = q.failing ∙ p.failing; number = le_trans p.number q.number; faults = le_trans p.faults q.faults } };
+    ghost later_on = { λ a b c p q. record { inner = machine_still a.inner b.inner c.inner p.inner q.inner; failing = q.failing ∙ p.failing; number = le_trans p.number q.number; faults = le_trans p.faults q.faults } };
 }

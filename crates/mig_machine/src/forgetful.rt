@@ -1,7 +1,7 @@
 ghost use Rattle.std.proofs.Common.{◌∙◌};
 ghost use Rattle.std.specs.Prelude.{refl, ◌≡◌, ◌+◌, ◌/◌, ◌<◌, length, IfOk, IfSome, OnOk, OnErr};
-ghost use Rattle.mig_machine.specs.Common.{pfn_in, seen_at, page_peeked, Peeked, LookedUp, LogTaken, Paused, pfns_of_words, later_itself, later_still};
-ghost use Rattle.mig_machine.specs.MachineSeen.{course_of};
+ghost use Rattle.mig_machine.specs.Common.{pfn_in, seen_at, page_peeked, Peeked, LookedUp, LogTaken, Paused, pfns_of_words};
+ghost use Rattle.mig_machine.specs.LaterMachines.{machine_itself, machine_still};
 ghost use Rattle.mig_machine.specs.Forgetful.{forgetful_state, without_pfns, IsLaterForgetful, TakesMore, IsForgetfulCall};
 
 use crate::machine::ScriptMachine;
@@ -114,7 +114,7 @@ impl Machine for ForgetfulMachine {
         self.inner.pause()
     }
 
-    ghost later_self = { λ m. record { inner = record { course = later_itself (course_of m.inner); exact = λ h e. e }; forgets = refl } };
+    ghost later_self = { λ m. record { inner = machine_itself m.inner; forgets = refl } };
 
-    ghost later_on = { λ a b c p q. record { inner = record { course = later_still (course_of a.inner) (course_of b.inner) (course_of c.inner) p.inner.course q.inner.course; exact = λ h e. q.inner.exact h (p.inner.exact h e) }; forgets = q.forgets ∙ p.forgets } };
+    ghost later_on = { λ a b c p q. record { inner = machine_still a.inner b.inner c.inner p.inner q.inner; forgets = q.forgets ∙ p.forgets } };
 }
