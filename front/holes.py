@@ -74,11 +74,15 @@ class Sparse:
             self.write()
 
     def write(self) -> None:
-        """Writes what is kept."""
+        """Writes what is kept. A hole at its end belongs to the file, too, so that its size tells how much there is."""
         self.kept[self.there:] = bytes(SIZE - self.there)
+        ends = 0
         try:
             for run in RUN_OF_DATA.finditer(zeros_in(self.kept)):
-                self.write_all(PAGE * run.start(), min(PAGE * run.end(), self.there))
+                ends = min(PAGE * run.end(), self.there)
+                self.write_all(PAGE * run.start(), ends)
+            if ends < self.there:
+                os.ftruncate(self.fd, self.begins + self.there)
         except OSError as fault:
             raise not_written(self.told, fault) from None
         self.begins, self.there = self.begins + self.there, 0
@@ -88,9 +92,5 @@ class Sparse:
             begins += os.pwrite(self.fd, self.view[begins:ends], self.begins + begins)
 
     def end(self) -> None:
-        """Writes the rest; a hole at the end belongs to the file, too."""
+        """Writes the rest."""
         self.write()
-        try:
-            os.ftruncate(self.fd, self.begins)
-        except OSError as fault:
-            raise not_written(self.told, fault) from None
