@@ -25,7 +25,7 @@ pub use Rattle.mig_dirtysave_parts.proofs.Codes.{are_within, both_all, emulator_
 pub use Rattle.mig_dirtysave_parts.proofs.Texts.{appends_first, nothing_stops, on_err, part_behind, some_records}
 pub use Rattle.mig_dirtysave_parts.specs.KeptParts.{HoldsParts, SameEmulators, is_early, is_setting, kept_parts, parts_alone}
 pub use Rattle.mig_dirtysave_parts.specs.SaveTexts.{ClosesStream, IsOtherRecord, StopsBehind, settings_seen, text_before}
-pub use Rattle.mig_dirtysave_rounds.specs.Entries.{AreTold, IsToldEntry, frames_meant, put_at, put_told}
+pub use Rattle.mig_dirtysave_rounds.specs.Entries.{AreTold, IsToldEntry, MostSent, TellMost, frames_meant, pfns_sent, put_at, put_told}
 pub use Rattle.mig_dirtysave_rounds.specs.Forms.{form_of_print, form_page, is_lost, lost_in, lost_slot, superpage_in, superpage_slot}
 pub use Rattle.mig_dirtysave_rounds.specs.Live.{FramesSaved, HasRounds, IsUnsound, KeepsShape, ReadsExactly, forms, table_fault, tables_unsound, type_in}
 pub use Rattle.mig_dirtysave_rounds.specs.Parts.{entries_read, entries_read_before}
@@ -79,7 +79,7 @@ pub use Rattle.mig_pvtables.specs.VcpuContexts.{blanked_context, blanked_shared,
 pub use Rattle.mig_pvtables.specs.Whole.{IsWhole}
 pub use Rattle.mig_records.proofs.RecordTexts.{text_join, text_one}
 pub use Rattle.mig_records.specs.Records.{IsRecord, Record, spelled, text_of}
-pub use Rattle.mig_records_pages.specs.Batches.{AreSized, IsBehind}
+pub use Rattle.mig_records_pages.specs.Batches.{AreSized}
 pub use Rattle.mig_records_pages.specs.Told.{FrameTold, all_told, frame_or_xtab, telling_frame, telling_frames, telling_record}
 pub use Rattle.mig_records_pages.specs.Written.{AreRecordsWithin, IsRecordWithin, IsShortRecord, WroteAll, WroteSome}
 pub use Rattle.mig_restore_form.specs.Spelled.{Accepted, Follows, IsComplete, IsImage}

@@ -1,12 +1,13 @@
 -- How a save ends, by the answer of the step that ended it.
-use Rattle.mig_dirtysave.proofs.Common.{◌≡◌, ℕ, ◌≤◌, List, Option, Some, true, sym, ap, subst, ◌∙◌, arith, Result, Ok, Err, length, length-map, HostOf, MachineState, Unsound, UnsoundHas, is_of_no_type, unsoundness, entries_read, FrameTold, all_told, FramesSaved, KeepsShape, OnlyLooksUp, IsLittleBehind, IsTrusted, IsErrAnd, no_history, IsSameShape, all_read, HasRounds, IfUnsound, LeavesNoStream, PausesMachine, SaveEnds, SaveAnswer}
+use Rattle.mig_dirtysave.proofs.Common.{◌≡◌, ℕ, ◌≤◌, List, [], append-nil, Option, Some, true, sym, ap, subst, ◌∙◌, arith, Result, Ok, Err, length, length-map, HostOf, MachineState, Unsound, UnsoundHas, is_of_no_type, unsoundness, entries_read, FrameTold, all_told, FramesSaved, KeepsShape, OnlyLooksUp, TellMost, pfns_sent, IsTrusted, IsErrAnd, no_history, IsSameShape, all_read, HasRounds, IfUnsound, LeavesNoStream, PausesMachine, SaveEnds, SaveAnswer}
 use Rattle.mig_dirtysave.specs.SaveAnswers.{answer_to}
 use Rattle.mig_dirtysave_rounds.specs.declared.found.SendFault.{SendFault}
 use Rattle.mig_dirtysave_rounds.specs.declared.found.SendFault.TheVariants as faults
 use Rattle.mig_dirtysave.specs.declared.answer.SaveAnswer.TheVariants as answers
 use Rattle.mig_dirtysave.specs.declared.answer.SaveReport.{SaveReport}
 use Rattle.mig_dirtysave.proofs.Ends.{Stopped, nothing_read, stopped_behind, stopped_no_stream}
-use Rattle.mig_dirtysave.proofs.Looked.{read_stays, rounds_stay, trust_stays}
+use Rattle.mig_dirtysave.proofs.Looked.{all_stays, read_stays, rounds_stay, trust_stays}
+use Rattle.mig_dirtysave_rounds.proofs.Steps.{told_alike}
 
 -- ---- a stream that was stopped
 
@@ -14,10 +15,16 @@ use Rattle.mig_dirtysave.proofs.Looked.{read_stays, rounds_stay, trust_stays}
 pub nothing_left : (s : MachineState) → s.history ≡ no_history → entries_read s.host.width s.history ≤ 1024
 nothing_left s unread = omega (arith, nothing_read s.host.width s.history unread)
 
-pub leaves : (s t : MachineState) (old new : Option (List ℕ)) (n : ℕ) → n ≡ entries_read s.host.width t.history → Stopped old new s.host.parts n → LeavesNoStream s t old new
-leaves s t old new n is stopped = record {
-  no_stream = stopped_no_stream old new s.host.parts n stopped;
-  behind = subst (IsLittleBehind old new s.host.parts) is (stopped_behind old new s.host.parts n stopped);
+pub leaves : (s t : MachineState) (old new : Option (List ℕ)) → Stopped old new s.host t.history → LeavesNoStream s t old new
+leaves s t old new stopped = record { no_stream = stopped_no_stream old new s.host t.history stopped; behind = stopped_behind old new s.host t.history stopped }
+
+-- all that was read was sent, and then machine frames alone were looked up
+pub told_most : (s m t : MachineState) (old new : Option (List ℕ)) (u : Option Unsound) → KeepsShape s m → OnlyLooksUp m t → (f : FramesSaved old new m u) → TellMost s.host.kind s.host.width t.history f.batches
+told_most s m t old new u kept looks f = record {
+  told = told_alike (all_told f.batches) kept.shape.kind kept.shape.width f.told;
+  missing = [];
+  order = all_stays m t looks s.host.width ∙ ap (λ (w : ℕ). all_read w m.history) (sym kept.shape.width) ∙ sym f.order ∙ sym (append-nil (pfns_sent (all_told f.batches)));
+  few = omega arith;
 }
 
 module _ (s t : MachineState) (old new : Option (List ℕ)) where

@@ -1,6 +1,6 @@
 -- What stays of a paused machine while machine frames are looked up: its host, and what a history says of rounds and reads.
-use Rattle.mig_dirtysave.proofs.Common.{◌≡◌, ℕ, ◌+◌, ◌≤◌, List, [], ◌∷◌, ◌++◌, length, take, get_or, Option, Some, None, map, refl, sym, ap, subst, ◌∙◌, arith, ◌⊎◌, inl, inr, Result, Ok, Err, get_or_past, length-take, option_map, Kind, PageType, HostOf, HostFrame, IsValid, headers, text_of, telling_record, view, wrapper_opening, wrapper_closing, AcceptedStream, History, MachineState, entries_read, OnlyLooksUp, HasTypes, Unsound, SaveWritten, IsTrusted, min, cases_lt, get_or-take, Rounds, Tight, all_read, rounds_read, entries_read_before, HasRounds, ReadsExactly, type_in, IfUnsound, SaveAnswer}
-use Rattle.mig_guest.specs.Pfns.{Pfns, members, size}
+use Rattle.mig_dirtysave.proofs.Common.{◌≡◌, ℕ, ◌+◌, ◌≤◌, List, [], ◌∷◌, ◌++◌, length, take, get_or, Option, Some, None, map, refl, sym, ap, subst, ◌∙◌, arith, ◌⊎◌, inl, inr, Result, Ok, Err, get_or_past, length-take, option_map, Kind, PageType, HostOf, HostFrame, IsValid, headers, text_of, telling_record, view, wrapper_opening, wrapper_closing, AcceptedStream, History, MachineState, AreTold, all_told, OnlyLooksUp, HasTypes, Unsound, SaveWritten, IsTrusted, min, cases_lt, get_or-take, Rounds, Tight, all_read, rounds_read, HasRounds, ReadsExactly, type_in, IfUnsound, SaveAnswer}
+use Rattle.mig_guest.specs.Pfns.{Pfns, members}
 use Rattle.std.specs.FinMap as maps
 use Rattle.mig_dirtysave.specs.declared.answer.SaveAnswer.TheVariants as answers
 
@@ -41,8 +41,8 @@ module _ (t u : MachineState) (looks : OnlyLooksUp t u) where
   pub read_stays : all_read t.host.width t.history ≡ all_read u.host.width u.history
   read_stays = let taken = sym looks.taken in let read = sym looks.read in let host = sym looks.host in λ i. rounds_read (host i).width (taken i) ++ members (host i).width (read i)
 
-  pub total_stays : (width : ℕ) → entries_read width u.history ≡ entries_read width t.history
-  total_stays width = let taken = looks.taken in let read = looks.read in λ i. entries_read_before width (taken i) + size width (read i)
+  pub all_stays : (width : ℕ) → all_read width u.history ≡ all_read width t.history
+  all_stays width = let taken = looks.taken in let read = looks.read in λ i. rounds_read width (taken i) ++ members width (read i)
 
   pub trust_stays : IsTrusted u → IsTrusted t
   trust_stays (inl honest) = inl (sym looks.ran.honest ∙ honest)
@@ -59,6 +59,8 @@ module _ (t u : MachineState) (looks : OnlyLooksUp t u) where
     is = w.is ∙ ap (λ (h : HostOf). wrapper_opening h.parts ++ (w.image ++ wrapper_closing h.parts)) (sym looks.host);
     appended = w.appended;
     others = w.others;
+    within = w.within;
+    told = subst (λ (h : HostOf). AreTold h.kind h.width (all_told w.batches)) (sym looks.host) w.told;
     order = w.order ∙ read_stays;
     means = λ honest rest. subst (λ (h : HostOf). AcceptedStream (w.text ++ rest) (view h) rest) (sym looks.host) (w.means (sym looks.ran.honest ∙ honest) rest);
   }

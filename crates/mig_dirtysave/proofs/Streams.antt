@@ -1,5 +1,5 @@
 -- What a save wrote is a stream, and over an honest machine the stream of the host's view.
-use Rattle.mig_dirtysave.proofs.Common.{◌==◌, is_some, and_parts, ◌≡◌, ℕ, Bool, List, [], ◌∷◌, ◌++◌, map, true, Option, None, refl, sym, ap, subst, ◌∙◌, arith, append_assoc, Appends, Appends-trans, Kind, Unsound, IsFormed, GuestOf, IsValid, PartMap, PartKey, Record, text_of, headers, info_records, static_bodies, p2m_records, text_join, batch_records, batched, unsoundness, view, top_of, viewed_whole, bare_guest, wrapper_opening, wrapper_closing, AcceptedStream, opening_alike, closing_alike, MachineState, FrameTold, telling_frames, telling_record, Accepted, KeepsShape, FramesSaved, text_before, ClosesStream, HoldsParts, is_early, emulators_seen, first_records, first_within, SaverOf, PreparedFor, SaveWritten, not, is_fixed, last_records, IsOtherRecord, both_all, first_seen, viewed_kind, others_are}
+use Rattle.mig_dirtysave.proofs.Common.{◌==◌, is_some, and_parts, ◌≡◌, ℕ, Bool, List, [], ◌∷◌, ◌++◌, map, true, Option, None, refl, sym, ap, subst, ◌∙◌, arith, append_assoc, Appends, Appends-trans, Kind, Unsound, IsFormed, GuestOf, IsValid, PartMap, PartKey, Record, text_of, headers, info_records, static_bodies, p2m_records, text_join, batch_records, batched, unsoundness, view, top_of, viewed_whole, bare_guest, wrapper_opening, wrapper_closing, AcceptedStream, opening_alike, closing_alike, MachineState, FrameTold, telling_frames, telling_record, Accepted, KeepsShape, FramesSaved, text_before, ClosesStream, HoldsParts, is_early, emulators_seen, first_records, first_within, SaverOf, PreparedFor, SaveWritten, not, is_fixed, last_records, IsOtherRecord, both_all, first_seen, viewed_kind, others_are, are_within, IsRecordWithin}
 use Rattle.mig_host_view.proofs.SoundRows.{sound_is_faultless}
 use Rattle.mig_libxl.proofs.AnyCanons.{around_is_accepted}
 use Rattle.mig_dirtysave.proofs.Viewed.{saved_is_viewed}
@@ -104,6 +104,8 @@ module _ (t : MachineState) (valid : IsValid t.host) (tables : Option Unsound) (
       is = refl;
       appended = Appends-trans old start new _ _ begun (Appends-trans start ended new _ _ image_appended finished);
       others = both_all IsOtherRecord before closed.behind (others_are before (first_within early formed)) closed.others;
+      within = both_all IsRecordWithin before (pages ++ closed.behind) (are_within before (first_within early formed)) (both_all IsRecordWithin pages closed.behind s.written.wrote.within closed.within);
+      told = s.told;
       order = s.order;
       means = stream_accepted;
     }

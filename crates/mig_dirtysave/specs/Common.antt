@@ -8,12 +8,12 @@ pub use Rattle.mig_canon.specs.CanonStream.{bare_guest, opening_text, wrapper_cl
 pub use Rattle.mig_dirtysave_parts.specs.KeptParts.{HoldsParts, SameEmulators, SameSettings, is_early, is_setting}
 pub use Rattle.mig_dirtysave_parts.specs.SaveTexts.{ClosesStream, IsOtherRecord, StopsBehind, settings_seen, text_before}
 pub use Rattle.mig_dirtysave_rounds.specs.Causes.{AnswerHasCause, FaultsHaveCauses}
-pub use Rattle.mig_dirtysave_rounds.specs.Entries.{AreTold, frames_meant, pfns_sent}
+pub use Rattle.mig_dirtysave_rounds.specs.Entries.{AreTold, MostSent, TellMost, frames_meant, pfns_sent}
 pub use Rattle.mig_dirtysave_rounds.specs.Live.{AnswersTables, FramesSaved, HasRounds, IsUnsound, KeepsShape, ReadsExactly, SawTypes, forms, tables_unsound}
 pub use Rattle.mig_dirtysave_rounds.specs.Parts.{entries_read}
 pub use Rattle.mig_guest.specs.Formed.{IsFormed}
 pub use Rattle.mig_guest.specs.Guests.{GuestOf}
-pub use Rattle.mig_guest.specs.History.{no_history}
+pub use Rattle.mig_guest.specs.History.{History, no_history}
 pub use Rattle.mig_guest.specs.Hosts.{HostFrame, HostOf, IsValid, pfn_in}
 pub use Rattle.mig_guest.specs.MachineStates.{IsValidState, MachineState, Ran}
 pub use Rattle.mig_guest.specs.Parts.{PartMap, parts_code}
@@ -31,6 +31,6 @@ pub use Rattle.mig_pvtables.specs.Blank.{each_value}
 pub use Rattle.mig_pvtables.specs.Faults.{field_numbers, find_misplaced, first_cause, fits_field, is_needed}
 pub use Rattle.mig_pvtables.specs.VcpuContexts.{is_used_somewhere}
 pub use Rattle.mig_records.specs.Records.{IsRecord, Record, spelled, text_of}
-pub use Rattle.mig_records_pages.specs.Batches.{AreSized, IsBehind}
+pub use Rattle.mig_records_pages.specs.Batches.{AreSized}
 pub use Rattle.mig_records_pages.specs.Told.{FrameTold, all_told, telling_frames, telling_record}
 pub use Rattle.mig_records_pages.specs.Written.{AreRecordsWithin, WroteAll, WroteSome}

@@ -1,6 +1,6 @@
 -- What a save has written, and what it answers.
-use Rattle.std.specs.Prelude.{◌≡◌, ◌⊎◌, ℕ, ◌+◌, ◌≤◌, true, List, [], ◌∷◌, ◌++◌, length, map, Option, None, Some, Result, Ok, Err}
-use Rattle.mig_dirtysave.specs.Common.{AllByRecursion, Appends, Kind, Hvm, Unsound, PartMap, Record, text_of, headers, FrameTold, telling_record, all_told, AreRecordsWithin, unsoundness, view, is_of_no_type, UnsoundHas, wrapper_opening, wrapper_closing, AcceptedStream, IsOtherRecord, MachineState, pfns_sent, HasRounds, KeepsShape, ReadsExactly, entries_read}
+use Rattle.std.specs.Prelude.{◌≡◌, ◌⊎◌, ℕ, ◌≤◌, true, List, [], ◌∷◌, ◌++◌, length, map, Option, None, Some, Result, Ok, Err}
+use Rattle.mig_dirtysave.specs.Common.{AllByRecursion, Appends, Hvm, Unsound, HostOf, Record, text_of, headers, FrameTold, telling_record, all_told, AreRecordsWithin, unsoundness, view, is_of_no_type, UnsoundHas, wrapper_opening, wrapper_closing, AcceptedStream, IsOtherRecord, History, MachineState, AreTold, TellMost, pfns_sent, HasRounds, KeepsShape, ReadsExactly, entries_read}
 use Rattle.mig_guest.specs.Rounds.{all_read}
 use Rattle.mig_records_pages.specs.PageData.{most_entries}
 use Rattle.mig_dirtysave.specs.Unread.{WroteNoStream}
@@ -27,8 +27,9 @@ abbrev pub IsTrusted : MachineState → Type 0
 IsTrusted t = (t.honest ≡ true) ⊎ (t.host.kind ≡ Hvm)
 
 -- From old to new a stream was written: headers, PAGE_DATA records between others, and END, inside a libxl stream with the
--- emulators behind the image where the host has parts of some. Its entries name what was read of the machine, in that
--- order. Over an honest machine it is accepted, whatever follows it, and its guest is what the machine's host is seen as.
+-- emulators behind the image where the host has parts of some. A reader may take each record, and each entry is one that a
+-- stream of the host's kind can have: they name what was read of the machine, in that order. Over an honest machine the
+-- stream is accepted, whatever follows it, and its guest is what the machine's host is seen as.
 pub record SaveWritten (old new : Option (List ℕ)) (t : MachineState) : Type 0 where
   pub before : List Record
   pub batches : List (List FrameTold)
@@ -39,23 +40,25 @@ pub record SaveWritten (old new : Option (List ℕ)) (t : MachineState) : Type 0
   pub is : text ≡ wrapper_opening t.host.parts ++ (image ++ wrapper_closing t.host.parts)
   pub appended : Appends old new text
   pub others : AllByRecursion IsOtherRecord (before ++ behind)
+  pub within : AreRecordsWithin (before ++ (map telling_record batches ++ behind))
+  pub told : AreTold t.host.kind t.host.width (all_told batches)
   pub order : pfns_sent (all_told batches) ≡ all_read t.host.width t.history
   pub means : t.honest ≡ true → (rest : List ℕ) → AcceptedStream (text ++ rest) (view t.host) rest
 
--- What was written from old to new of a host with these parts begins, behind what stands before the image, with headers and
--- whole records that a reader may take, some of which are those of batches. Of n entries at most 1024 stand in none of them.
-pub record WroteMost (old new : Option (List ℕ)) (parts : PartMap) (n : ℕ) : Type 0 where
-  pub kind : Kind
+-- What was written from old to new of this host begins, behind what stands before the image, with headers and whole records
+-- that a reader may take: some that aren't PAGE_DATA, and behind them the batches that tell most of what was read.
+pub record WroteMost (old new : Option (List ℕ)) (h : HostOf) (k : History) : Type 0 where
   pub before : List Record
   pub batches : List (List FrameTold)
   pub rest : List ℕ
+  pub others : AllByRecursion IsOtherRecord before
   pub within : AreRecordsWithin (before ++ map telling_record batches)
-  pub appended : Appends old new (wrapper_opening parts ++ (headers kind ++ (text_of (before ++ map telling_record batches) ++ rest)))
-  pub few : n ≤ length (all_told batches) + most_entries
+  pub appended : Appends old new (wrapper_opening h.parts ++ (headers h.kind ++ (text_of (before ++ map telling_record batches) ++ rest)))
+  pub most : TellMost h.kind h.width k batches
 
--- of n entries at most 1024 stand in no record that was written from old to new
-abbrev pub IsLittleBehind : Option (List ℕ) → Option (List ℕ) → PartMap → ℕ → Type 0
-IsLittleBehind old new parts n = (n ≤ most_entries) ⊎ WroteMost old new parts n
+-- at most 1024 of the frame numbers that were read stand in no record that was written from old to new
+abbrev pub IsLittleBehind : Option (List ℕ) → Option (List ℕ) → HostOf → History → Type 0
+IsLittleBehind old new h k = (entries_read h.width k ≤ most_entries) ⊎ WroteMost old new h k
 
 -- ---- how a save ends
 
@@ -70,7 +73,7 @@ pub record PausesMachine (s t : MachineState) : Type 0 where
 -- record.
 pub record LeavesNoStream (s t : MachineState) (old new : Option (List ℕ)) : Type 0 where
   pub no_stream : WroteNoStream old new
-  pub behind : IsLittleBehind old new s.host.parts (entries_read s.host.width t.history)
+  pub behind : IsLittleBehind old new s.host t.history
 
 -- With `Ok` the stream of the paused host was written. Over a machine that is trusted the host can be seen as a guest; over an
 -- honest one nothing was read after the pause but what the last two logs name. The report counts the logs that were taken

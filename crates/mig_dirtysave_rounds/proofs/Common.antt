@@ -8,7 +8,7 @@ pub use Rattle.std.specs.Cmp.{nat_cmp_total, unsigned_tied}
 pub use Rattle.std.specs.Option.{option_map}
 pub use Rattle.std.specs.Prelude.{IfOk, OnErr, is_some, unwrap_or, ◌&&◌, ◌==◌, ◌||◌, ◌⊎◌}
 pub use Rattle.mig_dirtysave_rounds.specs.Current.{Current, Notes, no_notes, noted, notes_of}
-pub use Rattle.mig_dirtysave_rounds.specs.Entries.{AreTold, IsToldEntry, entry_for, frames_meant, pfns_sent, put_at, put_told}
+pub use Rattle.mig_dirtysave_rounds.specs.Entries.{AreTold, IsToldEntry, MostSent, entry_for, frames_meant, pfns_sent, put_at, put_told}
 pub use Rattle.mig_dirtysave_rounds.specs.Findings.{CanBeTold, Finding, IsToldFrame, NamesWithin, ShowsOnly, found_as, frame_sent, is_deferred, judge, judged, type_found}
 pub use Rattle.mig_dirtysave_rounds.specs.Findings.Finding.{Gone, Shows}
 pub use Rattle.mig_dirtysave_rounds.specs.Forms.{form_of_print, form_page, is_lost, lost_at, lost_in, lost_slot, superpage_in, superpage_slot, table_of, type_of_print}

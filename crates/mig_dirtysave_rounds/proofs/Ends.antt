@@ -1,5 +1,5 @@
 -- From the pause to the end, and the start.
-use Rattle.mig_dirtysave_rounds.proofs.Common.{arith, ◌≡◌, ℕ, ◌+◌, ◌<◌, ◌≤◌, List, [], ◌∷◌, ◌++◌, length, Bool, true, false, cond, Option, Some, None, refl, sym, ap, subst, ◌∙◌, inl, inr, append-nil, ◌||◌, ◌⊎◌, option_map, nat_cmp_total, cases_lt, nat_tests, fun_ext, HostOf, HostFrame, HostFrames, FrameTold, Pfns, no_pfns, joined, members, size, all_below, footprint, footprint_of, Since, History, nothing_asked, no_history, one_more, and_call, MachineState, IsValidState, LogTaken, Rounds, to_read, rounds_read, all_read, Worst, form_of_print, type_of_print, superpage_slot, lost_slot, judged, frame_sent, is_deferred, IsBelow, rest, entries_read, entries_read_before, frames_meant, Notes, no_notes, Current, ReadsFront, SendsFront, IsWorst, within_set, super_of, lost_of, LiveSent, SavedSent, table_fault, worst_fault, Paused, Tight, Ended, Saved, forms, type_in, tables_unsound, or_parts}
+use Rattle.mig_dirtysave_rounds.proofs.Common.{arith, ◌≡◌, ℕ, ◌+◌, ◌<◌, ◌≤◌, List, [], ◌∷◌, ◌++◌, length, Bool, true, false, cond, Option, Some, None, refl, sym, ap, subst, ◌∙◌, inl, inr, append-nil, ◌||◌, ◌⊎◌, option_map, nat_cmp_total, cases_lt, nat_tests, fun_ext, HostOf, HostFrame, HostFrames, FrameTold, Pfns, no_pfns, joined, members, size, all_below, footprint, footprint_of, Since, History, nothing_asked, no_history, one_more, and_call, MachineState, IsValidState, LogTaken, Rounds, to_read, rounds_read, all_read, Worst, form_of_print, type_of_print, superpage_slot, lost_slot, judged, frame_sent, is_deferred, IsBelow, rest, entries_read, entries_read_before, pfns_sent, frames_meant, Notes, no_notes, Current, ReadsFront, SendsFront, IsWorst, within_set, super_of, lost_of, LiveSent, SavedSent, table_fault, worst_fault, Paused, Tight, Ended, Saved, forms, type_in, tables_unsound, or_parts}
 use Rattle.std.specs.Ordering.{nat_cmp}
 use Rattle.std.specs.FinMap.{nat_cmp-IsAntisymmetric}
 use Rattle.mig_pvtables.proofs.EachValue.{get_each}
@@ -7,7 +7,7 @@ use Rattle.mig_dirtysave_rounds.specs.Sends.{first_pfn}
 use Rattle.mig_dirtysave_rounds.proofs.Firsts.{first_none, first_same, super_is, lost_is, good_when, good_super, good_lost, good_form, no_fault, same_fault}
 use Rattle.mig_dirtysave_rounds.proofs.Parts.{members_below, joined_below}
 use Rattle.mig_dirtysave_rounds.proofs.Steps.{current_on, told_alike}
-use Rattle.mig_dirtysave_rounds.proofs.Saves.{front_all, rest_gone, taken_after, even, no_members, size_none}
+use Rattle.mig_dirtysave_rounds.proofs.Saves.{front_all, rest_gone, taken_after, no_members, size_none}
 use Rattle.std.specs.FinMap as fin
 use Rattle.mig_guest.specs.Hosts as hosts
 
@@ -25,19 +25,22 @@ print_type : (frames : HostFrames) (o : Option HostFrame) → type_of_print (opt
 print_type frames None = refl
 print_type frames (Some k) = refl
 
--- how many PFNs were read before the last ones
-pub even_last : (s t u : MachineState) (set log : Pfns) (sent : List FrameTold) (notes : Notes) → s.history.since ≡ nothing_asked → Paused s t → LogTaken log t u → LiveSent s set sent notes
-    → length sent ≡ entries_read_before u.host.width u.history.taken
-even_last s t u set log sent notes fresh paused took live =
-    even s set sent notes live ∙ last_total ∙ ap (λ w. entries_read_before w u.history.taken) (sym (took.ran.shape.width ∙ paused.ran.shape.width))
+-- what was read before the last ones
+pub order_last : (s t u : MachineState) (set log : Pfns) (sent : List FrameTold) (notes : Notes) → s.history.since ≡ nothing_asked → Paused s t → LogTaken log t u → LiveSent s set sent notes
+    → pfns_sent sent ≡ rounds_read u.host.width u.history.taken
+order_last s t u set log sent notes fresh paused took live =
+    live.order ∙ sym last_order ∙ ap (λ w. rounds_read w u.history.taken) (sym (took.ran.shape.width ∙ paused.ran.shape.width))
   where
-    last_total : entries_read_before s.host.width s.history.taken ≡ entries_read_before s.host.width u.history.taken
-    last_total = omega (
-      arith,
-      ap (entries_read_before s.host.width) (ap (λ (h : History). h.taken) took.history ∙ ap (λ (h : History). taken_after t log ∷ h.taken) paused.history),
-      ap (λ (a : Since). size s.host.width a.read) (ap (λ (h : History). h.since) paused.history ∙ ap and_call fresh),
-      size_none s.host.width,
-    )
+    last_taken : u.history.taken ≡ taken_after t log ∷ s.history.taken
+    last_taken = ap (λ (h : History). h.taken) took.history ∙ ap (λ (h : History). taken_after t log ∷ h.taken) paused.history
+
+    none : t.history.since.read ≡ no_pfns
+    none = ap (λ (h : History). h.since.read) paused.history ∙ ap (λ (a : Since). a.read) fresh
+
+    last_order : rounds_read s.host.width u.history.taken ≡ rounds_read s.host.width s.history.taken
+    last_order =
+        ap (rounds_read s.host.width) last_taken ∙ ap (λ (r : Pfns). rounds_read s.host.width s.history.taken ++ members s.host.width r) none
+        ∙ ap (λ l. rounds_read s.host.width s.history.taken ++ l) (no_members s.host.width) ∙ append-nil (rounds_read s.host.width s.history.taken)
 
 -- the pause, the last log, and the PFNs that are read after it
 pub record Last (s t u v : MachineState) (set log deferred both : Pfns) : Type 0 where

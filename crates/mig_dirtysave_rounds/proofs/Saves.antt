@@ -1,9 +1,9 @@
 -- From round to round, and to the pause.
-use Rattle.mig_dirtysave_rounds.proofs.Common.{arith, ◌≡◌, ℕ, ◌+◌, ◌*◌, ◌^◌, ◌≤◌, ◌<◌, List, [], ◌∷◌, ◌++◌, length, Bool, true, false, cond, Option, Result, Ok, Err, refl, sym, ap, subst, ◌∙◌, length-append, ◌&&◌, OnErr, IfOk, nat_tests, length-map, fun_ext, Kind, Pv, Hvm, FrameTold, IsSent, IsBehind, behind_anyway, Pfns, no_pfns, members, size, LogTook, History, one_more, and_call, MachineState, LogTaken, GoesOn, to_read, rounds_read, most_calls, IsBelow, front, rest, entries_read, entries_read_before, Notes, ReadsFront, SendsFront, KeepsShape, Live, LiveSent, size-le, filter, AreCalls, AreRounds}
+use Rattle.mig_dirtysave_rounds.proofs.Common.{arith, ◌≡◌, ℕ, ◌+◌, ◌*◌, ◌^◌, ◌≤◌, ◌<◌, List, [], ◌∷◌, ◌++◌, length, Bool, true, false, cond, Option, Result, Ok, Err, refl, sym, ap, subst, ◌∙◌, length-append, ◌&&◌, OnErr, IfOk, nat_tests, length-map, fun_ext, Kind, Pv, Hvm, FrameTold, IsSent, AreTold, MostSent, behind_anyway, Pfns, no_pfns, members, size, LogTook, History, one_more, and_call, MachineState, LogTaken, GoesOn, to_read, rounds_read, all_read, pfns_sent, append-nil, most_calls, IsBelow, front, rest, entries_read, entries_read_before, Notes, ReadsFront, SendsFront, KeepsShape, Live, LiveSent, size-le, filter, AreCalls, AreRounds}
 use Rattle.std.specs.Prelude.{nat_lt, OnOk}
 use Rattle.std.specs.List.{range_with_len}
 use Rattle.mig_dirtysave_rounds.proofs.Shapes.{stays_on, ran_stays, reads_stay}
-use Rattle.mig_dirtysave_rounds.proofs.Steps.{current_on, told_alike, total_even, behind_less}
+use Rattle.mig_dirtysave_rounds.proofs.Steps.{current_on, told_alike, all_even, most_sent}
 
 -- ---- sets below a width
 
@@ -126,19 +126,22 @@ pub length_rounds : (width : ℕ) (l : List LogTook) → length (rounds_read wid
 length_rounds width [] = refl
 length_rounds width (last ∷ before) = length-append (rounds_read width before) (members width last.asked.read) ∙ ap (λ n. n + size width last.asked.read) (length_rounds width before)
 
-pub even : (s : MachineState) (set : Pfns) (sent : List FrameTold) (notes : Notes) → LiveSent s set sent notes → length sent ≡ entries_read_before s.host.width s.history.taken
-even s set sent notes l = sym (length-map sent (λ (e : FrameTold). e.pfn)) ∙ ap length l.order ∙ length_rounds s.host.width s.history.taken
+pub behind_now : (start now : Option (List ℕ)) (flushes : ℕ) (kind : Kind) (width : ℕ) (h : History) (sent : List FrameTold) → IsSent start now flushes [] sent → AreTold kind width sent
+    → all_read width h ≡ pfns_sent sent → MostSent start now kind width h
+behind_now start now flushes kind width h sent s told order =
+    let none : length {A = FrameTold} [] < 1024 = omega arith in
+    most_sent start now 1 kind width h sent [] (behind_anyway start now flushes [] sent none s) (omega arith) told (order ∙ sym (append-nil (pfns_sent sent)))
 
-pub behind_now : (start now : Option (List ℕ)) (flushes n : ℕ) (sent : List FrameTold) → n ≤ length sent + 1 → IsSent start now flushes [] sent → IsBehind start now n
-behind_now start now flushes n sent le s =
-    let none : length {A = FrameTold} [] < 1024 = omega arith in behind_less start now (length sent + 1) n le (behind_anyway start now flushes [] sent none s)
+-- of the same kind and width
+pub most_alike : {kind other : Kind} {width same : ℕ} (start now : Option (List ℕ)) (h : History) → kind ≡ other → width ≡ same → MostSent start now kind width h → MostSent start now other same h
+most_alike start now h k w m = subst (λ (p : Kind × ℕ). MostSent start now p.0 p.1 h) (λ i. (k i, w i)) m
 
 pub behind_taken : (start now : Option (List ℕ)) (flushes : ℕ) (s t : MachineState) (k : History) (set : Pfns) (before after : List FrameTold) (notes later : Notes)
-    → IsBelow s.host.width set → LiveSent s set before notes → ReadsFront s.host.width set s t
-    → SendsFront s.host.width set s t before after notes later → k ≡ t.history → IsSent start now flushes [] after → IsBehind start now (entries_read s.host.width k)
-behind_taken start now flushes s t k set before after notes later below sent reads sends stays out =
-    behind_now start now flushes (entries_read s.host.width k) after
-    (omega (arith, ap (entries_read s.host.width) stays, total_even s.host.width s.host.width set s t before after notes later (omega arith) reads sends (even s set before notes sent))) out
+    → LiveSent s set before notes → ReadsFront s.host.width set s t
+    → SendsFront s.host.width set s t before after notes later → k ≡ t.history → IsSent start now flushes [] after → MostSent start now s.host.kind s.host.width k
+behind_taken start now flushes s t k set before after notes later sent reads sends stays out =
+    behind_now start now flushes s.host.kind s.host.width k after out (sends.told sent.told)
+    (ap (all_read s.host.width) stays ∙ all_even s.host.width set s t before after notes later reads sends sent.order (omega arith))
 
 none_pass : (xs : List ℕ) → filter no_pfns xs ≡ []
 none_pass [] = refl
@@ -152,10 +155,11 @@ size_none w = ap length (no_members w)
 
 -- nothing was read since the last log
 pub behind_unread : (start now : Option (List ℕ)) (flushes : ℕ) (s : MachineState) (k : History) (set : Pfns) (before : List FrameTold) (notes : Notes)
-    → LiveSent s set before notes → k.taken ≡ s.history.taken → k.since.read ≡ no_pfns → IsSent start now flushes [] before → IsBehind start now (entries_read s.host.width k)
+    → LiveSent s set before notes → k.taken ≡ s.history.taken → k.since.read ≡ no_pfns → IsSent start now flushes [] before → MostSent start now s.host.kind s.host.width k
 behind_unread start now flushes s k set before notes sent taken read out =
-    behind_now start now flushes (entries_read s.host.width k) before
-    (omega (arith, ap (entries_read_before s.host.width) taken, ap (λ (r : Pfns). size s.host.width r) read, size_none s.host.width, even s set before notes sent)) out
+    behind_now start now flushes s.host.kind s.host.width k before out sent.told
+    (ap (λ l. rounds_read s.host.width l ++ members s.host.width k.since.read) taken ∙ ap (λ (r : Pfns). rounds_read s.host.width s.history.taken ++ members s.host.width r) read
+    ∙ ap (λ l. rounds_read s.host.width s.history.taken ++ l) (no_members s.host.width) ∙ append-nil (rounds_read s.host.width s.history.taken) ∙ sym sent.order)
 
 -- ---- results
 

@@ -1,10 +1,10 @@
 -- What one more number does to the saver's invariant, and to a round.
-use Rattle.mig_dirtysave_rounds.proofs.Common.{arith, ◌≡◌, ℕ, suc, ◌+◌, ◌*◌, ◌^◌, ◌≤◌, ◌<◌, List, [], ◌∷◌, ◌++◌, length, Bool, true, false, cond, Option, Some, None, Result, Ok, Err, refl, sym, ap, subst, ◌∙◌, inl, inr, ⊎_elim, length-append, append-nil, ◌||◌, ◌==◌, ◌⊎◌, OnErr, nat_cmp_total, eqb-true, nat_tests, length-map, Kind, Pv, Hvm, FrameOf, HostOf, HostFrames, Pfns, no_pfns, members, size, with_pfn, Footprint, footprint, History, Since, nothing_asked, MachineState, Ran, table_of, superpage_in, lost_in, form_of_print, type_of_print, Worst, Finding, judge, judged, found_as, frame_sent, is_deferred, type_found, CanBeTold, ReadsOne, Strays, most_calls, rest, entries_read, entries_read_before, frames_meant, AreTold, IsBehind, FrameTold, Notes, Current, noted, behind_anyway, ReadsFront, SendsFront, IsWorst, or_first, within_set, place, super_of, lost_of, size-le, size_more, size_stays, map, append_assoc, unsigned_tied, map-append, FrameMap, entry_for, put_at, put_told, IsToldEntry, FallsBehind, members_yes, members_no}
+use Rattle.mig_dirtysave_rounds.proofs.Common.{arith, ◌≡◌, ℕ, suc, ◌+◌, ◌*◌, ◌^◌, ◌≤◌, ◌<◌, List, [], ◌∷◌, ◌++◌, length, Bool, true, false, cond, Option, Some, None, Result, Ok, Err, refl, sym, ap, subst, ◌∙◌, inl, inr, ⊎_elim, length-append, append-nil, ◌||◌, ◌==◌, ◌⊎◌, OnErr, nat_cmp_total, eqb-true, nat_tests, length-map, Kind, Pv, Hvm, FrameOf, HostOf, HostFrames, Pfns, no_pfns, members, size, with_pfn, Footprint, footprint, History, Since, nothing_asked, MachineState, Ran, table_of, superpage_in, lost_in, form_of_print, type_of_print, Worst, Finding, judge, judged, found_as, frame_sent, is_deferred, type_found, CanBeTold, ReadsOne, Strays, most_calls, rest, all_read, rounds_read, pfns_sent, all_told, frames_meant, AreTold, MostSent, IsBehind, FrameTold, Notes, Current, noted, behind_anyway, ReadsFront, SendsFront, IsWorst, or_first, within_set, place, super_of, lost_of, size-le, size_more, size_stays, map, append_assoc, unsigned_tied, map-append, FrameMap, entry_for, put_at, put_told, IsToldEntry, FallsBehind, members_yes, members_no}
 use Rattle.std.proofs.lemmas.List.Sums.{fold-append}
 use Rattle.mig_dirtysave_rounds.specs.declared.found.Found.{Found}
 use Rattle.mig_dirtysave_rounds.specs.Sends.{first_pfn, found_super, found_lost}
 use Rattle.mig_dirtysave_rounds.proofs.Parts.{nothing_before, front_more, front_skip, not_itself, rest_more, rest_skip, rest_all, skip_to}
-use Rattle.mig_dirtysave_rounds.proofs.Sizes.{size_front, one_more_at_most}
+use Rattle.mig_dirtysave_rounds.proofs.Sizes.{members_front}
 use Rattle.mig_dirtysave_rounds.proofs.Shapes.{shape_none, shape_on}
 use Rattle.std.specs.FinMap as fin
 use Rattle.mig_dirtysave_rounds.specs.declared.found.Found.TheVariants as found
@@ -221,30 +221,60 @@ sends_more set i s t u before mid notes now new j inside below r f one is = reco
 
 -- ---- how much isn't written
 
-sent_length : (i : ℕ) (set : Pfns) (s t : MachineState) (before mid : List FrameTold) (notes now : Notes) → SendsFront i set s t before mid notes now → length mid ≡ length before + size i set
-sent_length i set s t before mid notes now f =
-    sym (length-map mid (λ (e : FrameTold). e.pfn)) ∙ ap length f.names ∙ length-append (map (λ (e : FrameTold). e.pfn) before) (members i set) ∙ ap (λ n. n + size i set) (length-map before (λ (e : FrameTold). e.pfn))
+module _ (i : ℕ) (set : Pfns) (s t : MachineState) (before mid : List FrameTold) (notes now : Notes) (r : ReadsFront i set s t) (f : SendsFront i set s t before mid notes now)
+    (even : pfns_sent before ≡ rounds_read s.host.width s.history.taken) where
+  named : rounds_read s.host.width t.history.taken ++ members i set ≡ pfns_sent mid
+  named = ap (λ l. rounds_read s.host.width l ++ members i set) r.taken ∙ ap (λ l. l ++ members i set) (sym even) ∙ sym f.names
 
-pub total_even : (i width : ℕ) (set : Pfns) (s t : MachineState) (before mid : List FrameTold) (notes now : Notes) → i ≤ width → ReadsFront i set s t → SendsFront i set s t before mid notes now
-    → length before ≡ entries_read_before width s.history.taken → entries_read width t.history ≡ length mid
-total_even i width set s t before mid notes now le r f even =
-    omega (arith, ap (entries_read_before width) r.taken, ap (λ (x : Pfns). size width x) r.read, size_front set i width le, sent_length i set s t before mid notes now f)
+  -- what was sent is what was read
+  pub all_even : i ≤ s.host.width → all_read s.host.width t.history ≡ pfns_sent mid
+  all_even le =
+      ap (λ (x : Pfns). rounds_read s.host.width t.history.taken ++ members s.host.width x) r.read
+      ∙ ap (λ l. rounds_read s.host.width t.history.taken ++ l) (members_front set i s.host.width le) ∙ named
 
--- one number more was read, perhaps, than what was sent
-pub total_strays : (i width : ℕ) (set : Pfns) (s t : MachineState) (k : History) (before mid : List FrameTold) (notes now : Notes) → i ≤ width → ReadsFront i set s t → SendsFront i set s t before mid notes now
-    → length before ≡ entries_read_before width s.history.taken → (p : ℕ) → Strays p t.history k → entries_read width k ≤ length mid + 1
-total_strays i width set s t k before mid notes now le r f even p strays =
-    omega (arith, total_even i width set s t before mid notes now le r f even, ap (entries_read_before width) strays.taken, one_more_at_most t.history.since.read k.since.read p strays.read width)
+  -- one number more was read, perhaps, and stands behind it
+  pub all_strays : (k : History) → set i ≡ true → i < s.host.width → Strays i t.history k → (more : List ℕ) × (all_read s.host.width k ≡ pfns_sent mid ++ more) × (length more ≤ 1)
+  all_strays k inside below strays = elim strays.read [
+    | inl none ↦ (
+      [],
+      ap (λ l. rounds_read s.host.width l ++ members s.host.width k.since.read) strays.taken
+          ∙ ap (λ (x : Pfns). rounds_read s.host.width t.history.taken ++ members s.host.width x) none ∙ all_even (omega (arith, below)) ∙ sym (append-nil (pfns_sent mid)),
+      omega arith,
+    )
+    | inr one ↦ (
+      i ∷ [],
+      ap (λ l. rounds_read s.host.width l ++ members s.host.width k.since.read) strays.taken
+          ∙ ap (λ (x : Pfns). rounds_read s.host.width t.history.taken ++ members s.host.width x) (one ∙ ap (with_pfn i) r.read ∙ front_more set i inside)
+          ∙ ap (λ l. rounds_read s.host.width t.history.taken ++ l) (members_front set (i + 1) s.host.width (omega (arith, below)) ∙ members_yes set i inside)
+          ∙ sym (append_assoc (rounds_read s.host.width t.history.taken) (members i set) (i ∷ [])) ∙ ap (λ l. l ++ i ∷ []) named,
+      omega arith,
+    )
+  ]
+
+told_front : (kind : Kind) (width : ℕ) (es fs : List FrameTold) → AreTold kind width (es ++ fs) → AreTold kind width es
+told_front kind width [] fs all = tt
+told_front kind width (e ∷ es) fs all = (all.0, told_front kind width es fs all.1)
+
+-- where few were read that weren't sent
+pub most_sent : (start now : Option (List ℕ)) (more : ℕ) (kind : Kind) (width : ℕ) (h : History) (sent : List FrameTold) (unsent : List ℕ) → IsBehind start now more sent → length unsent ≤ more
+    → AreTold kind width sent → all_read width h ≡ pfns_sent sent ++ unsent → MostSent start now kind width h
+most_sent start now more kind width h sent unsent b few told order = record {
+  batches = b.batches;
+  cut = b.cut;
+  most = record {
+    told = told_front kind width (all_told b.batches) b.held (subst (AreTold kind width) b.all told);
+    missing = pfns_sent b.held ++ unsent;
+    order = order ∙ ap (λ (ts : List FrameTold). pfns_sent ts ++ unsent) b.all ∙ ap (λ l. l ++ unsent) (map-append (λ (e : FrameTold). e.pfn) (all_told b.batches) b.held)
+        ∙ append_assoc (pfns_sent (all_told b.batches)) (pfns_sent b.held) unsent;
+    few = omega (arith, b.few, few, length-append (pfns_sent b.held) unsent, length-map b.held (λ (e : FrameTold). e.pfn));
+  };
+}
 
 pub worst_step : (i : ℕ) (set : Pfns) (s t u : MachineState) (w v : Worst) (f : Found) (page : List ℕ) → s.paused ≡ true → set i ≡ true → ReadsFront i set s t → ReadsOne i t u (found_as f page)
     → v.superpage ≡ or_first w.superpage (place i (found_super f)) → v.lost ≡ or_first w.lost (place i (found_lost f)) → IsWorst i set t.host.frames w → IsWorst (i + 1) set u.host.frames v
 worst_step i set s t u w v f page p inside r one super lost h =
     worst_sends i set u.host.frames w v f page inside (one.right (inr (one.paused ∙ r.paused ∙ p))) super lost
     (subst (λ (x : HostOf). IsWorst i set x.frames w) (sym (one.ran.stopped (r.paused ∙ p))) h)
-
--- fewer entries are no further behind
-pub behind_less : (start now : Option (List ℕ)) (n m : ℕ) → m ≤ n → IsBehind start now n → IsBehind start now m
-behind_less start now n m le b = record { batches = b.batches; cut = b.cut; few = omega (arith, b.few) }
 
 -- one entry more, which isn't sent yet
 pub behind_anyhow : (now : Option (List ℕ)) (held : List FrameTold) → length held < 1024 → FallsBehind 1 now now held

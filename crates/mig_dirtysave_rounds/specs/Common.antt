@@ -19,5 +19,6 @@ pub use Rattle.mig_pagetypes.specs.PageTypes.{level_of, type_has_data}
 pub use Rattle.mig_pagetypes.specs.declared.page_type.PageType.{PageType}
 pub use Rattle.mig_pvtables.specs.Renaming.{renamed_by}
 pub use Rattle.mig_pvtables.specs.Tables.{first_superpage, with_frame}
-pub use Rattle.mig_records_pages.specs.Batches.{AreSized, BatchesWritten, FallsBehind, IsBehind, IsSent, SendsOn}
+pub use Rattle.mig_records_pages.specs.Batches.{AreSized, BatchesCut, BatchesWritten, FallsBehind, IsSent, SendsOn}
+pub use Rattle.mig_records_pages.specs.PageData.{most_entries}
 pub use Rattle.mig_records_pages.specs.Told.{FrameTold, all_told}

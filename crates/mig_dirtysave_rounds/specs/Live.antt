@@ -1,13 +1,13 @@
 -- Where a save stands: while the guest runs, when the rounds are over, and in the end.
 use Rattle.std.specs.Prelude.{◌≡◌, ℕ, ◌+◌, ◌*◌, ◌^◌, ◌<◌, ◌≤◌, List, [], length, true, false, Option, Some, None, get_or}
-use Rattle.mig_dirtysave_rounds.specs.Common.{option_map, Kind, Unsound, PageType, FrameMap, HostFrame, HostFrames, FrameTold, all_told, BatchesWritten, AreSized, IsSent, IsBehind, Pfns, size, footprint, footprint_of, LogTook, nothing_asked, MachineState, IsSameShape, OfEachLog, GoesOn, AreCalls, Rounds, Tight, to_read, rounds_read, all_read, least_log, most_rounds}
+use Rattle.mig_dirtysave_rounds.specs.Common.{option_map, Kind, Unsound, PageType, FrameMap, HostFrame, HostFrames, FrameTold, all_told, BatchesWritten, AreSized, IsSent, Pfns, size, footprint, footprint_of, LogTook, nothing_asked, MachineState, IsSameShape, OfEachLog, GoesOn, AreCalls, Rounds, Tight, to_read, rounds_read, all_read, least_log, most_rounds}
 use Rattle.std.specs.FinMap as maps
 use Rattle.mig_headers.specs.declared.unsound.Unsound.TheVariants as unsounds
 use Rattle.mig_pvtables.specs.Blank.{each_value}
 use Rattle.mig_dirtysave_rounds.specs.declared.found.Worst.{Worst}
 use Rattle.mig_dirtysave_rounds.specs.Forms.{form_of_print, superpage_slot, lost_slot}
 use Rattle.mig_dirtysave_rounds.specs.Parts.{entries_read}
-use Rattle.mig_dirtysave_rounds.specs.Entries.{frames_meant, pfns_sent, AreTold}
+use Rattle.mig_dirtysave_rounds.specs.Entries.{frames_meant, pfns_sent, AreTold, MostSent}
 use Rattle.mig_dirtysave_rounds.specs.Current.{Notes, Current}
 use Rattle.mig_dirtysave_rounds.specs.Sends.{first_pfn}
 
@@ -52,10 +52,10 @@ abbrev pub SendsRounds : ℕ → MachineState → MachineState → Pfns → Pfns
 SendsRounds rounds s t set next old new notes later = (start : Option (List ℕ)) (before : List FrameTold) → IsSent start old 0 [] before → LiveSent s set before notes
     → (after : List FrameTold) × IsSent start new rounds [] after × LiveSent t next after later
 
--- where all that was read at s had been sent, at most 1024 of what was read at t stand in no whole record
+-- where what was sent at s was all that was read before, most of what was read at t stands in whole records
 abbrev pub RoundsLeaveBehind : ℕ → MachineState → MachineState → Pfns → Option (List ℕ) → Option (List ℕ) → Notes → Type 0
 RoundsLeaveBehind flushes s t set old new notes = (start : Option (List ℕ)) (before : List FrameTold) → IsSent start old flushes [] before → LiveSent s set before notes
-    → IsBehind start new (entries_read s.host.width t.history)
+    → MostSent start new s.host.kind s.host.width t.history
 
 -- ---- the end
 

@@ -1,14 +1,14 @@
 -- What reading and sending one PFN does, and what a set of them does.
 use Rattle.std.specs.Prelude.{◌≡◌, ℕ, zero, suc, ◌+◌, ◌*◌, ◌≤◌, List, [], ◌++◌, length, true, false, Option, Some, None, if◌then◌else◌}
-use Rattle.mig_dirtysave_rounds.specs.Common.{option_map, HostFrames, FrameTold, IsSent, IsBehind, Pfns, no_pfns, members, size, footprint, MachineState, IsSameShape}
+use Rattle.mig_dirtysave_rounds.specs.Common.{option_map, HostFrames, FrameTold, IsSent, rounds_read, Pfns, no_pfns, members, size, footprint, MachineState, IsSameShape}
 use Rattle.mig_dirtysave_rounds.specs.declared.found.Found.{Found}
 use Rattle.mig_dirtysave_rounds.specs.declared.found.Found.TheVariants as found
 use Rattle.mig_dirtysave_rounds.specs.declared.found.Worst.{Worst}
 use Rattle.mig_dirtysave_rounds.specs.Findings.{Finding, judged}
 use Rattle.mig_dirtysave_rounds.specs.Findings.Finding.{Gone, Shows, HasSuperpage, LacksFrame}
 use Rattle.mig_dirtysave_rounds.specs.Step.{most_calls}
-use Rattle.mig_dirtysave_rounds.specs.Parts.{front, rest, entries_read, entries_read_before}
-use Rattle.mig_dirtysave_rounds.specs.Entries.{pfns_sent, AreTold}
+use Rattle.mig_dirtysave_rounds.specs.Parts.{front, rest}
+use Rattle.mig_dirtysave_rounds.specs.Entries.{pfns_sent, AreTold, MostSent}
 use Rattle.mig_dirtysave_rounds.specs.Current.{Notes, Current}
 
 -- ---- the first tables that no stream can have
@@ -90,7 +90,7 @@ abbrev pub SendsSet : ℕ → Pfns → MachineState → MachineState → Option 
 SendsSet width set s t old new notes later = (start : Option (List ℕ)) (flushes : ℕ) (before : List FrameTold) → IsSent start old flushes [] before
     → (after : List FrameTold) × IsSent start new (flushes + 1) [] after × SendsFront width set s t before after notes later
 
--- where all that was read at s had been sent, at most 1024 of what was read at t stand in no whole record
+-- where what was sent at s was all that was read before, most of what was read at t stands in whole records
 abbrev pub SetLeavesBehind : MachineState → MachineState → Option (List ℕ) → Option (List ℕ) → Type 0
 SetLeavesBehind s t old new = (start : Option (List ℕ)) (flushes : ℕ) (before : List FrameTold) → IsSent start old flushes [] before
-    → length before ≡ entries_read_before s.host.width s.history.taken → IsBehind start new (entries_read s.host.width t.history)
+    → pfns_sent before ≡ rounds_read s.host.width s.history.taken → AreTold s.host.kind s.host.width before → MostSent start new s.host.kind s.host.width t.history

@@ -73,10 +73,10 @@ pub record Asks (kind : Kind) (p : ℕ) (h k : History) : Type 0 where
   pub least : one_more h.since.calls ≤ k.since.calls
   pub most : k.since.calls ≤ h.since.calls + most_calls kind
 
--- what it adds at most, also where it failed: no other PFN was read
+-- what it adds at most, also where it failed: the PFN was read, or nothing was
 pub record Strays (p : ℕ) (h k : History) : Type 0 where
   pub taken : k.taken ≡ h.taken
-  pub read : (q : ℕ) → h.since.read q ≡ false → k.since.read q ≡ true → q ≡ p
+  pub read : (k.since.read ≡ h.since.read) ⊎ (k.since.read ≡ with_pfn p h.since.read)
 
 -- One PFN was read from s to t. The guest may have run between its calls: where the PFN is settled at t, its page and the
 -- PFNs that were looked up at different moments belong to one footprint, and that is the footprint now.

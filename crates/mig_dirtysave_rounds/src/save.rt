@@ -1,8 +1,9 @@
 ghost use Rattle.std.specs.Prelude.{◌≡◌, ◌+◌, ◌*◌, ◌/◌, ◌^◌, ◌≤◌, [], length, true, false, OnOk, OnErr, IfOk, Some, None};
-ghost use Rattle.mig_dirtysave_rounds.specs.Common.{most_saved_width, Unsound, IsBehind, pfns_of_words, size, no_history, IsValidState, most_rounds, IsBelow};
+ghost use Rattle.mig_dirtysave_rounds.specs.Common.{most_saved_width, Unsound, pfns_of_words, size, no_history, IsValidState, most_rounds, IsBelow};
 ghost use Rattle.mig_dirtysave_rounds.specs.Causes.{FaultsHaveCauses};
 ghost use Rattle.mig_dirtysave_rounds.specs.Parts.{entries_read, entries_read_before};
 ghost use Rattle.mig_dirtysave_rounds.specs.Current.{notes_of};
+ghost use Rattle.mig_dirtysave_rounds.specs.Entries.{MostSent};
 ghost use Rattle.mig_dirtysave_rounds.specs.Live.{KeepsShape, Live, Ended, SendsRounds, RoundsLeaveBehind, Saved, SendsLast, worst_fault, IsUnsound, AnswersTables, HasRounds, ReadsExactly, FramesSaved, SawTypes};
 ghost use Rattle.mig_dirtysave_rounds.specs.declared.found.SendFault.TheVariants.{MachineFault, WriteFault};
 
@@ -165,7 +166,7 @@ pub fn send_frames<M: Machine, K: Sink>(
     ensures whole { IfOk result (λ sent. length sent.types.items ≡ (M.state machine.new).host.width) }
     ensures first { IfOk result (λ sent. AnswersTables (M.state machine.new) sent.unsound) }
     ensures stands { IfOk result (λ sent. (u : Unsound) → sent.unsound ≡ Some u → IsUnsound (M.state machine.new).host.frames u) }
-    ensures behind { OnErr result (IsBehind (K.written sink.old) (K.written sink.new) (entries_read (M.state machine.old).host.width (M.state machine.new).history)) }
+    ensures behind { OnErr result (MostSent (K.written sink.old) (K.written sink.new) (M.state machine.old).host.kind (M.state machine.old).host.width (M.state machine.new).history) }
     ensures kept { KeepsShape (M.state machine.old) (M.state machine.new) }
     ensures later { M.Later machine.old machine.new }
     ensures faults { FaultsHaveCauses MachineFault WriteFault (M.faults machine.old) (M.faults machine.new) (K.faults sink.old) (K.faults sink.new) result }

@@ -28,11 +28,13 @@ pub nothing_sent : (start : Option (List ℕ)) → IsSent start start 0 [] []
 nothing_sent start = record { batches = []; written = record { wrote = nothing_written start }; sized = tt; full = omega arith; all = refl }
 
 -- with one more that is to be sent
-pub behind_anyway : (start now : Option (List ℕ)) (flushes : ℕ) (held sent : List FrameTold) → length held < 1024 → IsSent start now flushes held sent → IsBehind start now (length sent + 1)
+pub behind_anyway : (start now : Option (List ℕ)) (flushes : ℕ) (held sent : List FrameTold) → length held < 1024 → IsSent start now flushes held sent → IsBehind start now 1 sent
 behind_anyway start now flushes held sent room s = record {
   batches = s.batches;
+  held = held;
   cut = record { wrote = none_of_next start now (map telling_record s.batches) s.written.wrote };
-  few = omega (arith, ap length s.all, length-append (all_told s.batches) held);
+  all = s.all;
+  few = omega (arith, room);
 }
 
 -- ---- how many batches there are

@@ -45,11 +45,14 @@ pub record IsSent (start now : Option (List ℕ)) (flushes : ℕ) (held sent : L
   pub full : AreFull flushes batches
   pub all : sent ≡ all_told batches ++ held
 
--- of n entries that were sent at most as many as a record may have stand in no whole record that was written
-pub record IsBehind (start now : Option (List ℕ)) (n : ℕ) : Type 0 where
+-- Of these entries the first stand in whole records that were written, and nothing else does. The others, and so many more
+-- that are to be sent, are at most as many as a record may have.
+pub record IsBehind (start now : Option (List ℕ)) (more : ℕ) (sent : List FrameTold) : Type 0 where
   pub batches : List (List FrameTold)
+  pub held : List FrameTold
   pub cut : BatchesCut start now batches
-  pub few : n ≤ length (all_told batches) + most_entries
+  pub all : sent ≡ all_told batches ++ held
+  pub few : length held + more ≤ most_entries
 
 -- whatever was sent before, this entry is sent behind it; these were held, and now those are
 abbrev pub SendsOn : FrameTold → Option (List ℕ) → Option (List ℕ) → List FrameTold → List FrameTold → Type 0
@@ -61,4 +64,4 @@ Flushes old new held = (start : Option (List ℕ)) (flushes : ℕ) (sent : List 
 
 -- of whatever was sent before, and so many more, at most as many as a record may have stand in no whole record; these were held
 abbrev pub FallsBehind : ℕ → Option (List ℕ) → Option (List ℕ) → List FrameTold → Type 0
-FallsBehind more old new held = (start : Option (List ℕ)) (flushes : ℕ) (sent : List FrameTold) → IsSent start old flushes held sent → IsBehind start new (length sent + more)
+FallsBehind more old new held = (start : Option (List ℕ)) (flushes : ℕ) (sent : List FrameTold) → IsSent start old flushes held sent → IsBehind start new more sent

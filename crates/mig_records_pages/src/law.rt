@@ -22,6 +22,6 @@ pub fn records_stand_behind_records()
 #[tactic(auto, using(crate::proofs::Joins::nothing_sent))]
 pub fn sent_entries_are_little_behind()
     ensures nothing { (start : Option (List ℕ)) → IsSent start start 0 [] [] }
-    ensures behind { (start now : Option (List ℕ)) (flushes : ℕ) (held sent : List FrameTold) → length held < most_entries → IsSent start now flushes held sent → IsBehind start now (length sent + 1) }
+    ensures behind { (start now : Option (List ℕ)) (flushes : ℕ) (held sent : List FrameTold) → length held < most_entries → IsSent start now flushes held sent → IsBehind start now 1 sent }
     ensures few { (flushes : ℕ) (batches : List (List FrameTold)) → AreSized batches → AreFull flushes batches → most_entries * length batches ≤ length (all_told batches) + (most_entries - 1) * flushes }
 {}

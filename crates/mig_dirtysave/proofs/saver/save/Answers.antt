@@ -1,7 +1,7 @@
-use Rattle.mig_dirtysave.proofs.Common.{ℕ, inl, refl, sym, ap, subst, ◌∙◌, unsoundness, entries_read, Appends, closing_alike, is_early}
-use Rattle.mig_dirtysave.proofs.Looked.{stream_stays, tight_stay, total_stays, trust_stays}
+use Rattle.mig_dirtysave.proofs.Common.{inl, refl, sym, ap, subst, ◌∙◌, unsoundness, Appends, closing_alike, is_early}
+use Rattle.mig_dirtysave.proofs.Looked.{stream_stays, tight_stay, trust_stays}
 use Rattle.mig_dirtysave.proofs.Ends.{stopped_closing, stopped_first, stopped_frames, stopped_last, stopped_opening}
-use Rattle.mig_dirtysave.proofs.Endings.{ends_judged, ends_unsent, ends_unwritten, entries_are, leaves, nothing_left, pauses}
+use Rattle.mig_dirtysave.proofs.Endings.{ends_judged, ends_unsent, ends_unwritten, entries_are, leaves, nothing_left, pauses, told_most}
 use Rattle.mig_dirtysave.proofs.Streams.{early_stays, held_there, kind_stays, save_is_stream, top_held, width_stays}
 use Rattle.mig_dirtysave.proofs.Wrappers.{begun_as_host, emulators_stay, opening_stays, opens_as_host}
 use Rattle.mig_dirtysave.proofs.saver.save.Goals as goal
@@ -10,8 +10,8 @@ pub returns-in_err-write_opening-clause-ends : goal.returns-in_err-write_opening
 returns-in_err-write_opening-clause-ends g c =
     let s = g.M.Machine.state c.args.machine.now in
     ends_unwritten s s _ _ c.from_residual.result c.from_residual.ensures.1
-    (leaves s s _ _ _ refl
-    (stopped_opening _ _ s.host.parts c.args.settings.now.parts _ (opens_as_host s.host _ c.args.settings.now c.requires.made refl) (nothing_left s c.requires.unread) c.in_err-write_opening.ensures.bytes))
+    (leaves s s _ _
+    (stopped_opening _ _ s.host s.history c.args.settings.now.parts (opens_as_host s.host _ c.args.settings.now c.requires.made refl) (nothing_left s c.requires.unread) c.in_err-write_opening.ensures.bytes))
 
 pub returns-in_err-write_opening-clause-later : goal.returns-in_err-write_opening-clause-later
 returns-in_err-write_opening-clause-later g c = g.met.M.Machine.later_self _
@@ -20,9 +20,9 @@ pub returns-in_err-write_before-clause-ends : goal.returns-in_err-write_before-c
 returns-in_err-write_before-clause-ends g c =
     let s = g.M.Machine.state c.args.machine.now in
     ends_unwritten s s _ _ c.from_residual-in_err-write_before.result c.from_residual-in_err-write_before.ensures.1
-    (leaves s s _ _ _ refl
-    (stopped_first _ (g.K.Sink.written c.write_opening.new.sink) _ s.host.parts
-    (begun_as_host _ _ s.host _ c.args.settings.now c.requires.made refl c.in_ok-write_opening.ensures.bytes) c.args.early.now c.requires.formed _ (nothing_left s c.requires.unread) c.in_err-write_before.ensures.bytes))
+    (leaves s s _ _
+    (stopped_first _ (g.K.Sink.written c.write_opening.new.sink) _ s.host s.history
+    (begun_as_host _ _ s.host _ c.args.settings.now c.requires.made refl c.in_ok-write_opening.ensures.bytes) c.args.early.now c.requires.formed (nothing_left s c.requires.unread) c.in_err-write_before.ensures.bytes))
 
 pub returns-in_err-write_before-clause-later : goal.returns-in_err-write_before-clause-later
 returns-in_err-write_before-clause-later g c = g.met.M.Machine.later_self _
@@ -31,9 +31,9 @@ pub returns-in_err-sent-clause-ends : goal.returns-in_err-sent-clause-ends
 returns-in_err-sent-clause-ends g c =
     let s = g.M.Machine.state c.args.machine.now in
     ends_unsent s (g.M.Machine.state c.send_frames.new.machine) _ _ c.from_residual-in_err-sent.result _ c.from_residual-in_err-sent.ensures.1
-    (leaves s (g.M.Machine.state c.send_frames.new.machine) _ _ _ refl
-    (stopped_frames _ (g.K.Sink.written c.write_opening.new.sink) (g.K.Sink.written c.write_before.new.sink) s.host.parts
-    (begun_as_host _ _ s.host _ c.args.settings.now c.requires.made refl c.in_ok-write_opening.ensures.bytes) c.args.early.now c.requires.formed c.in_ok-write_before.ensures.bytes _ _ c.in_err-sent.ensures.behind))
+    (leaves s (g.M.Machine.state c.send_frames.new.machine) _ _
+    (stopped_frames _ (g.K.Sink.written c.write_opening.new.sink) (g.K.Sink.written c.write_before.new.sink) s.host _
+    (begun_as_host _ _ s.host _ c.args.settings.now c.requires.made refl c.in_ok-write_opening.ensures.bytes) c.args.early.now c.requires.formed (sym c.requires.made.kind) c.in_ok-write_before.ensures.bytes _ c.in_err-sent.ensures.behind))
 
 pub returns-in_err-close-clause-ends : goal.returns-in_err-close-clause-ends
 returns-in_err-close-clause-ends g c =
@@ -43,10 +43,10 @@ returns-in_err-close-clause-ends g c =
     let looks = c.close.ensures.looks in
     ends_judged s m t looks _ _ c.from_residual-in_err-close.result _ c.from_residual-in_err-close.ensures.1 (pauses s m t looks c.in_ok-sent.ensures.paused c.in_ok-sent.ensures.rounds c.send_frames.ensures.kept)
     c.in_err-close.ensures.first c.in_err-close.ensures.stands
-    (leaves s t _ _ _ (sym (total_stays m t looks s.host.width))
-    (stopped_last _ (g.K.Sink.written c.write_opening.new.sink) (g.K.Sink.written c.write_before.new.sink) s.host.parts
-    (begun_as_host _ _ s.host _ c.args.settings.now c.requires.made refl c.in_ok-write_opening.ensures.bytes) c.args.early.now c.requires.formed c.in_ok-write_before.ensures.bytes (g.K.Sink.written c.send_frames.new.sink)
-    m c.in_ok-sent.sent.unsound _ (ap (λ (w : ℕ). entries_read w m.history) (sym c.send_frames.ensures.kept.shape.width)) c.in_ok-sent.ensures.frames _ c.in_err-close.ensures.stops))
+    (leaves s t _ _
+    (stopped_last _ (g.K.Sink.written c.write_opening.new.sink) (g.K.Sink.written c.write_before.new.sink) s.host t.history
+    (begun_as_host _ _ s.host _ c.args.settings.now c.requires.made refl c.in_ok-write_opening.ensures.bytes) c.args.early.now c.requires.formed (sym c.requires.made.kind) c.in_ok-write_before.ensures.bytes
+    (g.K.Sink.written c.send_frames.new.sink) m c.in_ok-sent.sent.unsound c.in_ok-sent.ensures.frames (told_most s m t _ _ _ c.send_frames.ensures.kept looks c.in_ok-sent.ensures.frames) _ c.in_err-close.ensures.stops))
 
 pub returns-in_err-close-clause-later : goal.returns-in_err-close-clause-later
 returns-in_err-close-clause-later g c = g.met.M.Machine.later_on _ _ _ c.send_frames.ensures.later c.close.ensures.later
@@ -57,10 +57,10 @@ returns-in_err-write_closing-clause-ends g c =
     let m = g.M.Machine.state c.send_frames.new.machine in
     let t = g.M.Machine.state c.close.new.machine in
     ends_unwritten s t _ _ c.from_residual-in_err-write_closing.result c.from_residual-in_err-write_closing.ensures.1
-    (leaves s t _ _ _ (sym (total_stays m t c.close.ensures.looks s.host.width))
-    (stopped_closing _ (g.K.Sink.written c.write_opening.new.sink) (g.K.Sink.written c.write_before.new.sink) s.host.parts
-    (begun_as_host _ _ s.host _ c.args.settings.now c.requires.made refl c.in_ok-write_opening.ensures.bytes) c.args.early.now c.requires.formed c.in_ok-write_before.ensures.bytes (g.K.Sink.written c.send_frames.new.sink)
-    m c.in_ok-sent.sent.unsound _ (ap (λ (w : ℕ). entries_read w m.history) (sym c.send_frames.ensures.kept.shape.width)) c.in_ok-sent.ensures.frames (g.K.Sink.written c.close.new.sink) c.in_ok-close.ensures.closed _
+    (leaves s t _ _
+    (stopped_closing _ (g.K.Sink.written c.write_opening.new.sink) (g.K.Sink.written c.write_before.new.sink) s.host t.history
+    (begun_as_host _ _ s.host _ c.args.settings.now c.requires.made refl c.in_ok-write_opening.ensures.bytes) c.args.early.now c.requires.formed (sym c.requires.made.kind) c.in_ok-write_before.ensures.bytes
+    (g.K.Sink.written c.send_frames.new.sink) m c.in_ok-sent.sent.unsound c.in_ok-sent.ensures.frames (told_most s m t _ _ _ c.send_frames.ensures.kept c.close.ensures.looks c.in_ok-sent.ensures.frames) (g.K.Sink.written c.close.new.sink) c.in_ok-close.ensures.closed _
     c.close.new.settings c.in_ok-close.ensures.formed (emulators_stay s m c.send_frames.ensures.kept c.close.new.settings c.in_ok-close.ensures.emulators) c.in_err-write_closing.ensures.bytes))
 
 pub returns-in_err-write_closing-clause-later : goal.returns-in_err-write_closing-clause-later

@@ -1,8 +1,8 @@
-use Rattle.mig_dirtysave_rounds.proofs.Common.{rules, arith, ◌≡◌, ◌<◌, ◌^◌, length, List, refl, sym, ap, subst, ◌∙◌, FrameTold, IsSent, notes_of}
+use Rattle.mig_dirtysave_rounds.proofs.Common.{rules, arith, ◌≡◌, ◌<◌, ◌^◌, length, List, [], append-nil, pfns_sent, refl, sym, ap, subst, ◌∙◌, FrameTold, IsSent, notes_of}
 use Rattle.mig_dirtysave_rounds.proofs.Shapes.{stays_on, reads_stay}
 use Rattle.mig_dirtysave_rounds.proofs.Parts.{members_below}
 use Rattle.mig_dirtysave_rounds.proofs.Noted.{noted_below}
-use Rattle.mig_dirtysave_rounds.proofs.Steps.{reads_start, reads_more, reads_jump, sends_start, sends_more, sends_jump, worst_none, worst_step, worst_jump, total_even, total_strays, behind_less, on_err}
+use Rattle.mig_dirtysave_rounds.proofs.Steps.{reads_start, reads_more, reads_jump, sends_start, sends_more, sends_jump, worst_none, worst_step, worst_jump, all_even, all_strays, most_sent, on_err}
 use Rattle.mig_dirtysave_rounds.proofs.round.send_all.Goals as goal
 
 pub members-init : goal.members-init
@@ -23,17 +23,21 @@ members-init g c = record {
 pub returns-in_err-found-clause-behind : goal.returns-in_err-found-clause-behind
 returns-in_err-found-clause-behind g c =
     let i = c.members.invariant in
-    on_err c.from_residual.result (λ start n before out even.
+    let (past, inside) = c.in-Some.ensures.found in
+    let reads = reads_jump _ _ _ _ _ past c.in-Some.ensures.least i.reads in
+    on_err c.from_residual.result (λ start n before out order told.
     let (mid, now, front) = i.sends start n before out in
-    behind_less _ _ _ _ (total_strays _ _ _ _ _ _ _ _ _ _ i.end i.reads front even _ c.send_one.ensures.asked) (c.in_err-found.ensures.behind start n mid now))
+    let to = sends_jump _ _ _ _ _ _ _ _ (notes_of c.members.deferred c.members.types) past c.in-Some.ensures.least front in
+    let (more, is, few) = all_strays _ _ _ _ _ _ _ _ reads to order _ inside (members_below _ _ _ c.requires.below inside) c.send_one.ensures.asked in
+    most_sent _ _ 1 _ _ _ mid more (c.in_err-found.ensures.behind start n mid now) few (to.told told) is)
 
 pub returns-in_err-flush-clause-behind : goal.returns-in_err-flush-clause-behind
 returns-in_err-flush-clause-behind g c =
-    on_err c.from_residual-in_err-flush.result (λ start n before out even.
+    on_err c.from_residual-in_err-flush.result (λ start n before out order told.
     let i = c.members.invariant in
     let (mid, now, front) = i.sends start n before out in
-    let same = total_even _ _ _ _ _ _ _ _ _ i.end i.reads front even in
-    behind_less _ (g.K.Sink.written c.flush.new.sink) _ _ (omega (arith, same)) (c.in_err-flush.ensures.behind start n mid now))
+    let even = all_even _ _ _ _ _ _ _ _ i.reads front order i.end in
+    most_sent _ (g.K.Sink.written c.flush.new.sink) 0 _ _ _ mid [] (c.in_err-flush.ensures.behind start n mid now) (omega arith) (front.told told) (even ∙ sym (append-nil (pfns_sent mid))))
 
 pub returns-clause-reads : goal.returns-clause-reads
 returns-clause-reads g c = reads_jump _ _ _ _ _ c.members.invariant.end (λ q low high. c.in_default.ensures.none q low) c.members.invariant.reads

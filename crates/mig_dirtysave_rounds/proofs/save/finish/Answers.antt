@@ -1,9 +1,9 @@
-use Rattle.mig_dirtysave_rounds.proofs.Common.{◌≡◌, ℕ, sym, ap, subst, ◌∙◌, IsBehind, Pfns, joined, pfns_of_words, History, Since, notes_of, IsBelow, entries_read, SendsFront, IsWorst, SendsLast}
+use Rattle.mig_dirtysave_rounds.proofs.Common.{◌≡◌, ℕ, sym, ap, subst, ◌∙◌, Pfns, joined, pfns_of_words, History, Since, notes_of, IsBelow, SendsFront, IsWorst, SendsLast}
 use Rattle.mig_dirtysave_rounds.proofs.Shapes.{stays_on, ran_stays}
-use Rattle.mig_dirtysave_rounds.proofs.Steps.{on_err}
-use Rattle.mig_dirtysave_rounds.proofs.Saves.{behind_unread, on_ok, if_both, if_three, err_on}
+use Rattle.mig_dirtysave_rounds.proofs.Steps.{on_err, told_alike}
+use Rattle.mig_dirtysave_rounds.proofs.Saves.{behind_unread, most_alike, on_ok, if_both, if_three, err_on}
 use Rattle.mig_dirtysave_rounds.proofs.Firsts.{worst_stands}
-use Rattle.mig_dirtysave_rounds.proofs.Ends.{last_reads, both_below, saved, saved_sent, counted_last, even_last}
+use Rattle.mig_dirtysave_rounds.proofs.Ends.{last_reads, both_below, saved, saved_sent, counted_last, order_last}
 use Rattle.mig_dirtysave_rounds.proofs.save.finish.Goals as goal
 
 pub returns-in_err-pause-clause-behind : goal.returns-in_err-pause-clause-behind
@@ -60,10 +60,12 @@ returns-clause-stands g c =
 
 pub returns-clause-behind : goal.returns-clause-behind
 returns-clause-behind g c =
+    let kind = c.in_ok-take_more.ensures.ok.ran.shape.kind ∙ c.in_ok-pause.ensures.ok.ran.shape.kind in
     let width = c.in_ok-take_more.ensures.ok.ran.shape.width ∙ c.in_ok-pause.ensures.ok.ran.shape.width in
     err_on c.send_all.result (λ behind. λ start before out sent.
-    subst (λ w. IsBehind start (g.K.Sink.written c.send_all.new.sink) (entries_read w (g.M.Machine.state c.send_all.new.machine).history)) width
-    (behind start c.args.rounds before out (even_last _ _ _ _ _ _ _ c.requires.ended.live.since c.in_ok-pause.ensures.ok c.in_ok-take_more.ensures.ok sent))) c.send_all.ensures.behind
+    most_alike _ _ _ kind width
+    (behind start c.args.rounds before out (order_last _ _ _ _ _ _ _ c.requires.ended.live.since c.in_ok-pause.ensures.ok c.in_ok-take_more.ensures.ok sent)
+    (told_alike before (sym kind) (sym width) sent.told))) c.send_all.ensures.behind
 
 pub returns-in_err-pause-clause-kept : goal.returns-in_err-pause-clause-kept
 returns-in_err-pause-clause-kept g c = ran_stays _ _ _ c.in_err-pause.ensures.err.ran

@@ -1,7 +1,7 @@
-use Rattle.mig_dirtysave_rounds.proofs.Common.{rules, arith, ℕ, ◌+◌, ◌/◌, ◌<◌, ◌≤◌, ◌^◌, ap, sym, subst, ◌∙◌, IsBehind, size, pfns_of_words, IsBelow, size-le, notes_of, entries_read}
+use Rattle.mig_dirtysave_rounds.proofs.Common.{rules, arith, ℕ, ◌+◌, ◌/◌, ◌<◌, ◌≤◌, ◌^◌, ap, sym, subst, ◌∙◌, size, pfns_of_words, IsBelow, size-le, notes_of}
 use Rattle.mig_dirtysave_rounds.proofs.Shapes.{stays_on, ran_stays}
 use Rattle.mig_dirtysave_rounds.proofs.Steps.{on_err}
-use Rattle.mig_dirtysave_rounds.proofs.Saves.{live_round, sent_round, longer, counted_more, goes_on, round_keeps, even, behind_taken}
+use Rattle.mig_dirtysave_rounds.proofs.Saves.{live_round, sent_round, longer, counted_more, goes_on, round_keeps, most_alike, behind_taken}
 use Rattle.mig_dirtysave_rounds.proofs.save.run_rounds.Goals.{then-rounds-eq-MOST_ROUNDS-via-then-rounds-eq-MOST_ROUNDS, then-rounds-eq-MOST_ROUNDS-via-else-rounds-eq-MOST_ROUNDS+then-count-lt-LEAST_LOG}
 use Rattle.mig_dirtysave_rounds.proofs.save.run_rounds.Goals as goal
 
@@ -10,8 +10,7 @@ returns-in_err-send_all-clause-behind g c =
     let i = c.loop-machine.invariant in
     on_err c.from_residual.result (λ start before out sent.
     let (mid, now, live) = i.sent start before out sent in
-    subst (λ w. IsBehind start (g.K.Sink.written c.send_all.new.sink) (entries_read w (g.M.Machine.state c.send_all.new.machine).history)) i.kept.shape.width
-    (c.in_err-send_all.ensures.behind start c.loop-machine.rounds mid now (even _ _ _ _ live)))
+    most_alike _ _ _ i.kept.shape.kind i.kept.shape.width (c.in_err-send_all.ensures.behind start c.loop-machine.rounds mid now live.order live.told))
 
 pub returns-in_err-take_log-clause-behind : goal.returns-in_err-take_log-clause-behind
 returns-in_err-take_log-clause-behind g c =
@@ -19,8 +18,8 @@ returns-in_err-take_log-clause-behind g c =
     on_err c.from_residual-in_err-take_log.result (λ start before out sent.
     let (mid, now, live) = i.sent start before out sent in
     let (after, then, sends) = c.in_ok-send_all.ensures.sends start c.loop-machine.rounds mid now in
-    subst (λ w. IsBehind start (g.K.Sink.written c.send_all.new.sink) (entries_read w (g.M.Machine.state c.take_log.new.self).history)) i.kept.shape.width
-    (behind_taken _ _ _ _ _ _ _ _ _ _ (notes_of c.send_all.new.deferred c.send_all.new.types) i.below live c.in_ok-send_all.ensures.reads sends c.in_err-take_log.ensures.err.history then))
+    most_alike _ _ _ i.kept.shape.kind i.kept.shape.width
+    (behind_taken _ _ _ _ _ _ _ _ _ _ (notes_of c.send_all.new.deferred c.send_all.new.types) live c.in_ok-send_all.ensures.reads sends c.in_err-take_log.ensures.err.history then))
 
 pub returns-then-rounds-eq-MOST_ROUNDS-clause-ended : goal.returns-then-rounds-eq-MOST_ROUNDS-clause-ended
 returns-then-rounds-eq-MOST_ROUNDS-clause-ended g c =

@@ -1,6 +1,7 @@
-use Rattle.mig_dirtysave_rounds.proofs.Common.{arith, ◌≡◌, ℕ, ◌+◌, ◌≤◌, ◌^◌, List, [], None, get_or, sym, ap, subst, ◌∙◌, FrameTold, IsSent, IsBehind, nothing_sent, size, pfns_of_words, IsBelow, size-le, entries_read, notes_of, FramesSaved, SavedSent, with_items_is}
+use Rattle.mig_dirtysave_rounds.proofs.Common.{arith, ◌≡◌, ℕ, ◌+◌, ◌≤◌, ◌^◌, List, [], None, get_or, sym, ap, subst, ◌∙◌, FrameTold, IsSent, nothing_sent, size, pfns_of_words, IsBelow, size-le, notes_of, FramesSaved, SavedSent, with_items_is}
 use Rattle.std.specs.Vec.{with_items}
 use Rattle.mig_dirtysave_rounds.proofs.Steps.{on_err}
+use Rattle.mig_dirtysave_rounds.proofs.Saves.{most_alike}
 use Rattle.mig_dirtysave_rounds.proofs.Totals.{unused_start, unused_below, unused_noted, sent_before, frames_saved}
 use Rattle.mig_dirtysave_rounds.proofs.save.send_frames.Given as given
 use Rattle.mig_dirtysave_rounds.proofs.save.send_frames.Goals as goal
@@ -51,7 +52,7 @@ returns-in_err-worst-clause-behind g c =
     let types : c.deref_mut-6.result.now ≡ c.run_rounds.new.types = c.deref_mut-6.ensures.value ∙ with_items_is c.room.inside.types c.run_rounds.new.types (omega (arith, c.deref_mut-3.ensures.len)) in
     let (between, out, live) = sent_before _ _ _ _ _ _ _ _ _ _ _ _ _ set deferred types start c.in_ok-before.ensures.sent in
     on_err c.from_residual-in_err-worst.result
-    (subst (λ w. IsBehind (g.K.Sink.written c.args.sink.now) (g.K.Sink.written c.finish.new.sink) (entries_read w (g.M.Machine.state c.finish.new.machine).history)) c.run_rounds.ensures.kept.shape.width
+    (most_alike _ _ _ c.run_rounds.ensures.kept.shape.kind c.run_rounds.ensures.kept.shape.width
     (c.in_err-worst.ensures.behind (g.K.Sink.written c.args.sink.now) between out live))
 
 -- what was sent in all
