@@ -1,21 +1,17 @@
 -- Whoever carries out a command keeps its promise: an input that it accepts is done, and one that it refuses is refused.
-use Rattle.mig_tool.proofs.Common.{◌≡◌, ◌⊎◌, ℕ, List, Option, Some, refl, subst, Refusal, Command, CarriedOut, Effects, IsOfInput, HasLegacyRefusal, HasOpenRefusal, HasStreamRefusal, HasWalkImageRefusal, HasWalkRefusal}
+use Rattle.mig_tool.proofs.Common.{◌≡◌, ◌⊎◌, ℕ, List, Option, Some, refl, subst, Refusal, Command, CarriedOut, Effects, IsOfInput, HasLegacyRefusal, HasOpenRefusal, HasStreamRefusal, HasWalkImageRefusal, HasWalkRefusal, AcceptedStream, AddressReported, FrameInHost, FrameInStream, HostHasFrame, StreamHasFrame, HasFront, ok_line, walked_line}
 use mathlib.Core.Logic.{inl, inr}
 use Rattle.mig_bytes.specs.Faults.{Rose}
 use Rattle.mig_canon.specs.CanonStream.{canon_any}
 use Rattle.mig_host_view.specs.View.{view}
 use Rattle.mig_legacy.specs.Spelled.{AcceptedLegacy}
-use Rattle.mig_libxl_form.specs.Spelled.{AcceptedStream}
 use Rattle.mig_tool_guest.proofs.Once.{accepted_once, legacy_once, walk_image_once, walk_once}
 use Rattle.mig_tool_guest.proofs.Relaying.{front_once, passed_front}
 use Rattle.mig_tool_guest.proofs.Walks.{host_found, stream_found}
-use Rattle.mig_tool_guest.specs.Addresses.{AddressReported, FrameInHost, FrameInStream, HostHasFrame, StreamHasFrame}
 use Rattle.mig_tool_guest.specs.Fronts.{Accepting, Normalised, PartWritten, Restored, Verified, restored_text}
-use Rattle.mig_tool_guest.specs.Promises.{HasFront}
 use Rattle.mig_tool_guest.specs.Relays.{PassedOn, RelayBreaksOff}
 use Rattle.mig_tool_report.proofs.Settled.{IsSettled, keeps, settled_copy, settled_line, settled_text}
 use Rattle.mig_tool_report.specs.Promises.{KeepsPromise, copies_text, writes_text}
-use Rattle.mig_tool_report.specs.Report.{ok_line, walked_line}
 use Rattle.mig_tool_report.specs.Statuses.{Refusing}
 use Rattle.mig_tool_report.specs.declared.command.Command.TheVariants.{Convert, Exercise, Normalise, Restore, Save, Verify, Walk, WalkImage, Relay, Show}
 use Rattle.mig_tool_report.specs.declared.status.Status.{Status}

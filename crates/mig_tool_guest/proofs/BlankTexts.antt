@@ -1,34 +1,16 @@
 -- A PV guest whose pages are read again where they are written, in its blank form.
-use Rattle.mig_tool_guest.proofs.Common.{◌≡◌, ◌∙◌, ℕ, List, Option, Some, None, Ok, refl, sym, ap, subst, GuestOf, AcceptedStream, OutcomeSays, Refusing, accepted_is_stream, canon_any, stream_at}
+use Rattle.mig_tool_guest.proofs.Common.{◌≡◌, ◌∙◌, ℕ, List, Option, Some, None, Ok, refl, sym, ap, subst, GuestOf, AcceptedStream, OutcomeSays, Refusing, accepted_is_stream, canon_any, stream_at, AreBytes, AgreesWithJudging, with_frames, FrameMap, Cause, Place, IsPlacedStream, accepted_carried, StreamOf, emulators_in, guest_of, outline, ValueMap, frames_in_file, PlacedGuest, sent_kind, mean, sent, ImageOf, same_Some, IfSome, is_some, true}
 use Rattle.mig_blanked.proofs.Outlines.{stands_for}
 use Rattle.mig_blanked.specs.Behind.{MarkListed, behind_after, frames_behind, guest_behind}
-use Rattle.mig_bytes.specs.Bytes.{AreBytes}
-use Rattle.mig_bytes.specs.Judged.{AgreesWithJudging}
-use Rattle.mig_canon.specs.Elsewhere.{with_frames}
 use Rattle.mig_guest.proofs.NextEntries.{from_zero}
-use Rattle.mig_guest.specs.Frames.{FrameMap}
-use Rattle.mig_headers.specs.declared.fault.Cause.{Cause}
-use Rattle.mig_headers.specs.declared.fault.Place.{Place}
 use Rattle.mig_headers.specs.declared.kind.Kind.TheVariants.{Pv}
-use Rattle.mig_libxl.specs.Placed.{IsPlacedStream}
-use Rattle.mig_libxl_form.proofs.AcceptedWhole.{accepted_carried}
 use Rattle.mig_libxl_form.proofs.EmulatorGuests.{none_set}
 use Rattle.mig_libxl_form.specs.Emulators.{no_emulators, with_emulators}
-use Rattle.mig_libxl_form.specs.Stream.{StreamOf, emulators_in, guest_of}
-use Rattle.mig_outline.specs.Outline.{outline}
-use Rattle.mig_pagestore_index.specs.Indexed.{ValueMap}
-use Rattle.mig_placed.specs.InFile.{frames_in_file}
-use Rattle.mig_placing.specs.declared.guest.PlacedGuest.{PlacedGuest}
 use Rattle.mig_pvtables.specs.Blank.{blank}
-use Rattle.mig_restore_form.proofs.Meaning.{sent_kind}
-use Rattle.mig_restore_form.specs.Mean.{mean, sent}
-use Rattle.mig_restore_form.specs.Stream.{ImageOf}
 use Rattle.mig_tool_guest.proofs.Alone.{pv_alone}
 use Rattle.mig_tool_guest.proofs.Placed.{FindsAll, Found}
 use Rattle.mig_tool_report.specs.declared.outcome.Outcome.TheVariants as outcomes
-use Rattle.std.proofs.lemmas.Option.{same_Some}
 use Rattle.std.specs.FinMap as maps
-use Rattle.std.specs.Prelude.{IfSome, is_some, true}
 
 -- the text of the guest that an outline stands for, with the frames at these places of a file
 abbrev pub blanked_text : GuestOf → ValueMap → ValueMap → List ℕ → List ℕ

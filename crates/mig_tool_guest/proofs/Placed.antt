@@ -1,40 +1,15 @@
 -- What comes of a file whose pages are read again where they are written.
-use Rattle.mig_tool_guest.proofs.Common.{inl, inr, Appends, AppendsPart, AcceptedLegacy, Outcome, OutcomeSays, Refusing, ◌⊎◌, ◌≡◌, ◌∙◌, ◌++◌, ℕ, List, Option, Some, None, Ok, refl, sym, ap, subst, GuestOf, AcceptedStream, Accepting, Hvm, HasFront, IsCarried, Normalised, PartWritten, InputRises, OutputRises, ComesTo, Effects, normalise_promise, status_of, accepted_is_stream, canon_any, stream_at}
+use Rattle.mig_tool_guest.proofs.Common.{inl, inr, Appends, AppendsPart, AcceptedLegacy, Outcome, OutcomeSays, Refusing, ◌⊎◌, ◌≡◌, ◌∙◌, ◌++◌, ℕ, List, Option, Some, None, Ok, refl, sym, ap, subst, GuestOf, AcceptedStream, Accepting, Hvm, HasFront, IsCarried, Normalised, PartWritten, InputRises, OutputRises, ComesTo, Effects, normalise_promise, status_of, accepted_is_stream, canon_any, stream_at, AreBytes, AgreesWithJudging, with_frames, left_in, FileSource, FrameMap, Cause, Place, IsPlacedLegacy, legacy_at, IsPlacedStream, accepted_carried, with_emulators, StreamOf, emulators_in, guest_of, outline, ValueMap, all_placed, frames_in_file, frames_after, PlacedGuest, sent_kind, mean, sent, ImageOf, normalise_file_promise, same_Some}
 use Rattle.mig_tool_guest.proofs.Reporting.{accepted_legacy, text_part, whole_text}
-use Rattle.mig_bytes.specs.Bytes.{AreBytes}
-use Rattle.mig_bytes.specs.Judged.{AgreesWithJudging}
-use Rattle.mig_canon.specs.Elsewhere.{with_frames}
-use Rattle.mig_file.specs.Files.{left_in}
-use Rattle.mig_file.specs.declared.source.FileSource.{FileSource}
-use Rattle.mig_guest.specs.Frames.{FrameMap}
-use Rattle.mig_headers.specs.declared.fault.Cause.{Cause}
-use Rattle.mig_headers.specs.declared.fault.Place.{Place}
 use Rattle.mig_headers.specs.declared.legacy_fault.LegacyCause.{LegacyCause}
 use Rattle.mig_headers.specs.declared.legacy_fault.LegacyPlace.{LegacyPlace}
 use Rattle.mig_legacy.proofs.AcceptedWhole.{accepted_legacy_whole}
 use Rattle.mig_legacy.specs.Legacy.{LegacyStream, device_model, image_records, mean_legacy, tail_records}
-use Rattle.mig_legacy.specs.Placed.{IsPlacedLegacy}
-use Rattle.mig_legacy.specs.Stream.{legacy_at}
-use Rattle.mig_libxl.specs.Placed.{IsPlacedStream}
-use Rattle.mig_libxl_form.proofs.AcceptedWhole.{accepted_carried}
-use Rattle.mig_libxl_form.specs.Emulators.{with_emulators}
-use Rattle.mig_libxl_form.specs.Stream.{StreamOf, emulators_in, guest_of}
-use Rattle.mig_outline.specs.Outline.{outline}
-use Rattle.mig_pagestore_index.specs.Indexed.{ValueMap}
-use Rattle.mig_placed.proofs.Seen.{all_placed}
-use Rattle.mig_placed.specs.InFile.{frames_in_file}
-use Rattle.mig_placed.specs.Runs.{frames_after}
-use Rattle.mig_placing.specs.declared.guest.PlacedGuest.{PlacedGuest}
 use Rattle.mig_pvtables.specs.Blank.{blank_of}
-use Rattle.mig_restore_form.proofs.Meaning.{sent_kind}
-use Rattle.mig_restore_form.specs.Mean.{mean, sent}
-use Rattle.mig_restore_form.specs.Stream.{ImageOf}
-use Rattle.mig_tool_guest.specs.Promises.{normalise_file_promise}
 use Rattle.mig_tool_report.specs.Promises.{copies_text}
 use Rattle.mig_tool_report.specs.declared.outcome.Outcome.TheVariants as outcomes
 use Rattle.mig_tool_report.specs.declared.status.Status.TheVariants as statuses
 use Rattle.std.proofs.lemmas.List.Elements.{All-drop}
-use Rattle.std.proofs.lemmas.Option.{same_Some}
 use Rattle.std.specs.FinMap as maps
 use Rattle.std.specs.Option.{option_map}
 use Rattle.std.specs.Prelude.{IfSome, drop, is_some, true, ◌<◌}

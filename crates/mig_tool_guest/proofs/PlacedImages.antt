@@ -1,29 +1,12 @@
 -- What comes of a file whose pages are read again where the image of its guest is written.
-use Rattle.mig_tool_guest.proofs.Common.{inl, inr, Appends, AppendsPart, ComesTo, Effects, GuestOf, HasFront, HasStreamRefusal, Hvm, InputRises, IsBase, IsCarried, List, None, Ok, Option, Outcome, OutcomeSays, OutputRises, PartWritten, Restored, Some, ap, AcceptedStream, accepted_is_stream, refl, restore_promise, restored_text, status_of, stream_at, subst, sym, ℕ, ◌≡◌, ◌⊎◌, ◌∙◌}
-use Rattle.mig_bytes.specs.Bytes.{AreBytes}
-use Rattle.mig_bytes.specs.Judged.{AgreesWithJudging}
-use Rattle.mig_canon.specs.Elsewhere.{with_frames}
-use Rattle.mig_guest.specs.Frames.{FrameMap}
-use Rattle.mig_headers.specs.declared.fault.Cause.{Cause}
-use Rattle.mig_headers.specs.declared.fault.Place.{Place}
+use Rattle.mig_tool_guest.proofs.Common.{inl, inr, Appends, AppendsPart, ComesTo, Effects, GuestOf, HasFront, HasStreamRefusal, Hvm, InputRises, IsBase, IsCarried, List, None, Ok, Option, Outcome, OutcomeSays, OutputRises, PartWritten, Restored, Some, ap, AcceptedStream, accepted_is_stream, refl, restore_promise, restored_text, status_of, stream_at, subst, sym, ℕ, ◌≡◌, ◌⊎◌, ◌∙◌, AreBytes, AgreesWithJudging, with_frames, FrameMap, Cause, Place, IsPlacedStream, accepted_carried, guest_of, ValueMap, all_placed, frames_in_file, frames_after, PlacedGuest, restore_file_promise, same_Some, IfSome, is_some, true}
 use Rattle.mig_host.specs.Hosted.{CanBeHosted}
-use Rattle.mig_libxl.specs.Placed.{IsPlacedStream}
-use Rattle.mig_libxl_form.proofs.AcceptedWhole.{accepted_carried}
-use Rattle.mig_libxl_form.specs.Stream.{guest_of}
-use Rattle.mig_pagestore_index.specs.Indexed.{ValueMap}
-use Rattle.mig_placed.proofs.Seen.{all_placed}
-use Rattle.mig_placed.specs.InFile.{frames_in_file}
-use Rattle.mig_placed.specs.Runs.{frames_after}
-use Rattle.mig_placing.specs.declared.guest.PlacedGuest.{PlacedGuest}
 use Rattle.mig_tool_guest.proofs.Placed.{IsCopied, may_write, never_usage, same_guest}
 use Rattle.mig_tool_guest.proofs.Reporting.{base_fits, whole_few, whole_restored}
 use Rattle.mig_tool_guest.proofs.Says.{RestoreComes}
-use Rattle.mig_tool_guest.specs.Promises.{restore_file_promise}
 use Rattle.mig_tool_report.specs.declared.outcome.Outcome.TheVariants as outcomes
 use Rattle.mig_tool_report.specs.declared.status.Status.TheVariants as statuses
-use Rattle.std.proofs.lemmas.Option.{same_Some}
 use Rattle.std.specs.FinMap as maps
-use Rattle.std.specs.Prelude.{IfSome, is_some, true}
 
 -- ---- the guest with its pages in the file
 

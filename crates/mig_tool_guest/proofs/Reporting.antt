@@ -1,13 +1,11 @@
 -- What a command answers.
-use Rattle.mig_tool_guest.proofs.Common.{inl, inr, Appends, AppendsPart, Passes, AcceptedLegacy, StreamOf, ReadsStream, Outcome, Status, Reading, ◌⊎◌, ◌≡◌, ℕ, ◌++◌, List, arith, Option, Some, None, Result, Ok, Err, refl, sym, subst, GuestOf, AcceptedStream, Kind, Hvm, Pv, Accepting, Normalised, PartWritten, Restored, IsCarried, IsFew, IsBase, restored_text, InputRises, IsUnwritten, ComesTo, Effects, restore_promise, text_written, unwritten, status_of, accepted_is_stream, canon_any, stream_at, IsStreamReading, OutputRises}
+use Rattle.mig_tool_guest.proofs.Common.{inl, inr, Appends, AppendsPart, Passes, AcceptedLegacy, StreamOf, ReadsStream, Outcome, Status, Reading, ◌⊎◌, ◌≡◌, ℕ, ◌++◌, List, arith, Option, Some, None, Result, Ok, Err, refl, sym, subst, GuestOf, AcceptedStream, Kind, Hvm, Pv, Accepting, Normalised, PartWritten, Restored, IsCarried, IsFew, IsBase, restored_text, InputRises, IsUnwritten, ComesTo, Effects, restore_promise, text_written, unwritten, status_of, accepted_is_stream, canon_any, stream_at, IsStreamReading, OutputRises, WriteFailed, LegacyStream, mean_legacy}
 use Rattle.mig_tool_guest.proofs.Says.{ConvertComes, NormaliseComes, RestoreComes}
-use Rattle.mig_bytes.specs.declared.failure.WriteFailed.{WriteFailed}
 use Rattle.mig_host.proofs.HostedGuests.{whole_valid, whole_sound, whole_seen}
 use Rattle.mig_host.specs.Hosted.{hosted, IsBaseOutside}
 use Rattle.mig_image.proofs.ImageReads.{held, image_reads}
 use Rattle.mig_image.specs.declared.version.GuestImageVersion.TheVariants.{Two}
 use Rattle.mig_legacy.proofs.Laws.{accepted_is_legacy}
-use Rattle.mig_legacy.specs.Legacy.{LegacyStream, mean_legacy}
 use Rattle.mig_legacy.specs.Stream.{ReadsLegacy, legacy_at}
 use Rattle.mig_libxl.proofs.AnyCanons.{canon_is_accepted, canon_is_one_to_one}
 use Rattle.mig_pvtables.proofs.HvmGuests.{hvm_complete}

@@ -1,15 +1,8 @@
 -- What is said of a stream that was read, or compared in its file.
-use Rattle.mig_tool_guest.proofs.Common.{Passes, StreamOf, Status, ◌≡◌, ◌∙◌, ℕ, List, length, Option, Some, None, Result, Ok, Err, refl, sym, ap, subst, CarriedOut, GuestOf, SinkEffect, effects, AcceptedStream, Reading, mean_kind, Puts, accepted_is_stream, stream_at, IsStreamReading, ok_line, summary_of, verify_promise}
+use Rattle.mig_tool_guest.proofs.Common.{Passes, StreamOf, Status, ◌≡◌, ◌∙◌, ℕ, List, length, Option, Some, None, Result, Ok, Err, refl, sym, ap, subst, CarriedOut, GuestOf, SinkEffect, effects, AcceptedStream, Reading, mean_kind, Puts, accepted_is_stream, stream_at, IsStreamReading, ok_line, summary_of, verify_promise, IsSummary, input_with, AgreesWithJudging, WriteFailed, IsStreamComparison, guest_of, differs_of, Summary}
 use Rattle.mig_tool_guest.proofs.Reporting.{reported}
 use Rattle.mig_tool_guest.proofs.Says.{VerifySays}
-use Rattle.mig_tool_guest.specs.Fronts.{IsSummary, input_with}
-use Rattle.mig_bytes.specs.Judged.{AgreesWithJudging}
-use Rattle.mig_bytes.specs.declared.failure.WriteFailed.{WriteFailed}
-use Rattle.mig_libxl.specs.Reads.{IsStreamComparison}
-use Rattle.mig_libxl_form.specs.Stream.{guest_of}
 use Rattle.mig_placing.specs.declared.comparison.Comparison.{Comparison}
-use Rattle.mig_restore_form.specs.Mean.{differs_of}
-use Rattle.mig_tool_report.specs.declared.outcome.Summary.{Summary}
 use Rattle.std.specs.FinMap as maps
 
 -- that of a reading

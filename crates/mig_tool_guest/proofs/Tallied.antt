@@ -1,18 +1,12 @@
 -- What a check answers.
-use Rattle.mig_tool_guest.proofs.Common.{Appends, AppendsPart, Passes, StreamOf, Status, StatusSays, ◌≡◌, ◌∙◌, ℕ, List, length, Option, Some, None, Result, Ok, Err, refl, sym, subst, AcceptedStream, HasStreamRefusal, HasLegacyRefusal, summary_of, Puts, accepted_is_stream, stream_at}
+use Rattle.mig_tool_guest.proofs.Common.{Appends, AppendsPart, Passes, StreamOf, Status, StatusSays, ◌≡◌, ◌∙◌, ℕ, List, length, Option, Some, None, Result, Ok, Err, refl, sym, subst, AcceptedStream, HasStreamRefusal, HasLegacyRefusal, summary_of, Puts, accepted_is_stream, stream_at, WriteFailed, mean_legacy, guest_of, differs_of, Checked, LegacyChecked, is_some}
 use Rattle.mig_tool_guest.proofs.Reporting.{accepted_legacy, reported}
-use Rattle.mig_bytes.specs.declared.failure.WriteFailed.{WriteFailed}
-use Rattle.mig_legacy.specs.Legacy.{mean_legacy}
 use Rattle.mig_legacy.specs.Stream.{JudgesLegacy}
 use Rattle.mig_libxl.specs.Reads.{IsStreamTally, JudgesStream}
-use Rattle.mig_libxl_form.specs.Stream.{guest_of}
 use Rattle.mig_outline.specs.declared.judge.Tally.{Tally}
-use Rattle.mig_restore_form.specs.Mean.{differs_of}
-use Rattle.mig_tool_guest.specs.Fronts.{Checked, LegacyChecked}
 use Rattle.mig_tool_report.specs.Report.{checked_legacy_line, checked_line, uncompared}
 use Rattle.mig_tool_report.specs.declared.outcome.CheckSummary.{CheckSummary}
 use Rattle.std.specs.FinMap as maps
-use Rattle.std.specs.Prelude.{is_some}
 
 -- the stream that has this tally
 tallied : (input rest : List ℕ) (stream : StreamOf) (tally : Tally) → stream_at input ≡ Passes stream rest → (is : IsStreamTally tally stream) → AcceptedStream input (guest_of is.image stream) rest

@@ -1,8 +1,5 @@
 -- What a command comes to where no stream was read.
-use Rattle.mig_tool_guest.proofs.Common.{Faulty, Outcome, OutcomeSays, InputRises, IsUnwritten, IsUntouched, CarriedOut, ComesTo, Effects, Promise, Refusal, Refusing, RisesOnReadFault, Reports, Status, ◌≡◌, ◌≤◌, ℕ, List, Option, Some, None, Err, sym, subst, finished, line_of, never_failed, no_line, outcome_of, reports_line, status_of, unwritten}
-use Rattle.mig_bytes.specs.Answers.{or_stop}
-use Rattle.mig_bytes.specs.Judged.{AgreesWithJudging, Judged}
-use Rattle.mig_bytes.specs.declared.answer.Answer.{Answer}
+use Rattle.mig_tool_guest.proofs.Common.{Faulty, Outcome, OutcomeSays, InputRises, IsUnwritten, IsUntouched, CarriedOut, ComesTo, Effects, Promise, Refusal, Refusing, RisesOnReadFault, Reports, Status, ◌≡◌, ◌≤◌, ℕ, List, Option, Some, None, Err, sym, subst, finished, line_of, never_failed, no_line, outcome_of, reports_line, status_of, unwritten, or_stop, AgreesWithJudging, Judged, Answer}
 use Rattle.mig_bytes.specs.declared.answer.Answer.TheVariants as answers
 use Rattle.mig_tool_report.specs.declared.outcome.Outcome.TheVariants as outcomes
 

@@ -1,6 +1,5 @@
 -- An address that means a frame of an input doesn't come to a refusal, and the other way round.
-use Rattle.mig_tool_guest.proofs.Common.{Passes, HostOf, WalkSummary, in_stream, in_host, MeansFrame, StreamHasFrame, FrameInStream, HostHasFrame, FrameInHost, any_host_at, ◌≡◌, ℕ, List, Option, Some, None, refl, sym, ap, subst, ◌∙◌, GuestOf, Faulty, unsoundness, one_front, Standing, MeansNone, StreamHasNone, HasUnsoundHost, HostHasNone}
-use Rattle.mig_bytes.specs.Judged.{Judged}
+use Rattle.mig_tool_guest.proofs.Common.{Passes, HostOf, WalkSummary, in_stream, in_host, MeansFrame, StreamHasFrame, FrameInStream, HostHasFrame, FrameInHost, any_host_at, ◌≡◌, ℕ, List, Option, Some, None, refl, sym, ap, subst, ◌∙◌, GuestOf, Faulty, unsoundness, one_front, Standing, MeansNone, StreamHasNone, HasUnsoundHost, HostHasNone, Judged}
 use Rattle.mig_headers.specs.declared.image_fault.ImageCause.{ImageCause}
 use Rattle.mig_headers.specs.declared.image_fault.ImagePlace.{ImagePlace}
 use Rattle.mig_headers.specs.declared.unsound.Unsound.{Unsound}

@@ -1,11 +1,5 @@
-use Rattle.mig_tool.proofs.Common.{refl, sym, Effects, effects, input_effect, sink_effect, HasStreamRefusal, HasWalkImageRefusal, HasWalkRefusal}
-use Rattle.mig_libxl_form.specs.Spelled.{AcceptedStream}
-use Rattle.mig_tool_report.proofs.Promises.{beside}
-use Rattle.mig_tool_report.specs.Report.{ok_line, walked_line}
+use Rattle.mig_tool.proofs.Common.{refl, sym, Effects, effects, input_effect, sink_effect, HasStreamRefusal, HasWalkImageRefusal, HasWalkRefusal, AcceptedStream, beside, ok_line, walked_line, AddressReported, FrameInHost, FrameInStream, HostHasFrame, StreamHasFrame, Verified, HasFront}
 use Rattle.mig_tool_report.specs.declared.command.Command.TheVariants as commands
-use Rattle.mig_tool_guest.specs.Addresses.{AddressReported, FrameInHost, FrameInStream, HostHasFrame, StreamHasFrame}
-use Rattle.mig_tool_guest.specs.Fronts.{Verified}
-use Rattle.mig_tool_guest.specs.Promises.{HasFront}
 use Rattle.mig_tool_save.proofs.ExerciseOutcomes.{exercise_carried}
 use Rattle.mig_tool.proofs.Reporting.{of_same}
 use Rattle.mig_tool.proofs.carry.carry_out.Goals as goal

@@ -1,10 +1,5 @@
-use Rattle.mig_tool.proofs.Common.{refl, sym, sink_effect, HasStreamRefusal}
-use Rattle.mig_libxl_form.specs.Spelled.{AcceptedStream}
-use Rattle.mig_tool_report.proofs.Promises.{beside}
-use Rattle.mig_tool_report.specs.Report.{ok_line}
+use Rattle.mig_tool.proofs.Common.{refl, sym, sink_effect, HasStreamRefusal, AcceptedStream, beside, ok_line, Verified, HasFront}
 use Rattle.mig_tool_report.specs.declared.command.Command.TheVariants as commands
-use Rattle.mig_tool_guest.specs.Fronts.{Verified}
-use Rattle.mig_tool_guest.specs.Promises.{HasFront}
 use Rattle.mig_tool.proofs.Reporting.{as_it_comes, of_same_file}
 use Rattle.mig_tool.proofs.carry.carry_out_file.Goals as goal
 

@@ -1,5 +1,4 @@
-use Rattle.mig_tool.proofs.Common.{refl, Effects, effects, input_effect, sink_effect}
-use Rattle.mig_tool_report.proofs.Naming.{same_command}
+use Rattle.mig_tool.proofs.Common.{refl, Effects, effects, input_effect, sink_effect, same_command}
 use Rattle.mig_tool.proofs.Reporting.{keeps_command, of_same}
 use Rattle.mig_tool.proofs.run.run.Goals as goal
 

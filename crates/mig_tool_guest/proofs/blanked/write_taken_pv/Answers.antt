@@ -1,8 +1,6 @@
-use Rattle.mig_tool_guest.proofs.Common.{AcceptedStream, Effects, GuestOf, HasStreamRefusal, InputRises, List, Option, ap, effects, inr, input_effect, refl, sink_effect, status_of, subst, sym, unreached, unwritten, ℕ}
-use Rattle.mig_file.specs.Files.{failed_in, left_in}
+use Rattle.mig_tool_guest.proofs.Common.{AcceptedStream, Effects, GuestOf, HasStreamRefusal, InputRises, List, Option, ap, effects, inr, input_effect, refl, sink_effect, status_of, subst, sym, unreached, unwritten, ℕ, failed_in, left_in, normalise_file_promise}
 use Rattle.mig_tool_guest.proofs.BlankTexts.{blanked_text, found_blanked, starved_says, text_of_blank}
 use Rattle.mig_tool_guest.proofs.Placed.{FindsAll, came_copied, copy_comes, part_copied, told_bytes}
-use Rattle.mig_tool_guest.specs.Promises.{normalise_file_promise}
 use Rattle.mig_tool_report.specs.declared.outcome.Outcome.TheVariants as outcomes
 use Rattle.mig_tool_guest.proofs.blanked.write_taken_pv.Goals as goal
 

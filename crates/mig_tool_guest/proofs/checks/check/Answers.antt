@@ -1,9 +1,6 @@
-use Rattle.mig_tool_guest.proofs.Common.{Ok, Err, refl, rules, inl, inr, HasStreamRefusal, AcceptedStream, effects, input_effect, line_put, sink_effect, stream_at, unreached, untouched_sink, Effects, HasFront}
-use Rattle.mig_libxl.specs.Reads.{IsStreamTally}
+use Rattle.mig_tool_guest.proofs.Common.{Ok, Err, refl, rules, inl, inr, HasStreamRefusal, AcceptedStream, effects, input_effect, line_put, sink_effect, stream_at, unreached, untouched_sink, Effects, HasFront, IsStreamTally, Checked, checked_line}
 use Rattle.mig_tool_guest.proofs.Tallied.{checked}
 use Rattle.mig_tool_guest.proofs.Unread.{unread_told}
-use Rattle.mig_tool_guest.specs.Fronts.{Checked}
-use Rattle.mig_tool_report.specs.Report.{checked_line}
 use Rattle.mig_tool_report.specs.declared.outcome.Refusal.TheVariants as refusals
 use Rattle.mig_tool_guest.proofs.checks.check.Goals as goal
 

@@ -1,10 +1,6 @@
-use Rattle.mig_tool_guest.proofs.Common.{◌≡◌, Ok, Err, refl, inl, inr, HasLegacyRefusal, AcceptedLegacy, effects, input_effect, line_put, sink_effect, unreached, untouched_sink, Effects, HasFront}
+use Rattle.mig_tool_guest.proofs.Common.{◌≡◌, Ok, Err, refl, inl, inr, HasLegacyRefusal, AcceptedLegacy, effects, input_effect, line_put, sink_effect, unreached, untouched_sink, Effects, HasFront, mean_legacy, legacy_at, LegacyChecked, checked_legacy_line}
 use Rattle.mig_tool_guest.proofs.Tallied.{legacy_checked}
 use Rattle.mig_tool_guest.proofs.Unread.{unread_told}
-use Rattle.mig_legacy.specs.Legacy.{mean_legacy}
-use Rattle.mig_legacy.specs.Stream.{legacy_at}
-use Rattle.mig_tool_guest.specs.Fronts.{LegacyChecked}
-use Rattle.mig_tool_report.specs.Report.{checked_legacy_line}
 use Rattle.mig_tool_report.specs.declared.outcome.Refusal.TheVariants as refusals
 use Rattle.std.specs.FinMap as maps
 use Rattle.mig_tool_guest.proofs.checks.check_legacy.Goals as goal

@@ -1,9 +1,7 @@
-use Rattle.mig_tool_guest.proofs.Common.{◌≡◌, refl, text_written, inl, inr, convert_promise, effects, input_effect, sink_effect, unreached, Effects}
+use Rattle.mig_tool_guest.proofs.Common.{◌≡◌, refl, text_written, inl, inr, convert_promise, effects, input_effect, sink_effect, unreached, Effects, mean_legacy, legacy_at}
 use Rattle.mig_tool_guest.proofs.Reporting.{came_of_legacy}
 use Rattle.mig_tool_guest.proofs.Unread.{unread_comes}
 use Rattle.mig_tool_report.specs.declared.outcome.Refusal.TheVariants as refusals
-use Rattle.mig_legacy.specs.Legacy.{mean_legacy}
-use Rattle.mig_legacy.specs.Stream.{legacy_at}
 use Rattle.mig_tool_guest.proofs.commands.converted.Goals as goal
 
 pub returns-in-Ok : goal.returns-in-Ok

@@ -1,7 +1,5 @@
-use Rattle.mig_tool_guest.proofs.Common.{◌∙◌, IsStreamReading, rules, stream_at}
-use Rattle.mig_bytes.proofs.Joins.{any_stop}
+use Rattle.mig_tool_guest.proofs.Common.{◌∙◌, IsStreamReading, rules, stream_at, any_stop, IsSummary}
 use Rattle.mig_tool_guest.proofs.Summaries.{of_reading}
-use Rattle.mig_tool_guest.specs.Fronts.{IsSummary}
 use Rattle.std.specs.FinMap as maps
 use Rattle.mig_tool_guest.proofs.commands.summarised.Goals as goal
 

@@ -1,14 +1,7 @@
-use Rattle.mig_tool_guest.proofs.Common.{Result, Ok, Err, refl, subst, inl, inr, RisesOnReadFault, HasStreamRefusal, AcceptedStream, effects, line_put, sink_effect, stream_at, unreached, untouched_sink, Effects, Verified, HasFront, ok_line}
-use Rattle.mig_bytes.specs.Answers.{or_stop}
-use Rattle.mig_bytes.specs.Judged.{AgreesWithJudging}
-use Rattle.mig_bytes.specs.declared.answer.Answer.{Answer}
-use Rattle.mig_headers.specs.declared.fault.Cause.{Cause}
-use Rattle.mig_headers.specs.declared.fault.Place.{Place}
+use Rattle.mig_tool_guest.proofs.Common.{Result, Ok, Err, refl, subst, inl, inr, RisesOnReadFault, HasStreamRefusal, AcceptedStream, effects, line_put, sink_effect, stream_at, unreached, untouched_sink, Effects, Verified, HasFront, ok_line, or_stop, AgreesWithJudging, Answer, Cause, Place, IsSummary, input_with, Summary}
 use Rattle.mig_tool_guest.proofs.Summaries.{verified}
 use Rattle.mig_tool_guest.proofs.Unread.{unread_told}
-use Rattle.mig_tool_guest.specs.Fronts.{IsSummary, input_with}
 use Rattle.mig_tool_report.specs.declared.outcome.Refusal.TheVariants as refusals
-use Rattle.mig_tool_report.specs.declared.outcome.Summary.{Summary}
 use Rattle.mig_tool_guest.proofs.commands.tell_summary.Goals as goal
 
 pub returns-in-Err : goal.returns-in-Err

@@ -1,8 +1,5 @@
-use Rattle.mig_tool_guest.proofs.Common.{rules, stream_at}
-use Rattle.mig_bytes.proofs.Joins.{any_stop}
-use Rattle.mig_libxl.specs.Reads.{IsStreamComparison}
+use Rattle.mig_tool_guest.proofs.Common.{rules, stream_at, any_stop, IsStreamComparison, IsSummary}
 use Rattle.mig_tool_guest.proofs.Summaries.{of_comparison}
-use Rattle.mig_tool_guest.specs.Fronts.{IsSummary}
 use Rattle.mig_tool_guest.proofs.comparing.compared_file.Goals as goal
 
 pub returns-in-Ok-clause-read : goal.returns-in-Ok-clause-read

@@ -1,5 +1,4 @@
-use Rattle.mig_tool_guest.proofs.Common.{AcceptedLegacy, HasFront, HasLegacyRefusal, Normalised, PartWritten, canon_any}
-use Rattle.mig_tool_report.proofs.Promises.{copy_told}
+use Rattle.mig_tool_guest.proofs.Common.{AcceptedLegacy, HasFront, HasLegacyRefusal, Normalised, PartWritten, canon_any, copy_told}
 use Rattle.mig_tool_guest.proofs.files.convert_file.Goals as goal
 
 pub returns : goal.returns

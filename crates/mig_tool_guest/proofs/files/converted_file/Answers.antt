@@ -1,7 +1,4 @@
-use Rattle.mig_tool_guest.proofs.Common.{AcceptedLegacy, Effects, HasLegacyRefusal, InputRises, List, Option, effects, inr, input_effect, refl, sink_effect, status_of, subst, sym, unreached, ℕ}
-use Rattle.mig_file.specs.Files.{failed_in, left_in}
-use Rattle.mig_legacy.specs.Placed.{IsPlacedLegacy}
-use Rattle.mig_legacy.specs.Stream.{legacy_at}
+use Rattle.mig_tool_guest.proofs.Common.{AcceptedLegacy, Effects, HasLegacyRefusal, InputRises, List, Option, effects, inr, input_effect, refl, sink_effect, status_of, subst, sym, unreached, ℕ, failed_in, left_in, IsPlacedLegacy, legacy_at}
 use Rattle.mig_tool_guest.proofs.Placed.{FindsAll, came_copied, copy_comes, found_legacy, part_copied, text_in, told_bytes_of}
 use Rattle.mig_tool_guest.proofs.Unread.{unread_comes}
 use Rattle.mig_tool_guest.specs.Promises.{convert_file_promise}

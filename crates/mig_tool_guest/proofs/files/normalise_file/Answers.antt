@@ -1,5 +1,4 @@
-use Rattle.mig_tool_guest.proofs.Common.{AcceptedStream, HasFront, HasStreamRefusal, Normalised, PartWritten, canon_any}
-use Rattle.mig_tool_report.proofs.Promises.{copy_told}
+use Rattle.mig_tool_guest.proofs.Common.{AcceptedStream, HasFront, HasStreamRefusal, Normalised, PartWritten, canon_any, copy_told}
 use Rattle.mig_tool_guest.proofs.files.normalise_file.Goals as goal
 
 pub returns : goal.returns

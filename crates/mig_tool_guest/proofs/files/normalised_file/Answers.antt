@@ -1,9 +1,5 @@
-use Rattle.mig_tool_guest.proofs.Common.{ComesTo, Effects, effects, input_effect, refl, sink_effect, stream_at, subst, unreached}
-use Rattle.mig_file.specs.Files.{failed_in, left_in}
-use Rattle.mig_file.specs.declared.source.FileSource.{FileSource}
-use Rattle.mig_libxl.specs.Placed.{IsPlacedStream}
+use Rattle.mig_tool_guest.proofs.Common.{ComesTo, Effects, effects, input_effect, refl, sink_effect, stream_at, subst, unreached, failed_in, left_in, FileSource, IsPlacedStream, normalise_file_promise}
 use Rattle.mig_tool_guest.proofs.Unread.{unread_comes}
-use Rattle.mig_tool_guest.specs.Promises.{normalise_file_promise}
 use Rattle.mig_tool_report.specs.declared.outcome.Refusal.TheVariants as refusals
 use Rattle.mig_tool_guest.proofs.files.normalised_file.Goals as goal
 

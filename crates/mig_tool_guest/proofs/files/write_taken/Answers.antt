@@ -1,5 +1,4 @@
-use Rattle.mig_tool_guest.proofs.Common.{AcceptedStream, Effects, HasStreamRefusal, InputRises, List, Option, effects, inr, input_effect, sink_effect, status_of, subst, sym, unreached, ℕ, ◌∙◌}
-use Rattle.mig_file.specs.Files.{failed_in, left_in}
+use Rattle.mig_tool_guest.proofs.Common.{AcceptedStream, Effects, HasStreamRefusal, InputRises, List, Option, effects, inr, input_effect, sink_effect, status_of, subst, sym, unreached, ℕ, ◌∙◌, failed_in, left_in}
 use Rattle.mig_tool_guest.proofs.Placed.{FindsAll, came_copied, copy_comes, found_stream, part_copied, text_in, told_bytes}
 use Rattle.mig_tool_guest.proofs.files.write_taken.Goals as goal
 

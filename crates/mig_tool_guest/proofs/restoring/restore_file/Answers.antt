@@ -1,5 +1,4 @@
-use Rattle.mig_tool_guest.proofs.Common.{AcceptedStream, HasFront, HasStreamRefusal, PartWritten, Restored, restored_text}
-use Rattle.mig_tool_report.proofs.Promises.{copy_told}
+use Rattle.mig_tool_guest.proofs.Common.{AcceptedStream, HasFront, HasStreamRefusal, PartWritten, Restored, restored_text, copy_told}
 use Rattle.mig_tool_guest.proofs.restoring.restore_file.Goals as goal
 
 pub returns : goal.returns

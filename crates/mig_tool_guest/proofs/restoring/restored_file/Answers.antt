@@ -1,9 +1,5 @@
-use Rattle.mig_tool_guest.proofs.Common.{ComesTo, Effects, effects, input_effect, refl, sink_effect, stream_at, subst, unreached}
-use Rattle.mig_file.specs.Files.{failed_in, left_in}
-use Rattle.mig_file.specs.declared.source.FileSource.{FileSource}
-use Rattle.mig_libxl.specs.Placed.{IsPlacedStream}
+use Rattle.mig_tool_guest.proofs.Common.{ComesTo, Effects, effects, input_effect, refl, sink_effect, stream_at, subst, unreached, failed_in, left_in, FileSource, IsPlacedStream, restore_file_promise}
 use Rattle.mig_tool_guest.proofs.Unread.{unread_comes}
-use Rattle.mig_tool_guest.specs.Promises.{restore_file_promise}
 use Rattle.mig_tool_report.specs.declared.outcome.Refusal.TheVariants as refusals
 use Rattle.mig_tool_guest.proofs.restoring.restored_file.Goals as goal
 

@@ -1,5 +1,4 @@
-use Rattle.mig_tool_guest.proofs.Common.{Effects, InputRises, List, Option, effects, inl, inr, input_effect, sink_effect, status_of, subst, sym, unreached, ℕ, ◌∙◌}
-use Rattle.mig_file.specs.Files.{failed_in, left_in}
+use Rattle.mig_tool_guest.proofs.Common.{Effects, InputRises, List, Option, effects, inl, inr, input_effect, sink_effect, status_of, subst, sym, unreached, ℕ, ◌∙◌, failed_in, left_in}
 use Rattle.mig_tool_guest.proofs.Placed.{told_bytes}
 use Rattle.mig_tool_guest.proofs.PlacedImages.{FindsGuest, came_image, found_guest, image_comes, image_part, kept_restored, kept_unwritten}
 use Rattle.mig_tool_guest.proofs.restoring.restored_taken.Goals as goal
