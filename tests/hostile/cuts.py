@@ -18,7 +18,8 @@ OF_COMMANDS = (['verify'], ALL), *((words, SOME) for words in (['normalise'], ['
 OF_CHECK = (program.CHECK, ALL),
 BESIDE_ENDS, SHARES = 9, 16
 FRONTS, SECONDS = 40, 20                                # fronts that come one after another, and how long is waited for output
-WAITING = 4096                                          # 512 bytes and 8 a word, of which these streams have fewer than 448
+WAITING, OF_WORD = 512, 8                               # bytes that may wait, and so many more for each word where a page comes
+HEADERS, LIBXL_HEADERS, HEAD = 40, 16, 8                # bytes
 
 
 # ---- each proper prefix
@@ -90,10 +91,41 @@ def read_up_to(pipe, length):
     return out
 
 
+def records(stream, at):
+    """Where the records from this byte on stand, up to END, with their types and the lengths of their bodies."""
+    kind = None
+    while kind != 0:
+        kind, length = struct.unpack_from('<II', stream, at)
+        yield at, kind, length
+        at += HEAD + (length + 7) // 8 * 8
+
+
+def pages_in(stream):
+    """Where the pages of each PAGE_DATA begin and end, and how many words it has."""
+    at = 0
+    if stream.startswith(IDENT):
+        at = next(place for place, kind, _ in records(stream, LIBXL_HEADERS) if kind == 1) + HEAD
+    for place, kind, length in records(stream, at + HEADERS):
+        if kind == 1:
+            count = struct.unpack_from('<I', stream, place + HEAD)[0]
+            yield place + HEAD + 8 + 8 * count, place + HEAD + length, count
+
+
+def may_wait(stream, length):
+    """How many bytes of a front of so many may wait to be written."""
+    return WAITING + next((OF_WORD * words for begins, ends, words in pages_in(stream) if begins <= length < ends), 0)
+
+
+def many_heads():
+    """An HVM image with 128 records that are heads alone, in front of all others."""
+    image = program.case('smallest-hvm')
+    return image[:HEADERS] + head(1 << 31, 0) * 128 + image[HEADERS:]
+
+
 def flowing(tool):
     """What came is passed on before more comes: of each front, while the input is open, `relay` has written all that it
     passes on of it, but for what may wait; and all of it at the end."""
-    for name, words, data in program.forms(tool):
+    for name, words, data in (*program.forms(tool), ('many heads', ['relay'], many_heads())):
         if not program.passes_on(words):
             continue
         pipes = dict.fromkeys(('stdin', 'stdout', 'stderr'), subprocess.PIPE)
@@ -102,7 +134,7 @@ def flowing(tool):
             for length in (*range(1, len(data), max(1, len(data) // FRONTS)), len(data)):
                 started.stdin.write(data[came:length])
                 came, want = length, program.wanted(words, data[:length]).out
-                least = len(want) if length == len(data) else len(want) - WAITING
+                least = len(want) if length == len(data) else len(want) - may_wait(data, length)
                 out += read_up_to(started.stdout, least - len(out))
                 if not want.startswith(out) or len(out) < least:
                     started.kill()
