@@ -35,7 +35,8 @@ class Crossing:
 
     def __init__(self, trip, other):
         self.guest, self.sent = trip.guest, trip
-        self.arrived = Trip(other, trip.tool, trip.guest, other.lab)
+        sender = os.path.basename(trip.machine.lab)
+        self.arrived = Trip(other, trip.tool, trip.guest, other.lab, '%s.of-%s' % (trip.guest.name, sender))
         self.of_original = None                      # how the original was refused
 
     def steps(self):
@@ -72,7 +73,7 @@ class Crossing:
         shutil.copy(self.arrived.tool, os.path.join(machine.share, 'guests', 'mig_tool'))
         watched.destroy()
         front = streams.header_of(self.arrived.need('save'))[1]
-        mark = watched.restored_by(RELAYED % {'front': front, 'behind': front + 1, 'file': '/share/saves/%s.save' % self.guest.name})
+        mark = watched.restored_by(RELAYED % {'front': front, 'behind': front + 1, 'file': '/share/saves/%s.save' % self.arrived.front})
         seen = watched.goes_on(mark, self.arrived.last)
         with open(machine.share + SAID[len('/share'):]) as file:
             return '%s; %s' % (seen, file.read().strip())

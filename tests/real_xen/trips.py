@@ -1,4 +1,5 @@
 """What is tried with each guest: it is saved, goes through the program, is given back to Xen, and has to go on."""
+import json
 import os
 import struct
 import subprocess
@@ -7,7 +8,7 @@ import time
 import programs
 import streams
 import tried
-from guests import LETTER, Broken, Watched, place_configuration
+from guests import LETTER, Broken, Tick, Watched, place_configuration
 
 MIG = os.path.join(streams.TOP, 'bin', 'mig')
 OTHERS = 60                                          # so many further pages a script writes
@@ -48,13 +49,15 @@ def calls_to(guest, last):
 class Trip:
     """One guest through all steps. A step answers what it saw, or raises Broken."""
 
-    def __init__(self, machine, tool, guest, keep):
+    def __init__(self, machine, tool, guest, keep, front=None):
+        """The guest's files have its name in front, where no other is given."""
         self.machine, self.tool, self.guest, self.keep = machine, tool, guest, keep
+        self.front = front or guest.name
         self.watched = Watched(machine, guest)
         self.last, self.running = None, None         # its last tick before its save; which file it runs from
 
     def path(self, part):
-        return os.path.join(self.machine.share, 'saves', '%s.%s' % (self.guest.name, part))
+        return os.path.join(self.machine.share, 'saves', '%s.%s' % (self.front, part))
 
     def need(self, part):
         if not os.path.exists(self.path(part)):
@@ -84,7 +87,18 @@ class Trip:
             self.watched.create()
         began = time.monotonic()
         self.last = self.watched.save(self.guest.name + '.save')
+        with open(self.path('last'), 'w') as file:
+            json.dump(self.last, file)
         return '%d bytes in %.0f s, at tick %d' % (os.path.getsize(self.path('save')), time.monotonic() - began, self.last.number)
+
+    def is_kept(self):
+        """Whether an earlier run left its save here, and its last tick before that, which is read again."""
+        if not all(os.path.exists(self.path(part)) for part in ('save', 'last')):
+            return False
+        with open(self.path('last')) as file:
+            number, whole, generation, letter, vcpus = json.load(file)
+        self.last = Tick(number, whole, generation, letter, tuple(vcpus))
+        return True
 
     def save_goes_on(self):
         """What Xen itself does with its own file, so that a fault of the emulator isn't taken for one of ours."""
@@ -119,7 +133,7 @@ class Trip:
     def given_back(self, part, letter):
         self.watched.destroy()
         self.running = None
-        mark = self.watched.restore('%s.%s' % (self.guest.name, part))
+        mark = self.watched.restore('%s.%s' % (self.front, part))
         seen = self.watched.goes_on(mark, self.last, letter)
         self.running = part
         return seen
