@@ -1,5 +1,5 @@
 -- Names that many proofs of this crate use.
-pub use Rattle.std.proofs.Common.{Bool, IfSome, IsSome, List, None, Option, Result, Some, [], ap, append-nil, append_assoc, arith, cond, drop, drop-cons, drop-drop, false, get_or, inr, le_refl, length, length-append, map, min, nat_eq, nat_le, nat_lt, not, refl, replicate, rules, subst, suc, sym, take, take-append-drop, true, zero, ℕ, ◌%◌, ◌*◌, ◌++◌, ◌+◌, ◌-◌, ◌/◌, ◌<◌, ◌^◌, ◌∙◌, ◌∷◌, ◌≡◌, ◌≢◌, ◌≤◌}
+pub use Rattle.std.proofs.Common.{Bool, IfSome, IsSome, List, None, Option, Result, Some, [], ap, append-nil, append_assoc, arith, cond, drop, drop-cons, drop-drop, false, get_or, inr, le_refl, length, length-append, map, min, nat_eq, nat_lt, not, refl, replicate, rules, subst, suc, sym, take, take-append-drop, true, zero, ℕ, ◌%◌, ◌*◌, ◌++◌, ◌+◌, ◌-◌, ◌/◌, ◌<◌, ◌^◌, ◌∙◌, ◌∷◌, ◌≡◌, ◌≢◌, ◌≤◌}
 pub use Rattle.std.proofs.KnownBytes.{Appends-trans}
 pub use Rattle.std.proofs.lemmas.Bool.{and_parts, and_right, eq-eqb, eqb-true, le-leb, le-ltb, not-true}
 pub use Rattle.std.proofs.lemmas.Grind.{common_steps, flat_map-append}
@@ -27,7 +27,7 @@ pub use Rattle.mig_guest.proofs.PartCursor.{both_of, not_itself}
 pub use Rattle.mig_guest.proofs.PartOrder.{part_exact, part_total}
 pub use Rattle.mig_guest.proofs.PartRows.{numbered, of_part}
 pub use Rattle.mig_guest.specs.Formed.{HasNoEmulators, IsFormed, IsInside, IsPart, IsTop, is_emulator_code, is_policy, width_of}
-pub use Rattle.mig_guest.specs.Frames.{FrameMap, IsFew, entries_from, is_type_of}
+pub use Rattle.mig_guest.specs.Frames.{FrameMap, IsFew, is_type_of}
 pub use Rattle.mig_guest.specs.Guests.{GuestOf}
 pub use Rattle.mig_guest.specs.Order.{part_cmp}
 pub use Rattle.mig_guest.specs.PartCodes.{code_number, no_keys, row_of}
@@ -51,7 +51,7 @@ pub use Rattle.mig_records.specs.Shapes.{IsBody, IsRecordBody, IsRow, IsShaped, 
 pub use Rattle.mig_records.specs.declared.layout.Layout.{Layout}
 pub use Rattle.mig_records.specs.declared.shape.Shape.{Shape}
 pub use Rattle.mig_records.specs.declared.shape.Shape.TheVariants.{Chain, Named, Other, Single, Table}
-pub use Rattle.mig_records_pages.proofs.ListSteps.{done_on, done_stop, more_done, not_ended, walk_on, walk_stop}
+pub use Rattle.mig_records_pages.proofs.ListSteps.{done_on, done_stop, more_done, walk_on, walk_stop}
 pub use Rattle.mig_records_pages.proofs.PageTexts.{words_len}
 pub use Rattle.mig_records_pages.specs.PageData.{Frame, body_of, most_entries, page_in, pages_of, words_of}
 pub use Rattle.mig_restore_form.specs.Mean.{empty_guest, put_content, put_entries, put_entry, sent, type_in_guest}
@@ -60,6 +60,6 @@ pub use Rattle.mig_restore_form.specs.Record.Content.{Checks, Frames, Lists, Not
 pub use Rattle.mig_restore_form.specs.Spelled.{Accepted, AreEntries, Follows, HasContent, IsBatch, IsComplete, IsEntry, IsGoodWord, IsImage, IsPage}
 pub use Rattle.mig_bytes.specs.Sequences.Spells.{no_part, one_more}
 pub use Rattle.mig_guest.proofs.Found.{all_found, found_first}
-pub use Rattle.mig_pagetypes.specs.declared.page_type.PageType.TheVariants.{Broken, Notab, Xalloc, Xtab}
+pub use Rattle.mig_pagetypes.specs.declared.page_type.PageType.TheVariants.{Notab, Xtab}
 pub use Rattle.mig_restore_form.proofs.Meaning.{meant_as_sent, one_more_record}
 pub use Rattle.mig_restore_form.specs.Spelled.HasContent.{ends, info, p2m_frames, sets, static_end}

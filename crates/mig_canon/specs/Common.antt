@@ -16,3 +16,5 @@ pub use Rattle.mig_records.specs.Layouts.{entry_text, front_text}
 pub use Rattle.mig_records.specs.Records.{Record, spelled, text_of}
 pub use Rattle.mig_records.specs.Shapes.{IsRow, canonical_bodies, of_vcpu, part_body, parts_at, shape_of}
 pub use Rattle.mig_records_pages.specs.PageData.{Frame, body_of, most_entries}
+pub use Rattle.mig_guest.specs.Frames.{FrameMap}
+pub use Rattle.mig_records_pages.specs.Copied.{Copies, CopyHasCause, IsPageBuffer}

@@ -1,7 +1,6 @@
 -- The canonical stream of a guest whose frames come from elsewhere: all else is this guest's.
 use Rattle.std.specs.Prelude.{ℕ, List, [], ◌++◌}
-use Rattle.mig_guest.specs.Frames.{FrameMap}
-use Rattle.mig_canon.specs.Common.{GuestOf, spelled, text_of}
+use Rattle.mig_canon.specs.Common.{GuestOf, spelled, text_of, FrameMap}
 use Rattle.mig_canon.specs.Canon.{headers, info_records, static_bodies, p2m_records, last_records}
 
 -- the guest with other frames

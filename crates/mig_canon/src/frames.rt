@@ -1,7 +1,6 @@
 ghost use Rattle.std.specs.Prelude.{◌≡◌, true, length};
-ghost use Rattle.mig_canon.specs.Common.{text_of};
+ghost use Rattle.mig_canon.specs.Common.{text_of, IsPageBuffer, Copies, CopyHasCause};
 ghost use Rattle.mig_canon.specs.Canon.{frame_bodies, batches};
-ghost use Rattle.mig_records_pages.specs.Copied.{IsPageBuffer, Copies, CopyHasCause};
 
 use mig_bytes::Sink;
 use mig_records_pages::{CopyFailed, FrameSequence, MOST_ENTRIES, write_page_data};

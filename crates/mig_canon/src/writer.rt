@@ -1,9 +1,7 @@
 ghost use Rattle.std.specs.Prelude.{◌≡◌, true};
 ghost use Rattle.std.specs.FinMap as maps;
-ghost use Rattle.mig_guest.specs.Frames.{FrameMap};
-ghost use Rattle.mig_canon.specs.Common.{Puts, FaultHasCause, IsFormed, IsWhole, text_of};
+ghost use Rattle.mig_canon.specs.Common.{Puts, FaultHasCause, IsFormed, IsWhole, text_of, FrameMap, IsPageBuffer, Copies, CopyHasCause};
 ghost use Rattle.std.specs.List.{flat_map};
-ghost use Rattle.mig_records_pages.specs.Copied.{IsPageBuffer, Copies, CopyHasCause};
 ghost use Rattle.mig_canon.specs.Canon.{headers, records_of, static_bodies, last_records, canon};
 ghost use Rattle.mig_canon.specs.Elsewhere.{with_frames, before_the_frames, behind_the_frames};
 

@@ -1,7 +1,6 @@
 -- Names that many proofs of this crate use.
 pub use Rattle.std.proofs.Common.{Bool, List, None, Option, Some, [], ap, append-nil, append_assoc, arith, cond, drop, false, filter, get_or, inl, inr, length, length-append, map, min, refl, replicate, subst, suc, sym, take, take-append-drop, true, zero, ℕ, ⊎_elim, ◌%◌, ◌*◌, ◌++◌, ◌+◌, ◌-◌, ◌/◌, ◌<◌, ◌^◌, ◌∙◌, ◌∷◌, ◌≡◌, ◌≤◌, ◌⊎◌}
 pub use Rattle.std.proofs.KnownBytes.{Appends-trans}
-pub use Rattle.std.proofs.Math.ListN.{set}
 pub use Rattle.std.proofs.lemmas.Bool.{and_parts, cases_lt, eqb-false, eqb-true, le-ltb, lt-ltb, ltb-false, or_cases, or_parts}
 pub use Rattle.std.proofs.lemmas.List.{append_cancel_left, drop-append-le, get_or-set_other, get_or-set_same, get_or-take, get_or_past, length-drop, length-map, length-replicate, length-take, map-append}
 pub use Rattle.std.specs.Cmp.{nat_cmp_total}
@@ -28,7 +27,7 @@ pub use Rattle.mig_dirtysave_parts.specs.SaveTexts.{ClosesStream, IsOtherRecord,
 pub use Rattle.mig_dirtysave_rounds.specs.Entries.{AreTold, IsToldEntry, MostSent, TellMost, frames_meant, pfns_sent, put_at, put_told}
 pub use Rattle.mig_dirtysave_rounds.specs.Forms.{form_of_print, form_page, is_lost, lost_in, lost_slot, superpage_in, superpage_slot}
 pub use Rattle.mig_dirtysave_rounds.specs.Live.{FramesSaved, HasRounds, IsUnsound, KeepsShape, ReadsExactly, forms, table_fault, tables_unsound, type_in}
-pub use Rattle.mig_dirtysave_rounds.specs.Parts.{entries_read, entries_read_before}
+pub use Rattle.mig_dirtysave_rounds.specs.Parts.{entries_read}
 pub use Rattle.mig_guest.proofs.Longs.{length_longs}
 pub use Rattle.mig_guest.proofs.PartOrder.{part_exact, part_total}
 pub use Rattle.mig_guest.proofs.PartRows.{one_code}

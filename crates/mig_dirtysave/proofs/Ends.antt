@@ -1,5 +1,5 @@
 -- What a save has written where it stopped early.
-use Rattle.mig_dirtysave.proofs.Common.{◌≡◌, ℕ, ◌+◌, ◌≤◌, Bool, true, false, List, [], ◌∷◌, ◌++◌, length, take, map, Option, refl, sym, ap, subst, ◌∙◌, arith, append_assoc, append-nil, inl, inr, AllByRecursion, Appends, append_known, Appends-trans, AppendsPart, Kind, Unsound, IsFormed, GuestOf, PartMap, spelled, Record, text_of, headers, text_join, text_one, has_emulators, opening_text, wrapper_opening, wrapper_closing, FrameTold, telling_record, all_told, WroteAll, WroteSome, IsRecordWithin, AreRecordsWithin, History, MachineState, entries_read, FramesSaved, text_before, ClosesStream, WroteNoStream, first_records, first_within, some_records, part_behind, IsLittleBehind, is_of_converter, opening_none, opening_some, HostOf, IsOtherRecord, MostSent, TellMost, others_are, all_behind, some_behind, no_history, StopsBehind, are_within, appends_first, WroteMost}
+use Rattle.mig_dirtysave.proofs.Common.{◌≡◌, ℕ, ◌+◌, ◌≤◌, Bool, true, false, List, [], ◌∷◌, ◌++◌, take, map, Option, refl, sym, ap, subst, ◌∙◌, arith, append_assoc, append-nil, inl, inr, AllByRecursion, Appends, append_known, Appends-trans, AppendsPart, Kind, Unsound, IsFormed, GuestOf, PartMap, spelled, Record, text_of, headers, text_join, text_one, has_emulators, opening_text, wrapper_opening, wrapper_closing, FrameTold, telling_record, WroteAll, WroteSome, IsRecordWithin, AreRecordsWithin, History, MachineState, entries_read, FramesSaved, text_before, ClosesStream, WroteNoStream, first_records, first_within, some_records, part_behind, IsLittleBehind, is_of_converter, opening_none, opening_some, HostOf, IsOtherRecord, MostSent, TellMost, others_are, all_behind, some_behind, no_history, StopsBehind, are_within, appends_first, WroteMost}
 use Rattle.mig_dirtysave_rounds.proofs.Saves.{size_none}
 use Rattle.mig_dirtysave.proofs.Written.{bare_headers, bare_some, wrapped_behind, wrapped_headers, wrapped_opening, wrapped_some}
 use Rattle.mig_dirtysave.proofs.Wrappers.{closing_cut}

@@ -6,10 +6,10 @@ pub use Rattle.mig_bytes.specs.Faults.{FaultHasCause}
 pub use Rattle.mig_canon.specs.Canon.{headers}
 pub use Rattle.mig_canon.specs.CanonStream.{bare_guest, opening_text, wrapper_closing, wrapper_opening}
 pub use Rattle.mig_dirtysave_parts.specs.KeptParts.{HoldsParts, SameEmulators, SameSettings, is_early, is_setting}
-pub use Rattle.mig_dirtysave_parts.specs.SaveTexts.{ClosesStream, IsOtherRecord, StopsBehind, settings_seen, text_before}
+pub use Rattle.mig_dirtysave_parts.specs.SaveTexts.{ClosesStream, IsOtherRecord, StopsBehind, settings_seen}
 pub use Rattle.mig_dirtysave_rounds.specs.Causes.{AnswerHasCause, FaultsHaveCauses}
-pub use Rattle.mig_dirtysave_rounds.specs.Entries.{AreTold, MostSent, TellMost, frames_meant, pfns_sent}
-pub use Rattle.mig_dirtysave_rounds.specs.Live.{AnswersTables, FramesSaved, HasRounds, IsUnsound, KeepsShape, ReadsExactly, SawTypes, forms, tables_unsound}
+pub use Rattle.mig_dirtysave_rounds.specs.Entries.{AreTold, TellMost, frames_meant, pfns_sent}
+pub use Rattle.mig_dirtysave_rounds.specs.Live.{AnswersTables, HasRounds, IsUnsound, KeepsShape, ReadsExactly, SawTypes, forms, tables_unsound}
 pub use Rattle.mig_dirtysave_rounds.specs.Parts.{entries_read}
 pub use Rattle.mig_guest.specs.Formed.{IsFormed}
 pub use Rattle.mig_guest.specs.Guests.{GuestOf}

@@ -36,6 +36,6 @@ pub use Rattle.mig_records_pages.specs.Written.{AreRecordsWithin, IsRecordWithin
 pub use Rattle.mig_canon.proofs.PvRecords.{p2m_short, short_part}
 pub use Rattle.mig_canon.proofs.Spelling.{codes_alone, pv_last_text, single_text}
 pub use Rattle.mig_pvtables.specs.Blank.{blanked_part}
-pub use Rattle.std.proofs.lemmas.Bool.{and_parts, cases_lt, leb-true, or_cases}
+pub use Rattle.std.proofs.lemmas.Bool.{cases_lt, leb-true, or_cases}
 pub use Rattle.std.proofs.lemmas.List.{length-replicate, take-append-le}
 pub use Rattle.std.specs.Ordering.{nat_cmp, ordering_reverse}

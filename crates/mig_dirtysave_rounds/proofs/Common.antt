@@ -18,7 +18,7 @@ pub use Rattle.mig_dirtysave_rounds.specs.Sends.{IsWorst, ReadsFront, SendsFront
 pub use Rattle.mig_dirtysave_rounds.specs.Step.{IsRaw, IsRenamed, IsRight, Looks, NameIsInside, ReadsOne, Settled, Strays, most_calls, put_slot, raw_print}
 pub use Rattle.mig_dirtysave_rounds.specs.Unused.{IsUnused}
 pub use Rattle.mig_dirtysave_rounds.specs.declared.found.Worst.{Worst}
-pub use Rattle.mig_guest.proofs.Sizes.{members_no, members_yes, next, same_size, size-le, size_more, size_stays}
+pub use Rattle.mig_guest.proofs.Sizes.{members_no, members_yes, size-le, size_more, size_stays}
 pub use Rattle.mig_guest.specs.Changes.{IsBelow, put_pfn}
 pub use Rattle.mig_guest.specs.Footprints.{Footprint, footprint, footprint_of, named_by, names_in, table_in}
 pub use Rattle.mig_guest.specs.Frames.{FrameMap, FrameOf, is_type_of}
@@ -35,7 +35,7 @@ pub use Rattle.mig_headers.specs.declared.kind.Kind.{Kind}
 pub use Rattle.mig_headers.specs.declared.kind.Kind.TheVariants.{Hvm, Pv}
 pub use Rattle.mig_pagetypes.specs.PageTypes.{level_of, type_has_data}
 pub use Rattle.mig_pagetypes.specs.declared.page_type.PageType.{PageType}
-pub use Rattle.mig_pagetypes.specs.declared.page_type.PageType.TheVariants.{Broken, L1Pinned, L1Tab, L2Pinned, L2Tab, L3Pinned, L3Tab, L4Pinned, L4Tab, Notab, Xalloc, Xtab}
+pub use Rattle.mig_pagetypes.specs.declared.page_type.PageType.TheVariants.{Broken, Notab, Xalloc, Xtab}
 pub use Rattle.mig_pvtables.proofs.LongSteps.{ChangedBelow, each_twice, next_below, one_changed, one_stays, still, walk_end, walk_start}
 pub use Rattle.mig_pvtables.proofs.Slots.{no_slot}
 pub use Rattle.mig_pvtables.specs.Renaming.{renamed_by}

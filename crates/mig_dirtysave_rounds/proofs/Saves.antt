@@ -1,5 +1,5 @@
 -- From round to round, and to the pause.
-use Rattle.mig_dirtysave_rounds.proofs.Common.{arith, ◌≡◌, ℕ, ◌+◌, ◌*◌, ◌^◌, ◌≤◌, ◌<◌, List, [], ◌∷◌, ◌++◌, length, Bool, true, false, cond, Option, Result, Ok, Err, refl, sym, ap, subst, ◌∙◌, length-append, ◌&&◌, OnErr, IfOk, nat_tests, length-map, fun_ext, Kind, Pv, Hvm, FrameTold, IsSent, AreTold, MostSent, behind_anyway, Pfns, no_pfns, members, size, LogTook, History, one_more, and_call, MachineState, LogTaken, GoesOn, to_read, rounds_read, all_read, pfns_sent, append-nil, most_calls, IsBelow, front, rest, entries_read, entries_read_before, Notes, ReadsFront, SendsFront, KeepsShape, Live, LiveSent, size-le, filter, AreCalls, AreRounds}
+use Rattle.mig_dirtysave_rounds.proofs.Common.{arith, ◌≡◌, ℕ, ◌+◌, ◌*◌, ◌^◌, ◌≤◌, ◌<◌, List, [], ◌∷◌, ◌++◌, length, Bool, true, false, cond, Option, Result, Ok, Err, refl, sym, ap, subst, ◌∙◌, length-append, ◌&&◌, OnErr, IfOk, nat_tests, fun_ext, Kind, Pv, Hvm, FrameTold, IsSent, AreTold, MostSent, behind_anyway, Pfns, no_pfns, members, size, LogTook, History, one_more, and_call, MachineState, LogTaken, GoesOn, to_read, rounds_read, all_read, pfns_sent, append-nil, most_calls, IsBelow, front, rest, entries_read_before, Notes, ReadsFront, SendsFront, KeepsShape, Live, LiveSent, size-le, filter, AreCalls, AreRounds}
 use Rattle.std.specs.Prelude.{nat_lt, OnOk}
 use Rattle.std.specs.List.{range_with_len}
 use Rattle.mig_dirtysave_rounds.proofs.Shapes.{stays_on, ran_stays, reads_stay}

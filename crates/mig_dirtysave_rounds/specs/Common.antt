@@ -6,7 +6,7 @@ pub use Rattle.mig_guest.specs.Footprints.{Footprint, footprint, footprint_of, n
 pub use Rattle.mig_guest.specs.Frames.{FrameMap, FrameOf, is_type_of}
 pub use Rattle.mig_guest.specs.History.{History, LogTook, no_history, nothing_asked, one_more}
 pub use Rattle.mig_guest.specs.Hosts.{HostFrame, HostFrames, most_saved_width, pfn_in}
-pub use Rattle.mig_guest.specs.MachineCalls.{LogTaken, Paused}
+pub use Rattle.mig_guest.specs.MachineCalls.{LogTaken}
 pub use Rattle.mig_guest.specs.MachineStates.{IsSameShape, IsValidState, MachineState, Ran, Stays}
 pub use Rattle.mig_guest.specs.Pfns.{Pfns, all_below, joined, members, no_pfns, pfns_of_words, size, with_pfn}
 pub use Rattle.mig_guest.specs.Rounds.{AreCalls, GoesOn, OfEachLog, Rounds, Tight, all_read, least_log, most_rounds, rounds_read, to_read}

@@ -34,7 +34,7 @@ pub use Rattle.mig_host_view.specs.View.{view, without_machine}
 pub use Rattle.mig_machine_script.specs.Groups.{ends_group, first_group, lines_up_to, ran, ran_between}
 pub use Rattle.mig_machine_script.specs.HostLines.{after, after_line, applies, logged_after, logs, with_logged}
 pub use Rattle.mig_machine_script.specs.ScriptLines.{LineOf, line_said}
-pub use Rattle.mig_machine_script.specs.ScriptLines.LineOf.{Add, Dot, Exchange, Put, Remove, Retype, Write}
+pub use Rattle.mig_machine_script.specs.ScriptLines.LineOf.{Dot, Write}
 pub use Rattle.mig_pagetypes.specs.PageTypes.{level_of, type_has_data}
 pub use Rattle.mig_pagetypes.specs.declared.page_type.PageType.TheVariants.{L1Tab, L2Tab, L3Tab, L4Pinned, Notab}
 pub use Rattle.mig_pagetypes.specs.Limits.{most_frames}

@@ -9,7 +9,7 @@ pub use Rattle.std.specs.FinMap.{FinMap, IsAntisymmetric, entries-from_sorted, f
 pub use Rattle.std.specs.FinMap.Entries.{below_all, find-where_key, is_sorted-where_key, where_key}
 pub use Rattle.std.specs.List.{All, AllByRecursion, flat_map, range_with_len}
 pub use Rattle.std.specs.Map.{keys_of, lookup}
-pub use Rattle.std.specs.Option.{ghost_name_of, option_and_then, option_copied, option_copied_mut, option_map, option_or, unwrap_or}
+pub use Rattle.std.specs.Option.{option_and_then, option_copied, option_copied_mut, option_map, option_or, unwrap_or}
 pub use Rattle.std.specs.Ordering.{eq_by_cmp, is_eq, is_le, is_lt, nat_cmp, ordering_then}
 pub use Rattle.std.specs.Prelude.{T, max, nat_lt, replicate, ◌&&◌, ◌==◌, ◌||◌}
 pub use Rattle.std.specs.declared.cmp.Ordering.{Ordering}

@@ -1,13 +1,10 @@
 -- One more entry of a chain, and where the chain ends.
 use Rattle.std.proofs.Common.{◌≡◌, ℕ, ◌+◌, ◌-◌, ◌<◌, ◌≤◌, List, length, Option, Some, None, Result, Ok, Err, Bool, true, false, is_some, refl, sym, subst, cond, arith, [], ◌∷◌, not, nat_eq, nat_lt, nat_le, ltb-false}
-use Rattle.std.specs.Prelude.{◌&&◌}
-use Rattle.std.proofs.lemmas.Bool.{eqb-true}
+use Rattle.mig_headers.proofs.Common.{◌&&◌, eqb-true, common_steps, here, next}
 use Rattle.mig_bytes.specs.Fields.{le16, le32}
 use Rattle.mig_bytes.proofs.Walks.{walk_end_ends, walk_end_reached, walk_end_is}
 use Rattle.mig_headers.specs.declared.fault.ContextFault.TheVariants.{NoHeader, HeaderSize, ShortEntry, NoEnd}
-use Rattle.std.proofs.lemmas.Grind.{common_steps}
 use Rattle.mig_bytes.specs.Walk.{walk_end}
-use Rattle.mig_bytes.specs.Walk.Reaches.{here, next}
 use Rattle.mig_headers.specs.declared.fault.ContextFault.{ContextFault}
 use Rattle.mig_headers.proofs.FirstFaults.{rows_fine, no_fault}
 use Rattle.mig_headers.specs.Contexts.{ChainTo, Scanned, scan, scan_at, fault_at, is_last, entry_end, after_entry}

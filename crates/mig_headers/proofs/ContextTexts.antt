@@ -1,14 +1,12 @@
 -- A chain without fault is one that is spelled as entries and END.
 use Rattle.std.proofs.Common.{◌≡◌, ◌⊎◌, inl, inr, ℕ, ◌+◌, ◌-◌, ◌<◌, ◌≤◌, List, [], ◌∷◌, ◌++◌, length, take, drop, replicate, get_or, Some, None, Ok, Bool, true, false, not, nat_eq, nat_lt, is_some, refl, sym, ap, subst, ◌∙◌, arith, append_assoc, append-nil, length-append, length-take-le, length-drop, take-append-drop, drop-drop, eqb-true, ltb-false}
-use Rattle.std.specs.Prelude.{◌&&◌}
+use Rattle.mig_headers.proofs.Common.{◌&&◌, common_steps, here, next}
 use Rattle.std.proofs.Math.Seq.{take-add, take-append_seam, drop-append-add}
 use Rattle.std.proofs.Math.ListN.{get_or-append}
 use Rattle.std.proofs.lemmas.List.{get_or-drop}
 use Rattle.byteorder.specs.Endian.{little_number}
-use Rattle.std.proofs.lemmas.Grind.{common_steps}
 use Rattle.std.proofs.lemmas.Bool.{and_right, not-false}
 use Rattle.mig_bytes.specs.Fields.{le16, le32}
-use Rattle.mig_bytes.specs.Walk.Reaches.{here, next}
 use Rattle.mig_headers.specs.Contexts.{ChainTo, cut_at, scan, fault_at, is_last, entry_end, after_entry, ContextEntry, IsEntryHead, AreContextEntries, BeginsWithHeader, IsContext, ContextsAreSpelled}
 use Rattle.mig_headers.proofs.Chains.{Sound, sound_of, fine_of, chain_more, scan_is, scan_found, end_fits, gone, none_of, not_last, not_first, and_false, then_false, le_false, lt_false}
 

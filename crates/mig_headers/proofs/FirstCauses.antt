@@ -1,11 +1,9 @@
 -- Tables of causes: the first row whose test holds is the cause that is named.
 use Rattle.std.proofs.Common.{◌≡◌, ◌⊎◌, inl, inr, ℕ, List, [], ◌∷◌, ◌++◌, Bool, true, false, nat_lt, nat_eq, Option, Some, None, refl, sym, ap, subst, arith, ltb-true, eqb-true}
 use Rattle.std.specs.Prelude.{◌&&◌, ◌||◌}
-use Rattle.std.specs.List.{list_all}
-use Rattle.std.specs.Option.{option_or}
+use Rattle.mig_headers.proofs.Common.{list_all, option_or, first_fault}
 use Rattle.std.proofs.lemmas.Bool.{and_parts, or_cases, false≢true}
 use Rattle.mig_headers.specs.FirstCauses.{IsEarlier, IsTriedFirst}
-use Rattle.mig_headers.specs.Rows.{first_fault}
 
 -- a computed cause is the one that is named
 pub record Names {C : Type 0} (Named : List ℕ → C → Type 0) (fault : List ℕ → Option C) : Type 0 where

@@ -1,8 +1,6 @@
 -- Tables of faults of which no row's test holds.
 use Rattle.std.proofs.Common.{◌≡◌, List, [], ◌∷◌, Bool, true, false, Option, Some, None, refl}
-use Rattle.std.specs.List.{AllByRecursion}
-use Rattle.std.specs.Option.{option_or}
-use Rattle.mig_headers.specs.Rows.{first_fault}
+use Rattle.mig_headers.proofs.Common.{AllByRecursion, option_or, first_fault}
 
 some_none : {C : Type 0} {c : C} → Some c ≡ None → ⊥
 some_none e = cc

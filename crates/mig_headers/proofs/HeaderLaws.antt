@@ -1,17 +1,13 @@
 -- The headers without a fault are those that are spelled, and what is written of a header is spelled so.
 use Rattle.std.proofs.Common.{◌≡◌, ◌↔◌, ◌⊎◌, ℕ, ◌+◌, ◌%◌, ◌^◌, ◌<◌, List, [], ◌∷◌, ◌++◌, length, drop, take, Option, Some, None, Result, Ok, Err, not, ◌&&◌, ◌==◌, refl, sym, ap, ◌∙◌, inl, inr, arith, length-append, subst}
-use Rattle.std.proofs.lemmas.Bool.{eqb-true}
+use Rattle.mig_headers.proofs.Common.{eqb-true, Kind, Pv, Hvm, Cause, first_fault}
 use Rattle.std.proofs.Math.Seq.{drop-append-add}
 use Rattle.byteorder.specs.Endian.{little_bytes, big_bytes}
 use Rattle.byteorder.specs.Numbers.{big_from-append, little_number-reads_back}
 use Rattle.mig_bytes.specs.Fields.{le16, le32, be16, be32, be64}
-use Rattle.mig_headers.specs.declared.kind.Kind.{Kind}
-use Rattle.mig_headers.specs.declared.kind.Kind.TheVariants.{Pv, Hvm}
-use Rattle.mig_headers.specs.declared.fault.Cause.{Cause}
 use Rattle.mig_headers.specs.declared.fault.Cause.TheVariants.{NotStream, BadId, BadVersion, BigEndian, BadKind, BadPageShift}
 use Rattle.mig_headers.specs.declared.header.ImageHeader.{ImageHeader}
 use Rattle.mig_headers.specs.declared.header.DomainHeader.{DomainHeader}
-use Rattle.mig_headers.specs.Rows.{first_fault}
 use Rattle.mig_headers.specs.Headers.{marker, image_id, page_shift, kind_number, kind_of_number, unless_faulty, behind_marker, image_header_of, domain_header_of, IsImageHeader, IsDomainHeader}
 use Rattle.mig_headers.specs.HeaderValues.{image_header_in, domain_header_in}
 use Rattle.mig_headers.specs.HeaderLaws.{ImageHeaderIsSpelled, DomainHeaderIsSpelled, ImageHeadersAreReadBack, DomainHeadersAreReadBack}

@@ -1,12 +1,10 @@
 -- The libxl headers without a fault are those that are spelled, and what is written of a header is spelled so.
 use Rattle.std.proofs.Common.{◌≡◌, ◌↔◌, ℕ, ◌%◌, List, [], ◌∷◌, ◌++◌, length, drop, take, Bool, true, false, Result, Ok, not, ◌==◌, refl, sym, ap, ◌∙◌, arith, length-append, subst}
-use Rattle.std.proofs.lemmas.Bool.{eqb-true}
+use Rattle.mig_headers.proofs.Common.{eqb-true, Cause, first_fault}
 use Rattle.byteorder.specs.Endian.{big_bytes}
 use Rattle.mig_bytes.specs.Fields.{be32, be64}
-use Rattle.mig_headers.specs.declared.fault.Cause.{Cause}
 use Rattle.mig_headers.specs.declared.fault.Cause.TheVariants.{BadVersion, BigEndian}
 use Rattle.mig_headers.specs.declared.header.LibxlHeader.{LibxlHeader}
-use Rattle.mig_headers.specs.Rows.{first_fault}
 use Rattle.mig_headers.specs.Headers.{libxl_ident, is_from_legacy, unless_faulty, behind_ident, libxl_header_of, IsLibxlHeader}
 use Rattle.mig_headers.specs.HeaderValues.{libxl_header_in}
 use Rattle.mig_headers.specs.HeaderLaws.{LibxlHeaderIsSpelled, LibxlHeadersAreReadBack}

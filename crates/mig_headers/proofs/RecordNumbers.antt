@@ -1,7 +1,7 @@
 -- The numbers of the record types.
 use Rattle.std.proofs.Common.{◌≡◌, ℕ, zero, suc, ◌+◌, List, [], ◌∷◌, Bool, true, false, nat_eq, Some, refl, sym, ap, ◌∙◌, arith, eqb-true}
 use Rattle.std.specs.Prelude.{slice_get, ◌&&◌}
-use Rattle.std.proofs.lemmas.Bool.{and_parts}
+use Rattle.mig_headers.proofs.Common.{and_parts}
 use Rattle.mig_headers.specs.declared.record_type.RecordType.{RecordType}
 use Rattle.mig_headers.specs.declared.record_type.RecordType.TheVariants.{End}
 use Rattle.mig_headers.specs.RecordTypes.{type_number, type_of_number, is_optional, record_types, NumbersAreInverse}

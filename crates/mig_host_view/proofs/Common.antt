@@ -8,7 +8,7 @@ pub use Rattle.std.specs.FinMap.{entries_sorted, get-entries, nat_cmp-IsAntisymm
 pub use Rattle.std.specs.List.{All, range_with_len}
 pub use Rattle.std.specs.Option.{option_map, option_or}
 pub use Rattle.std.specs.Prelude.{Err, Ok, Result, find, nat_le, option_and_then, replicate, unwrap_or, ◌&&◌, ◌==◌, ◌||◌}
-pub use Rattle.mig_bytes.proofs.ByteLists.{Bytes, bytes_from, long_below}
+pub use Rattle.mig_bytes.proofs.ByteLists.{Bytes, long_below}
 pub use Rattle.mig_bytes.specs.Bytes.{AreBytes}
 pub use Rattle.mig_guest.proofs.Longs.{length_longs, same_longs}
 pub use Rattle.mig_guest.proofs.PartOrder.{part_exact, part_total}
@@ -49,7 +49,7 @@ pub use Rattle.mig_pvtables.proofs.PvGuests.{no_entry, no_p2m, none_misses, pv_c
 pub use Rattle.mig_pvtables.proofs.Renamed.{EntryGoesBack, TableGoesBack, by_frames, fits_back, renamed_long, renamed_says, said_anew, table_back}
 pub use Rattle.mig_pvtables.proofs.SameShape.{entries_changed, kept_p2m, mapped_holds, repaged_is_frame, types_kept}
 pub use Rattle.mig_pvtables.proofs.Searches.{all_none, cond_none, find_in_range, first_found, is_there, none_mapped, overwritten}
-pub use Rattle.mig_pvtables.proofs.Walks.{IsSoBehind, contexts_start, in_fields, large_in, taken}
+pub use Rattle.mig_pvtables.proofs.Walks.{IsSoBehind, contexts_start, large_in}
 pub use Rattle.mig_pvtables.specs.BadEntries.{NamesKnown, is_unknown}
 pub use Rattle.mig_pvtables.specs.Blank.{IsOfBytes, blank, blank_of, blanked_frame, blanked_page, blanked_part, each_value, table_changed}
 pub use Rattle.mig_pvtables.specs.BlankSteps.{blanked_code, only, where_listed, with_table_changed, with_zero_page, written_at, written_where_listed}

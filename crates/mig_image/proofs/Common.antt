@@ -1,7 +1,7 @@
 -- Names that many proofs of this crate use.
-pub use Rattle.std.proofs.Common.{Bool, Err, IfNone, IfSome, IsSome, List, None, Ok, OnOk, Option, Result, Some, [], ap, append-nil, append_assoc, arith, codes, cond, drop, drop-drop, false, filter, get_or, is_some, length, length-append, length-drop, nat_eq, nat_le, nat_lt, not, refl, replicate, rules, subst, suc, sym, take, take-append-drop, true, unwrap_or, zero, ℕ, ◌%◌, ◌*◌, ◌++◌, ◌+◌, ◌-◌, ◌/◌, ◌<◌, ◌^◌, ◌∙◌, ◌∷◌, ◌≡◌, ◌≤◌}
+pub use Rattle.std.proofs.Common.{Bool, Err, IsSome, List, None, Ok, OnOk, Option, Result, Some, [], ap, append-nil, append_assoc, arith, codes, cond, drop, drop-drop, false, filter, get_or, is_some, length, length-append, length-drop, nat_eq, nat_le, nat_lt, not, refl, replicate, rules, subst, suc, sym, take, take-append-drop, true, unwrap_or, zero, ℕ, ◌%◌, ◌*◌, ◌++◌, ◌+◌, ◌-◌, ◌/◌, ◌<◌, ◌^◌, ◌∙◌, ◌∷◌, ◌≡◌, ◌≤◌}
 pub use Rattle.mig_pagetypes.specs.Limits.{top_limit, most_frames, machine_limit}
-pub use Rattle.std.proofs.lemmas.Bool.{and_from, and_left, and_parts, and_right, eq-eqb, eqb-false, eqb-true, false_from_ne_true, le-leb, le-ltb, leb-false, leb-true, lt-leb, ltb-false, ne_eqb, not-false, or_from, or_parts, true≢false}
+pub use Rattle.std.proofs.lemmas.Bool.{and_from, and_left, and_parts, and_right, eq-eqb, eqb-false, eqb-true, false_from_ne_true, le-leb, le-ltb, leb-false, lt-leb, ltb-false, ne_eqb, not-false, or_from, or_parts, true≢false}
 pub use Rattle.std.proofs.lemmas.Grind.{common_steps, flat_map-append}
 pub use Rattle.std.proofs.lemmas.List.{append_cancel_right, length-replicate, take-replicate, take_all}
 pub use Rattle.std.proofs.lemmas.List.Elements.{All-drop, All-from_recursion, All-head, filter-append, recursion_from_All}
@@ -13,7 +13,7 @@ pub use Rattle.std.specs.Io.KnownBytes.{Appends, Consumes}
 pub use Rattle.std.specs.List.{All, AllByRecursion, flat_map, list_all, list_any}
 pub use Rattle.std.specs.Option.{option_copied}
 pub use Rattle.std.specs.Ordering.{is_lt, nat_cmp, ordering_reverse, ordering_then}
-pub use Rattle.std.specs.Prelude.{T, if◌then◌else◌, ◌&&◌, ◌==◌, ◌||◌}
+pub use Rattle.std.specs.Prelude.{T, if◌then◌else◌, ◌&&◌, ◌==◌, ◌||◌, max}
 pub use Rattle.std.specs.Result.{IsErrAnd}
 pub use Rattle.std.specs.declared.cmp.Ordering.{Ordering}
 pub use Rattle.std.specs.declared.cmp.Ordering.TheVariants.{Equal, Greater, Less}
@@ -36,10 +36,10 @@ pub use Rattle.mig_bytes_form.specs.Form.FormOf.{Gives as Giving}
 pub use Rattle.mig_bytes_form.specs.Tests.{first_named, is_passed}
 pub use Rattle.mig_guest.proofs.PartOrder.{part_exact, part_total}
 pub use Rattle.mig_guest.proofs.PartRows.{number_found, numbered, one_code}
-pub use Rattle.mig_guest.specs.Formed.{IsRawContent}
+pub use Rattle.mig_guest.specs.Formed.{IsRawContent, IsFormed}
 pub use Rattle.mig_guest.specs.Frames.{entries_from, is_type_of}
 pub use Rattle.mig_guest.specs.Hosts.{HostFrame, HostFrames, HostOf, IsHostFrame, IsHostPart, IsValid, most_width}
-pub use Rattle.mig_guest.specs.Order.{IsAbove, part_cmp}
+pub use Rattle.mig_guest.specs.Order.{part_cmp}
 pub use Rattle.mig_guest.specs.Parts.{FitsPolicy, NextKey, PartMap, parts_behind, parts_of}
 pub use Rattle.mig_guest.specs.declared.part_key.PartKey.{PartKey}
 pub use Rattle.mig_headers.specs.Headers.{kind_number, kind_of_number}
@@ -53,9 +53,9 @@ pub use Rattle.mig_headers.specs.RecordTypes.{most_policy_entries, vcpu_limit}
 pub use Rattle.mig_image.specs.Answer.{BeginsWithGuestImage, IsHost}
 pub use Rattle.mig_image.specs.declared.version.GuestImageVersion.{GuestImageVersion}
 pub use Rattle.mig_image.specs.declared.version.GuestImageVersion.TheVariants.{One, Two}
-pub use Rattle.mig_host.specs.HostView.{HostAndSpare, has_machine, put_frame, put_part_in}
-pub use Rattle.mig_image.specs.GuestImage.{IsGuestImage, IsGuestImageUpTo, frame_text, host_word, image_name, is_all_zero, is_left_out, leaves_out, most_width_of, page_left_out, page_text, part_text, pfn_bits, type_bit, zero_flag}
-pub use Rattle.mig_image.specs.GuestImageParts.{code_allows, code_fits, frame_said, has_frame_from, has_part_from, has_zero_flag, head_key, head_pfn, head_type, head_type_number, head_version, is_sent, name_number, opened, page_unsent, version_named}
+pub use Rattle.mig_host.specs.HostView.{HostAndSpare, has_machine, put_frame, put_part_in, with_machine}
+pub use Rattle.mig_image.specs.GuestImage.{IsGuestImage, IsGuestImageUpTo, frame_text, host_word, image_name, is_all_zero, is_left_out, leaves_out, most_width_of, page_left_out, page_text, part_text, zero_flag, frame_head_of, guest_image}
+pub use Rattle.mig_image.specs.GuestImageParts.{code_allows, code_fits, frame_said, has_frame_from, has_part_from, has_zero_flag, head_key, head_pfn, head_type, head_type_number, head_version, name_number, opened, version_named}
 unfoldable pub use Rattle.mig_image.specs.GuestImageForm.{guest_image_form}
 pub use Rattle.mig_image.specs.GuestImageForm.{behind_frames, behind_head, content_causes, part_bytes_form, count_form, frame_causes, frame_head_form, frames_form, full_policy, host_at, host_frame_form, host_head_causes, host_head_form, host_part_form, host_parts_form, padding_causes, padding_form, page_causes, page_form, part_causes, part_head_form, reserved_bits, sent_page_form}
 pub use Rattle.mig_image.specs.PartCounts.{Counts}
@@ -68,3 +68,8 @@ pub use Rattle.mig_image.specs.FrameEnds.{EndsAt}
 pub use Rattle.mig_pagetypes.specs.declared.page_type.PageType.TheVariants.{Broken, Xalloc, Xtab}
 pub use Rattle.std.proofs.KnownBytes.{Appends-trans}
 pub use Rattle.std.proofs.lemmas.Nat.{be_bytes_8, le_or_l}
+pub use Rattle.mig_bytes.specs.Fields.{le32, le64}
+pub use Rattle.mig_guest.specs.Guests.{GuestOf}
+pub use Rattle.mig_image.specs.Behind.{HaveRoom, parts_text}
+pub use Rattle.mig_image.specs.PagesHeld.{AreFrames, HoldsPages}
+pub use Rattle.mig_host.specs.Hosted.{least_width, with_machines_from}

@@ -1,5 +1,5 @@
 -- The frames of the host that an HVM guest becomes, written from frames that come from elsewhere.
-use Rattle.mig_image.proofs.Common.{◌≡◌, ℕ, ◌+◌, ◌-◌, ◌*◌, ◌<◌, ◌≤◌, ◌^◌, zero, suc, List, [], ◌∷◌, ◌++◌, length, take, drop, Option, Some, None, refl, sym, ap, subst, ◌∙◌, arith, append_assoc, append-nil, drop-drop, length-append, take-append-drop, flat_map, flat_map-append, codes, little_bytes, Kind, Hvm, HostFrame, kind_number, recursion_from_All, each_entry, nat_cmp, nat_cmp_total, nat_cmp-IsAntisymmetric, common_steps, ◌%◌}
+use Rattle.mig_image.proofs.Common.{◌≡◌, ℕ, ◌+◌, ◌-◌, ◌*◌, ◌<◌, ◌≤◌, ◌^◌, zero, suc, List, [], ◌∷◌, ◌++◌, length, take, drop, Option, Some, None, refl, sym, ap, subst, ◌∙◌, arith, append_assoc, drop-drop, length-append, take-append-drop, flat_map, codes, little_bytes, Hvm, HostFrame, kind_number, each_entry, nat_cmp, nat_cmp_total, nat_cmp-IsAntisymmetric, common_steps, ◌%◌, IsFormed, GuestOf, with_machine, parts_text, frame_head_of, frame_text, guest_image, page_text, AreFrames, HoldsPages, Two}
 use Rattle.std.proofs.Math.Seq.{drop-append_seam, take-append_seam}
 use Rattle.std.proofs.lemmas.List.{drop-take}
 use Rattle.std.proofs.Common.{Bor}
@@ -8,19 +8,12 @@ use Rattle.std.specs.FinMap as maps
 use Rattle.std.specs.Option.{MatchOption}
 use Rattle.std.specs.Ordering.{ord_max}
 use Rattle.std.specs.Prelude.{max, ◌≢◌}
-use Rattle.mig_guest.specs.Formed.{IsFormed}
-use Rattle.mig_guest.specs.Frames.{FrameMap, FrameOf, IsFrame}
-use Rattle.mig_guest.specs.Guests.{GuestOf}
+use Rattle.mig_guest.specs.Frames.{FrameOf, IsFrame}
 use Rattle.mig_host.proofs.CountedUp.{counted_behind, counted_length, hosted_frames, hosted_parts, hosted_wide}
 use Rattle.mig_host.proofs.HostedGuests.{base_inside}
-use Rattle.mig_host.specs.HostView.{with_machine}
 use Rattle.mig_host.specs.Hosted.{CanBeHosted, hosted, least_width, with_machines_from}
-use Rattle.mig_image.specs.Behind.{parts_text}
-use Rattle.mig_image.specs.GuestImage.{frame_head_of, frame_text, guest_image, page_text}
-use Rattle.mig_image.specs.PagesHeld.{AreFrames, HoldsPages}
-use Rattle.mig_image.specs.declared.version.GuestImageVersion.TheVariants.{Two}
 use Rattle.mig_image.proofs.FrameHeads.{head_len}
-use Rattle.mig_image.proofs.Writers.{drop_next, image_is}
+use Rattle.mig_image.proofs.Writers.{image_is}
 use Rattle.mig_records_pages.specs.PageData.{Frame, page_in, pages_of}
 
 -- an array that was taken of a part has its bytes

@@ -1,7 +1,6 @@
 -- What was taken as a host is its image, where it is bytes, whatever follows it.
-use Rattle.mig_image.proofs.Common.{◌≡◌, ◌≤◌, ℕ, List, [], ◌++◌, Option, Some, None, Ok, sym, ap, subst, ◌∙◌, append-nil, append_cancel_right, Consumes, AreBytes, TakesBytes, AgreesWithJudging, Passes, HostOf, HostAndSpare, IsHost, BeginsWithGuestImage, IsGuestImageUpTo, most_width, guest_image_form, host_at}
+use Rattle.mig_image.proofs.Common.{◌≡◌, ◌≤◌, ℕ, List, [], ◌++◌, Option, Some, None, Ok, sym, ap, subst, ◌∙◌, append-nil, append_cancel_right, Consumes, AreBytes, TakesBytes, AgreesWithJudging, Passes, HostOf, HostAndSpare, IsHost, BeginsWithGuestImage, IsGuestImageUpTo, most_width, guest_image_form, host_at, guest_image}
 use Rattle.mig_bytes_form.proofs.Verdicts.{passes_is_spelled, spelled_passes}
-use Rattle.mig_image.specs.GuestImage.{guest_image}
 use Rattle.mig_image.proofs.ImageBack.{image_back}
 
 module _ (widest : ℕ) (few_widths : widest ≤ most_width) where

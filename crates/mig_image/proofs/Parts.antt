@@ -1,17 +1,14 @@
 -- The parts of an image: what they spell is read, what is read they spell, and both are the parts of a valid host.
-use Rattle.mig_image.proofs.Common.{◌≡◌, ℕ, ◌^◌, ◌<◌, ◌≤◌, Bool, true, false, not, nat_eq, List, [], ◌∷◌, ◌++◌, length, replicate, Some, None, refl, sym, ap, subst, ◌∙◌, arith, append_assoc, ◌+◌, cond, nat_le, Option, length-append, ◌*◌, ◌&&◌, ◌||◌, ◌==◌, if◌then◌else◌, T, list_all, AllByRecursion, and_from, eqb-true, not-false, and_parts, leb-false, eq-eqb, and_left, and_right, lt-leb, true≢false, common_steps, length-replicate, filter-append, nat_cmp, is_lt, ordering_then, Ordering, Less, Equal, Greater, nat_cmp-IsAntisymmetric, where_key, is_sorted-where_key, little_bytes, little_number-reads_back, padding_len, Judged, Passes, ImageCause, Truncated, Kind, Pv, Hvm, top_limit, no_fault, rows_fine, Part, PartKey, IsRawContent, HostOf, IsHostPart, IsValid, numbered, one_code, number_found, PartMap, parts_of, FitsPolicy, part_cmp, part_total, part_exact, part_text, head_key, code_fits, code_allows, has_part_from, put_part_in, Bytes, bytes_front, word_below, Counts, FormOf, Giving, judged_as, ◌>>>◌, first_named, is_passed, full_policy, part_causes, content_causes, padding_causes, part_head_form, part_bytes_form, padding_form, host_part_form, host_parts_form, then_goes, both_go, bytes_go, bytes_gone, gives_goes, gives_gone, steps_go, most_policy_entries, vcpu_limit, entries_behind, no_entries, has_from, get_at, each_entry, few_ranks, nat_rises, valid_part}
+use Rattle.mig_image.proofs.Common.{◌≡◌, ℕ, ◌^◌, ◌<◌, ◌≤◌, Bool, true, false, not, nat_eq, List, [], ◌∷◌, ◌++◌, length, replicate, Some, None, refl, sym, ap, subst, ◌∙◌, arith, append_assoc, ◌+◌, cond, nat_le, Option, length-append, ◌*◌, ◌&&◌, ◌||◌, ◌==◌, if◌then◌else◌, T, list_all, AllByRecursion, and_from, eqb-true, not-false, and_parts, leb-false, eq-eqb, and_left, and_right, lt-leb, true≢false, common_steps, length-replicate, filter-append, nat_cmp, is_lt, ordering_then, Ordering, Less, Equal, Greater, nat_cmp-IsAntisymmetric, where_key, is_sorted-where_key, little_bytes, little_number-reads_back, padding_len, Judged, Passes, ImageCause, Truncated, Kind, Pv, Hvm, top_limit, no_fault, rows_fine, Part, PartKey, IsRawContent, HostOf, IsHostPart, IsValid, numbered, one_code, number_found, PartMap, parts_of, FitsPolicy, part_cmp, part_total, part_exact, part_text, head_key, code_fits, code_allows, has_part_from, put_part_in, Bytes, bytes_front, word_below, Counts, FormOf, Giving, judged_as, ◌>>>◌, first_named, is_passed, full_policy, part_causes, content_causes, padding_causes, part_head_form, part_bytes_form, padding_form, host_part_form, host_parts_form, then_goes, both_go, bytes_go, bytes_gone, gives_goes, gives_gone, steps_go, most_policy_entries, vcpu_limit, entries_behind, no_entries, has_from, get_at, each_entry, few_ranks, nat_rises, valid_part, GuestOf, valid_empty, HaveRoom}
 use Rattle.std.specs.FinMap as maps
 use Rattle.mig_bytes.specs.Fields.{le32}
 use Rattle.mig_headers.specs.Pairs.{are_canonical_pairs, AreCanonicalPairs}
 use Rattle.mig_headers.proofs.PairTexts.{canonical_pairs_are_computed}
 use Rattle.mig_guest.proofs.PartRows.{host_part}
 use Rattle.mig_guest.specs.Formed.{IsFormed, IsPart, width_of}
-use Rattle.mig_guest.specs.Guests.{GuestOf}
 use Rattle.mig_guest.specs.declared.part_code.PartCode.{PartCode}
 use Rattle.mig_guest.specs.declared.part_code.PartCode.TheVariants.{EmulatorPairs, CpuidLeaf, Msr, P2mFrames}
 use Rattle.mig_guest.specs.PartCodes.{code_number, code_of_number, row_of}
-use Rattle.mig_host.proofs.HostsMade.{valid_empty}
-use Rattle.mig_image.specs.Behind.{HaveRoom}
 use Rattle.mig_image.specs.GuestImage.{part_head_of}
 use Rattle.mig_image.proofs.FieldBytes.{word_then, word_last, regroup}
 use Rattle.mig_image.proofs.ZeroPages.{all_zero, only_zeros}

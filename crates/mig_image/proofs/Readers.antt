@@ -1,8 +1,7 @@
 -- How what the readers of an image give joins, and what a head without a fault says.
-use Rattle.mig_image.proofs.Common.{IsErrAnd, Bool, ◌≡◌, ℕ, List, Option, Result, Ok, Err, refl, sym, subst, ◌+◌, true, false, cond, length, Some, None, is_some, ap, ◌∙◌, ◌==◌, eqb-false, none-some, same_Some, nat_cmp_total, nat_cmp-IsAntisymmetric, len-insert, len-entries, Judged, AgreesWithJudging, done, ImageCause, not, ◌&&◌, rows_fine, ImagePlace, Parts, PageType, type_has_data, HostOf, HostFrame, HostFrames, IsHostFrame, head_key, put_part_in, head_pfn, head_type, has_frame_from, GuestImageVersion, has_zero_flag, head_version, page_left_out, frame_said, put_frame, opened, behind_head, HostAndSpare, IsHost, FormOf, Giving, judged_as, ◌>>>◌, placed_form, first_named, frame_causes, part_head_form, part_bytes_form, padding_form, host_part_form, sent_page_form, page_form, frame_head_form, host_frame_form, frames_form, count_form, host_parts_form, behind_frames, judged_so, first_stops, then_read, told_then, nothing_read, placed_read, placed_stop, gives_goes, stop_at, any_stop, none_passes, EndsAt}
+use Rattle.mig_image.proofs.Common.{IsErrAnd, Bool, ◌≡◌, ℕ, List, Option, Result, Ok, Err, refl, sym, subst, ◌+◌, true, false, cond, length, Some, None, is_some, ap, ◌∙◌, ◌==◌, eqb-false, none-some, same_Some, nat_cmp_total, nat_cmp-IsAntisymmetric, len-insert, len-entries, Judged, AgreesWithJudging, done, ImageCause, not, ◌&&◌, rows_fine, ImagePlace, Parts, PageType, type_has_data, HostOf, HostFrame, HostFrames, IsHostFrame, head_key, put_part_in, head_pfn, head_type, has_frame_from, GuestImageVersion, has_zero_flag, head_version, page_left_out, frame_said, put_frame, opened, behind_head, HostAndSpare, IsHost, FormOf, Giving, judged_as, ◌>>>◌, placed_form, first_named, frame_causes, part_head_form, part_bytes_form, padding_form, host_part_form, sent_page_form, page_form, frame_head_form, host_frame_form, frames_form, count_form, host_parts_form, behind_frames, judged_so, first_stops, then_read, told_then, nothing_read, placed_read, placed_stop, gives_goes, stop_at, any_stop, none_passes, EndsAt, le32, le64}
 use Rattle.std.specs.FinMap as maps
 use Rattle.mig_bytes.specs.declared.stop.Stop.{Stop}
-use Rattle.mig_bytes.specs.Fields.{le32, le64}
 use Rattle.mig_image.proofs.Parts.{behind_bytes, behind_padding, behind_part_head}
 use Rattle.mig_image.proofs.FrameHeads.{page_if, unsent_if}
 use Rattle.mig_image.proofs.Frames.{frame_fits, behind_frame_head, behind_page, ends_behind}

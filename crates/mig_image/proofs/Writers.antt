@@ -1,10 +1,9 @@
 -- The pieces of an image, as they are put together and written one behind the other.
-use Rattle.mig_image.proofs.Common.{◌≡◌, ℕ, ◌+◌, ◌<◌, ◌≤◌, List, [], ◌∷◌, ◌++◌, length, take, drop, Option, Result, refl, sym, ap, subst, ◌∙◌, arith, take-append-drop, drop-drop, append-nil, ◌^◌, codes, length-drop, flat_map-append, take_all, All-head, All-drop, All-from_recursion, All, AllByRecursion, flat_map, IsErrAnd, Appends, little_bytes, AppendsPart, Puts, puts_then, puts_stop, puts_same, kind_number, Kind, PartKey, HostOf, PartMap, part_total, part_exact, frame_text, Two, Appends-trans, each_entry}
+use Rattle.mig_image.proofs.Common.{◌≡◌, ℕ, ◌+◌, ◌<◌, ◌≤◌, List, [], ◌∷◌, ◌++◌, length, take, drop, Option, Result, refl, sym, ap, subst, ◌∙◌, arith, take-append-drop, drop-drop, append-nil, ◌^◌, codes, length-drop, flat_map-append, take_all, All-head, All-drop, All-from_recursion, All, AllByRecursion, flat_map, IsErrAnd, Appends, little_bytes, AppendsPart, Puts, puts_then, puts_stop, puts_same, kind_number, Kind, PartKey, HostOf, PartMap, part_total, part_exact, frame_text, Two, Appends-trans, each_entry, HaveRoom, parts_text}
 use Rattle.std.proofs.lemmas.List.{length-drop}
 use Rattle.std.proofs.Math.Seq.{take-add}
 use Rattle.std.specs.FinMap as maps
 use Rattle.mig_bytes.specs.declared.failure.WriteFailed.{WriteFailed}
-use Rattle.mig_image.specs.Behind.{HaveRoom, parts_text}
 use Rattle.mig_image.specs.GuestImage.{host_head, guest_image}
 
 module _ {X : Type 0} where

@@ -21,3 +21,4 @@ pub use Rattle.mig_headers.specs.declared.kind.Kind.{Kind}
 pub use Rattle.mig_host.specs.HostView.{HostAndSpare, has_machine, put_frame, put_part_in}
 pub use Rattle.mig_pagetypes.specs.Limits.{machine_limit, most_frames, pfn_limit, top_limit}
 pub use Rattle.mig_pagetypes.specs.PageTypes.{number_of, type_has_data, type_of, type_or_none}
+pub use Rattle.mig_bytes_form.specs.Form.{judged_as}

@@ -1,7 +1,6 @@
 ghost use Rattle.std.specs.Prelude.{◌≡◌, ◌<◌, ◌+◌, ◌^◌, OnOk, IfOk, IsErrOf, length, Some, None, true};
 ghost use Rattle.std.specs.FinMap as maps;
-ghost use Rattle.mig_image.specs.Common.{TakesBytes, RisesOnReadFault, AgreesWithJudging, Memory, first_named, is_passed, most_frames, type_has_data, is_type_of};
-ghost use Rattle.mig_bytes_form.specs.Form.{judged_as};
+ghost use Rattle.mig_image.specs.Common.{TakesBytes, RisesOnReadFault, AgreesWithJudging, Memory, first_named, is_passed, most_frames, type_has_data, is_type_of, judged_as};
 ghost use Rattle.mig_image.specs.FrameEnds.{EndsAt};
 ghost use Rattle.mig_image.specs.GuestImage.{page_left_out};
 ghost use Rattle.mig_image.specs.GuestImageForm.{reserved_bits, frame_causes, page_causes, frame_head_form, sent_page_form, page_form, host_frame_form};

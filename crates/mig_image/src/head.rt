@@ -1,6 +1,5 @@
 ghost use Rattle.std.specs.Prelude.{◌≡◌, OnOk, IfOk, IsErrOf, None, nat_lt};
-ghost use Rattle.mig_image.specs.Common.{TakesBytes, RisesOnReadFault, le32, AgreesWithJudging, Memory, first_named, kind_of_number};
-ghost use Rattle.mig_bytes_form.specs.Form.{judged_as};
+ghost use Rattle.mig_image.specs.Common.{TakesBytes, RisesOnReadFault, le32, AgreesWithJudging, Memory, first_named, kind_of_number, judged_as};
 ghost use Rattle.mig_image.specs.GuestImage.{most_width_of};
 ghost use Rattle.mig_image.specs.GuestImageForm.{host_head_causes, host_head_form};
 ghost use Rattle.mig_image.specs.GuestImageParts.{head_version};

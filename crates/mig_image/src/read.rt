@@ -1,7 +1,6 @@
 ghost use Rattle.std.specs.Prelude.{◌≡◌, ◌≤◌, OnOk, IfOk, IsErrOf, length, None};
 ghost use Rattle.std.specs.FinMap as maps;
-ghost use Rattle.mig_image.specs.Common.{or_stop, TakesBytes, RisesOnReadFault, le64, AgreesWithJudging, Memory, first_named, most_frames, most_width};
-ghost use Rattle.mig_bytes_form.specs.Form.{judged_as};
+ghost use Rattle.mig_image.specs.Common.{or_stop, TakesBytes, RisesOnReadFault, le64, AgreesWithJudging, Memory, first_named, most_frames, most_width, judged_as};
 ghost use Rattle.mig_image.specs.Answer.{IsHost, ReadsHost, BeginsWithGuestImage};
 ghost use Rattle.mig_image.specs.GuestImageForm.{host_head_causes, frames_form, count_form, behind_head, host_at};
 ghost use Rattle.mig_image.specs.GuestImageParts.{opened};

@@ -1,7 +1,6 @@
 ghost use Rattle.std.specs.Prelude.{◌≡◌, ◌==◌, ◌+◌, ◌≤◌, ◌<◌, ⊤, OnOk, IfOk, IfNone, IsErrOf, length, None, if◌then◌else◌};
-ghost use Rattle.mig_image.specs.Common.{list_all, TakesBytes, RisesOnReadFault, AgreesWithJudging, Memory, first_named, is_passed, most_policy_entries, IsValid, code_of_number, PartMap};
+ghost use Rattle.mig_image.specs.Common.{list_all, TakesBytes, RisesOnReadFault, AgreesWithJudging, Memory, first_named, is_passed, most_policy_entries, IsValid, code_of_number, PartMap, judged_as};
 ghost use Rattle.std.specs.FinMap as maps;
-ghost use Rattle.mig_bytes_form.specs.Form.{judged_as};
 ghost use Rattle.mig_headers.specs.declared.kind.Kind.TheVariants.{Pv};
 ghost use Rattle.mig_image.specs.GuestImageForm.{part_causes, content_causes, full_policy, part_head_form, part_bytes_form, padding_form, host_part_form, host_parts_form};
 ghost use Rattle.mig_image.specs.GuestImageParts.{head_key, code_fits, code_allows, has_part_from};

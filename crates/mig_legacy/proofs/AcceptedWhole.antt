@@ -1,12 +1,11 @@
 -- An accepted guest is whole, with the parts of its device model: each chunk that is spelled leaves the guest on its way and the
 -- emulators well formed, and the tail sets the context.
-use Rattle.mig_legacy.proofs.Common.{◌≡◌, ℕ, ◌<◌, true, false, List, [], ◌++◌, length, Option, Some, None, refl, sym, ap, subst, ◌∙◌, arith, length-append, All-append, fold-append, AreBytes, Hvm, Pv, GuestOf, width_of, IsStreamed, guest_done, context_kept, EmulatorsOf, emulators_of, put_libxl_content, no_emulators, AreEmulators, IsStreamedBare, GrewByRecord, IsBegun, sent, put_record, empty_guest, sent_kind, words, page_data_words, ChunkKind, End, LegacyContent, LegacyChunk, LegacyTail, Nothing, param_key, tsc_key, store_records, image_records, tail_records, device_records, guest_without, device_model, is_legacy_ended, mean_legacy, put_entry, put_in_guest, put_in_emulators, put_tail, put_device, HasLegacyContent, StoreFits, FollowsLegacy, IsTail, IsDevice, AcceptedLegacy, blank, IsOfBytes, signature, IsFew, bytes_front, bytes_back, none_yet, IsWhole, empty_begun, grows_not}
+use Rattle.mig_legacy.proofs.Common.{◌≡◌, ℕ, ◌<◌, true, false, List, [], ◌++◌, length, Option, Some, None, refl, sym, ap, subst, ◌∙◌, arith, length-append, All-append, fold-append, AreBytes, Hvm, Pv, GuestOf, width_of, IsStreamed, guest_done, context_kept, EmulatorsOf, emulators_of, put_libxl_content, no_emulators, AreEmulators, IsStreamedBare, GrewByRecord, IsBegun, sent, put_record, empty_guest, sent_kind, words, page_data_words, ChunkKind, End, LegacyContent, LegacyChunk, LegacyTail, Nothing, param_key, tsc_key, store_records, image_records, tail_records, device_records, guest_without, device_model, is_legacy_ended, mean_legacy, put_entry, put_in_guest, put_in_emulators, put_tail, put_device, HasLegacyContent, StoreFits, FollowsLegacy, IsTail, IsDevice, AcceptedLegacy, blank, IsOfBytes, signature, IsFew, bytes_front, bytes_back, none_yet, IsWhole, empty_begun, grows_not, le32}
 use Rattle.mig_bytes.specs.Sequences.{Spells}
 use Rattle.mig_bytes.specs.Sequences.Spells.{no_part, one_more}
 use Rattle.mig_legacy.specs.Chunks.{IsWithinLimits}
 use Rattle.mig_legacy.proofs.ChunkNumbers.{sound_kind}
 use Rattle.mig_restore_form.proofs.AcceptedWhole.{entries_grow}
-use Rattle.mig_bytes.specs.Fields.{le32}
 use Rattle.mig_legacy.specs.Spelled.HasLegacyContent.{ends, batch, vcpus, clock, last_checkpoint, toolstack, value}
 use Rattle.mig_legacy.proofs.BatchFrames.{good_words}
 use Rattle.mig_legacy.proofs.Batches.{fine_words}

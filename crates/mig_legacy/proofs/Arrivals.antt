@@ -1,12 +1,8 @@
 -- The chunks of a legacy stream that the reader has behind it.
-use Rattle.mig_legacy.proofs.Common.{◌≡◌, ℕ, List, [], ◌∷◌, ◌++◌, Bool, true, false, length, Option, Result, Ok, Err, sym, subst, ap, ◌∙◌, placed_fine, placed_stops, AgreesWithJudging, stop_at, Stop, LegacyCause, Chunk, FrameMap, judged_as, chunk_form, LegacyChunk, is_end, is_legacy_ended, IsLegacySeen, FollowsLegacy, placed_chunk, chunks_at, ChunksSeen, sent, Hvm, image_records}
+use Rattle.mig_legacy.proofs.Common.{◌≡◌, ℕ, List, [], ◌∷◌, ◌++◌, Bool, true, false, length, Option, Result, Ok, Err, sym, subst, ap, ◌∙◌, placed_fine, placed_stops, AgreesWithJudging, stop_at, Stop, LegacyCause, Chunk, FrameMap, judged_as, chunk_form, LegacyChunk, is_end, is_legacy_ended, IsLegacySeen, FollowsLegacy, placed_chunk, chunks_at, ChunksSeen, sent, Hvm, image_records, any_stop, weakened, both_told, NotesOn, NotesChunks, put_chunk_frames}
 use Rattle.mig_bytes.proofs.Arrivals as fronts
-use Rattle.mig_bytes.proofs.Joins.{any_stop, weakened}
-use Rattle.mig_restore.proofs.Noted.{both_told}
-use Rattle.mig_restore.specs.Kept.{NotesOn}
 use Rattle.mig_legacy.proofs.ChunkTexts.{finds, ended_more}
 use Rattle.mig_legacy.proofs.Noted.{chunks_sent}
-use Rattle.mig_legacy.specs.Seen.{NotesChunks, put_chunk_frames}
 
 abbrev is_last : LegacyChunk → Bool
 is_last c = is_end c.kind

@@ -1,13 +1,12 @@
 -- Names that many proofs of this crate use.
-pub use Rattle.mig_bytes.proofs.Joins.{any_stop, both_pass, judged_so, mapped, part_passes, part_whole, passes_not, placed_passes, same_passes, stopped, then_passes, then_reads, tried_none, tried_passes, weakened}
+pub use Rattle.mig_bytes.proofs.Joins.{any_stop, both_pass, judged_so, mapped, part_passes, part_whole, passes_not, placed_passes, same_passes, stopped, then_passes, then_reads, weakened}
 pub use Rattle.mig_bytes.proofs.Placed.{placed_fine, placed_stops, placed_then, placed_ends}
 pub use Rattle.mig_bytes.proofs.Said.{said_goes, said_passes, said_read, said_refused, plain_read}
 pub use Rattle.mig_bytes.proofs.Sequences.{accepted_spelled, spelled_accepted, Found}
 pub use Rattle.mig_bytes.specs.Bytes.{AreBytes}
 unfoldable pub use Rattle.mig_bytes.specs.Fields.{le32}
-pub use Rattle.mig_bytes.specs.Fields.{be64}
 unfoldable pub use Rattle.mig_bytes.specs.Judged.{each}
-pub use Rattle.mig_bytes.specs.Judged.{Judged, ◌>>=◌, part, Matches, AgreesWithJudging, plain_at, said_at, placed, stop_at, tried}
+pub use Rattle.mig_bytes.specs.Judged.{Judged, ◌>>=◌, part, Matches, AgreesWithJudging, said_at, placed, stop_at, tried}
 pub use Rattle.mig_bytes.specs.Judged.Judged.{Passes, Faulty}
 pub use Rattle.mig_bytes.specs.declared.stop.Stop.{Stop}
 unfoldable pub use Rattle.mig_bytes_form.specs.Form.{judged_as, each_form, ◌>>>◌}
@@ -28,11 +27,11 @@ pub use Rattle.mig_headers.proofs.FirstFaults.{no_fault, rows_fine, both_none, n
 pub use Rattle.mig_headers.specs.Contexts.{scan, cut_at}
 pub use Rattle.mig_headers.specs.Pairs.{Pair}
 pub use Rattle.mig_headers.specs.declared.fault.ContextFault.{ContextFault}
-pub use Rattle.mig_guest.specs.Frames.{FrameMap}
+pub use Rattle.mig_guest.specs.Frames.{FrameMap, IsFew}
 pub use Rattle.mig_headers.specs.declared.kind.Kind.{Kind}
 pub use Rattle.mig_headers.specs.declared.kind.Kind.TheVariants.{Hvm, Pv}
 pub use Rattle.mig_headers.specs.declared.legacy_fault.LegacyCause.{LegacyCause}
-pub use Rattle.mig_headers.specs.declared.legacy_fault.LegacyCause.TheVariants.{Truncated, BodyTooLong, Modern, Tools32, BadContext, BadSignature, TooManyPairs, BadVcpuMax, BadToolstack}
+pub use Rattle.mig_headers.specs.declared.legacy_fault.LegacyCause.TheVariants.{Truncated, BadContext, TooManyPairs, BadToolstack}
 pub use Rattle.mig_headers.specs.declared.legacy_fault.LegacyPlace.{LegacyPlace}
 pub use Rattle.mig_headers.specs.declared.legacy_fault.LegacyPlace.TheVariants.{Start, Tail, Device, Chunk}
 pub use Rattle.mig_headers.specs.RecordTypes.{most_policy_entries, vcpu_limit, most_body}
@@ -41,13 +40,13 @@ unfoldable pub use Rattle.mig_legacy.specs.Chunks.{kind_of}
 pub use Rattle.mig_legacy.specs.Chunks.{IsNumberOf, number_causes, kind_numbered, unless_caused}
 unfoldable pub use Rattle.mig_legacy.specs.Judged.{toolstack, toolstack_fault}
 unfoldable pub use Rattle.mig_legacy.specs.LegacyForm.{tail_form, chunk_form}
-pub use Rattle.mig_legacy.specs.LegacyForm.{most_chunks, is_unpaired, frames_sent, pairs_of_toolstack, context_fault, signature, start_causes, place_causes, max_causes, length_causes, toolstack_causes, signature_causes, plain_form, length_form, counted_form, start_form, type_form, words_form, page_of_word, entry_form, batch_form, vcpus_form, clock_of, clock_form, toolstack_form, value_form, content_form, cut_context, tail_of, device_form}
+pub use Rattle.mig_legacy.specs.LegacyForm.{most_chunks, frames_sent, pairs_of_toolstack, context_fault, signature, start_causes, place_causes, max_causes, length_causes, toolstack_causes, signature_causes, plain_form, length_form, counted_form, start_form, type_form, words_form, page_of_word, entry_form, batch_form, vcpus_form, clock_of, clock_form, toolstack_form, value_form, content_form, cut_context, tail_of, device_form}
 unfoldable pub use Rattle.mig_legacy.specs.Legacy.{mean_legacy}
 pub use Rattle.mig_legacy.specs.Legacy.{LegacyContent, LegacyChunk, LegacyTail, LegacyStream, param_key, records_in, tail_records, image_records, guest_without, tsc_key, device_records, store_records, is_end, is_legacy_ended, store_key, device_key, pair_records, device_model, is_value_of, has_value}
 pub use Rattle.mig_legacy.specs.Legacy.LegacyContent.{Nothing, Frames, Value, Clock, Pairs}
 pub use Rattle.mig_legacy.specs.Meaning.{batch_entries, entries_of_chunks, parts_in, parts_of_chunks, parts_of_tail, parts_told, tail_value, value_in, last_value, toolstack_pairs, pairs_of_chunks, store_of}
-pub use Rattle.mig_restore.specs.Kept.{EntryStep, kept_guest}
-pub use Rattle.mig_legacy.specs.Seen.{IsLegacyBegun, IsLegacySeen, IsLegacyTaken, TakesLegacy, cut_short, put_device, put_in_emulators, put_in_guest, put_tail}
+pub use Rattle.mig_restore.specs.Kept.{EntryStep, kept_guest, NotesOn}
+pub use Rattle.mig_legacy.specs.Seen.{IsLegacyBegun, IsLegacySeen, IsLegacyTaken, TakesLegacy, cut_short, put_device, put_in_emulators, put_in_guest, put_tail, NotesChunks, put_chunk_frames}
 pub use Rattle.mig_legacy.specs.Spelled.{IsCounted, IsLegacyWord, IsLegacyBatch, FollowsLegacy, IsLegacy, AcceptedLegacy, IsStart, IsTail, IsDevice, IsLegacyComplete, HasLegacyContent, StoreFits}
 unfoldable pub use Rattle.mig_legacy.specs.Stream.{device_at, legacy_at}
 pub use Rattle.mig_legacy.specs.Stream.{chunks_at, placed_chunk, IsLegacyRefused}
@@ -76,14 +75,13 @@ unfoldable pub use Rattle.mig_restore_form.specs.Mean.{sent, mean}
 pub use Rattle.mig_restore_form.specs.Mean.{put_record, empty_guest, entries_of, last_entry, frame_in, same_key, last_bytes, type_in_guest, put_entry, put_entries_by, GrewByRecord, IsBegun}
 pub use Rattle.mig_restore_form.specs.Record.{StreamRecord, FrameEntry}
 pub use Rattle.mig_restore_form.specs.Spelled.{AreEntries, IsGoodWord}
-pub use Rattle.std.proofs.Common.{◌≡◌, ℕ, cond, List, [], ◌∷◌, ◌++◌, Option, Some, None, refl, sym, ap, ◌∙◌, arith, append_assoc, ◌+◌, ◌-◌, ◌<◌, ◌≤◌, Bool, not, length, drop, nat_eq, nat_lt, suc, ◌^◌, true, false, take, get_or, Result, Ok, Err, subst, ◌/◌, length-append, nat_le, eqb-true, ltb-false, ◌*◌, ◌≢◌, length-take-le, length-drop, ◌⊎◌, inl, inr, take-append-drop, drop-drop, eq-eqb, leb-false, rules}
-pub use Rattle.std.proofs.lemmas.Bool.{and_from, cases_eq, cases_lt, eqb-false, false≢true, le-leb, le-ltb, lt-leb, lt-ltb, ne_eqb, not-false}
+pub use Rattle.std.proofs.Common.{◌≡◌, ℕ, cond, List, [], ◌∷◌, ◌++◌, Option, Some, None, refl, sym, ap, ◌∙◌, arith, append_assoc, ◌+◌, ◌-◌, ◌<◌, ◌≤◌, Bool, not, length, drop, nat_eq, nat_lt, suc, ◌^◌, true, false, take, get_or, Result, Ok, Err, subst, ◌/◌, length-append, nat_le, eqb-true, ltb-false, ◌*◌, ◌≢◌, length-take-le, length-drop, ◌⊎◌, inl, inr, take-append-drop, drop-drop, eq-eqb, rules}
+pub use Rattle.std.proofs.lemmas.Bool.{and_from, cases_eq, cases_lt, eqb-false, false≢true, le-leb, le-ltb, lt-ltb, not-false}
 pub use Rattle.std.proofs.lemmas.Grind.{common_steps, flat_map-append}
 pub use Rattle.std.proofs.lemmas.List.{append-nil, drop_at, get_or-drop, take_all, take_at}
 pub use Rattle.std.proofs.lemmas.List.Elements.{All-drop, All-nil, All-cons, All-append, All-head, All-tail, All-take, All-replicate}
 pub use Rattle.std.proofs.lemmas.List.Folds.{list_any_none, list_any-append}
 pub use Rattle.std.proofs.lemmas.List.Sums.{fold-append, passes_at_first, prefix_len_stops}
-pub use Rattle.std.proofs.lemmas.Option.{none-some}
 pub use Rattle.std.specs.List.{All, flat_map, list_any}
 pub use Rattle.std.specs.Option.{option_or, option_map}
 pub use Rattle.std.specs.Prelude.{IfOk, IsOk, IsSome, OnOk, fold, min, option_and_then, replicate, unwrap_or, ◌&&◌, ◌==◌, ◌||◌}
@@ -102,3 +100,7 @@ pub use Rattle.mig_records.proofs.Kept.{cut_is, is_part}
 pub use Rattle.mig_restore_form.proofs.Growth.{empty_begun, grows_not}
 pub use Rattle.mig_restore_form.proofs.PartsInOrder.{or_none}
 pub use Rattle.std.specs.Result.{IsErrAnd}
+pub use Rattle.mig_restore.proofs.Noted.{both_told, stops, then_noted}
+pub use Rattle.byteorder.specs.Endian.{big_bytes}
+pub use Rattle.mig_file.specs.Files.{left_at}
+pub use Rattle.mig_outline.specs.Outline.{outline_frames}

@@ -1,11 +1,10 @@
 -- The hexadecimal digits of a number spell it.
-use Rattle.mig_legacy.proofs.Common.{get_or-drop, prefix_len_stops, min, digit_value, number_of_digits, DigitsSpellNumbers}
+use Rattle.mig_legacy.proofs.Common.{get_or-drop, prefix_len_stops, min, digit_value, number_of_digits, DigitsSpellNumbers, big_bytes}
 use Rattle.mig_legacy.proofs.ChunkCommon.{◌≡◌, ℕ, zero, suc, ◌+◌, ◌-◌, ◌<◌, ◌≤◌, ◌/◌, ◌%◌, Bool, true, false, not, cond, List, [], ◌∷◌, length, drop, nat_eq, refl, sym, ap, ◌∙◌, arith, eqb-true, slice_index, common_steps, hexadecimal, position_or_len, All, AllByRecursion, All-from_recursion, All-drop, without_zeros}
 use Rattle.std.proofs.Common.{◌*◌, ◌^◌, ◌≢◌, ◌⊎◌, inl, inr, fold, subst, get_or, nat_lt, length-drop}
 use Rattle.std.proofs.lemmas.Bool.{ltb-true, ltb-false}
 use Rattle.std.proofs.Math.Nat.{div-add-mod', div-div-eq-div-mul, div-one, div-eq_of_lt, mod-lt, pow-suc}
 use Rattle.std.specs.Int.{byte_at, bytes_high_first}
-use Rattle.byteorder.specs.Endian.{big_bytes}
 use Rattle.hex.specs.Hex.{lower_digits, encode_with, encode_lower}
 
 -- one more digit is read

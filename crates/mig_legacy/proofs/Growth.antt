@@ -1,7 +1,6 @@
 -- A part of an HVM guest that a chunk or the tail sets leaves the guest on its way.
-use Rattle.std.proofs.Common.{nat_eq}
 use Rattle.mig_guest.specs.PartCodes.{row_of}
-use Rattle.mig_legacy.proofs.Common.{◌≡◌, ℕ, ◌<◌, ◌≤◌, true, false, List, length, refl, sym, ap, subst, ◌∙◌, arith, le-leb, lt-ltb, and_from, AreBytes, Kind, Hvm, IsPart, IsCut, is_policy, is_emulator_code, width_of, GuestOf, context_key, p2m_key, PartKey, part_total, part_exact, GrewByRecord, param_key, tsc_key, most_policy_entries, vcpu_limit, most_body, eqb-false, is_part}
+use Rattle.mig_legacy.proofs.Common.{◌≡◌, ℕ, ◌<◌, ◌≤◌, true, false, List, length, refl, sym, ap, subst, ◌∙◌, arith, le-leb, lt-ltb, and_from, AreBytes, Kind, Hvm, IsPart, IsCut, is_policy, is_emulator_code, width_of, GuestOf, context_key, p2m_key, PartKey, part_total, part_exact, GrewByRecord, param_key, tsc_key, most_policy_entries, vcpu_limit, most_body, eqb-false, is_part, nat_eq}
 use Rattle.std.specs.FinMap as maps
 use Rattle.mig_guest.specs.declared.part_code.PartCode.TheVariants.{Tsc, HvmContext, HvmParam}
 use Rattle.mig_guest.proofs.Counts.{same_parts}

@@ -1,19 +1,12 @@
 -- What is noted of frames goes on with the parts of a legacy stream.
-use Rattle.mig_legacy.proofs.Common.{◌≡◌, ◌≢◌, ℕ, List, [], ◌∷◌, ◌++◌, Option, Some, None, Result, Ok, refl, sym, ap, subst, ◌∙◌, Judged, ◌>>=◌, placed, Passes, AgreesWithJudging, then_reads, Stop, LegacyCause, Hvm, GuestOf, FrameMap, put_entries_by, put_entry, each, entry_at, with_places, sent, sent_kind, page_data_words, judged_as, start_form, tail_form, Start, Tail, Device, words_form, batch_form, content_form, device_at, device_form, ChunkKind, End, Batch, LegacyContent, Nothing, Frames, Value, Clock, Pairs, LegacyChunk, image_records, put_in_guest, passes_is_spelled}
+use Rattle.mig_legacy.proofs.Common.{◌≡◌, ◌≢◌, ℕ, List, [], ◌∷◌, ◌++◌, Option, Some, None, Result, Ok, refl, sym, ap, subst, ◌∙◌, Judged, ◌>>=◌, placed, Passes, AgreesWithJudging, then_reads, Stop, LegacyCause, Hvm, GuestOf, FrameMap, put_entries_by, put_entry, each, entry_at, with_places, sent, sent_kind, page_data_words, judged_as, start_form, tail_form, Start, Tail, Device, words_form, batch_form, content_form, device_at, device_form, ChunkKind, End, Batch, LegacyContent, Nothing, Frames, Value, Clock, Pairs, LegacyChunk, image_records, put_in_guest, passes_is_spelled, placed_passes, same_passes, FormOf, SpelledAs, nothing, one_part, spelled_passes, VcpuMap, Tsc, LastCheckpoint, Toolstack, Param, NotesChunks, put_chunk_frames, NotesOn}
 use Rattle.std.specs.FinMap as maps
 use Rattle.mig_bytes.proofs.Fronts.{TakesFronts}
-use Rattle.mig_bytes.proofs.Joins.{placed_passes, same_passes}
-use Rattle.mig_bytes_form.specs.Form.{FormOf, SpelledAs}
 use Rattle.mig_bytes_form.specs.Form.FormOf.{Gives, Part}
-use Rattle.mig_bytes_form.specs.Form.SpelledAs.{nothing, one_part}
-use Rattle.mig_bytes_form.proofs.Verdicts.{spelled_passes}
-use Rattle.mig_legacy.specs.declared.chunk.ChunkKind.TheVariants.{VcpuMap, Tsc, LastCheckpoint, Toolstack, Param}
-use Rattle.mig_legacy.specs.Seen.{NotesChunks, put_chunk_frames}
 use Rattle.mig_legacy.proofs.Batches.{batch_is, behind_words}
 use Rattle.mig_legacy.proofs.BatchFrames.{cut_read, same_entries}
 use Rattle.mig_legacy.proofs.Chunked.{sent_more}
 use Rattle.mig_restore.proofs.Noted.{still, then_noted, weaker}
-use Rattle.mig_restore.specs.Kept.{NotesOn}
 
 -- ---- a form takes a front, and says what its ends say
 

@@ -1,8 +1,7 @@
 -- The pairs of the data of a toolstack are pairs that a store may have, and their text spells them.
-use Rattle.mig_legacy.proofs.Common.{flat_map-append}
+use Rattle.mig_legacy.proofs.Common.{flat_map-append, big_bytes}
 use Rattle.mig_legacy.proofs.ChunkCommon.{◌≡◌, ℕ, ◌<◌, ◌/◌, ◌%◌, true, false, List, [], ◌∷◌, ◌++◌, Option, Some, None, refl, ap, ◌∙◌, arith, length-append, codes, AllByRecursion, flat_map, All-from_recursion, recursion_from_All, All-get_or, All-drop, IsPair, is_key_byte, text_of_pair, SpellPairs, toolstack, toolstack_fault, hexadecimal, physmap_pair, name_pairs, pairs_of_physmap, text_of_physmaps, Physmap, IsName, ArePhysmaps, IsToolstack}
 use Rattle.std.specs.Prelude.{slice_index, zero, suc}
-use Rattle.byteorder.specs.Endian.{big_bytes}
 use Rattle.hex.specs.Hex.{lower_digits, encode_with, encode_lower}
 use Rattle.mig_legacy.proofs.Spelling.{toolstack_spelled}
 

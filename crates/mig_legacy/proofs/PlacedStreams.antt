@@ -1,14 +1,9 @@
 -- A legacy stream that was taken with the places of its pages.
-use Rattle.mig_legacy.proofs.Common.{◌≡◌, ℕ, List, ◌++◌, Option, Some, None, Ok, refl, sym, ap, ◌∙◌, fold-append, AgreesWithJudging, Judged, FrameMap, GuestOf, Hvm, sent, put_record, empty_guest, with_emulators, LegacyStream, LegacyTail, StreamRecord, image_records, tail_records, IsLegacyTaken, ChunksSeen}
+use Rattle.mig_legacy.proofs.Common.{◌≡◌, ℕ, List, ◌++◌, Option, Some, None, Ok, refl, sym, ap, ◌∙◌, fold-append, AgreesWithJudging, Judged, FrameMap, GuestOf, Hvm, sent, put_record, empty_guest, with_emulators, LegacyStream, LegacyTail, StreamRecord, image_records, tail_records, IsLegacyTaken, ChunksSeen, weakened, left_at, outline_frames, both_told, NotesChunks}
 use Rattle.std.specs.FinMap as maps
-use Rattle.mig_bytes.proofs.Joins.{weakened}
-use Rattle.mig_file.specs.Files.{left_at}
-use Rattle.mig_outline.specs.Outline.{outline_frames}
 use Rattle.mig_placed.specs.InFile.{frames_in_file}
 use Rattle.mig_placing.specs.declared.guest.PlacedGuest.{PlacedGuest}
-use Rattle.mig_restore.proofs.Noted.{both_told}
 use Rattle.mig_legacy.specs.Placed.{IsPlacedLegacy}
-use Rattle.mig_legacy.specs.Seen.{NotesChunks}
 
 -- the tail sends no frames
 tail_stays : (records : List StreamRecord) (tail : LegacyTail) → (sent Hvm (records ++ tail_records tail)).frames ≡ (sent Hvm records).frames

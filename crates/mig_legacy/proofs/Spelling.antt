@@ -1,6 +1,5 @@
 -- Data without a wrong field are those that are spelled as entries.
-use Rattle.mig_legacy.proofs.Common.{le-ltb, not-false, in32}
-use Rattle.std.proofs.Common.{ltb-false}
+use Rattle.mig_legacy.proofs.Common.{le-ltb, not-false, in32, ltb-false}
 use Rattle.mig_legacy.proofs.ChunkCommon.{◌≡◌, ℕ, zero, suc, ◌+◌, ◌≤◌, Bool, true, false, not, List, [], ◌∷◌, ◌++◌, length, take, drop, nat_eq, nat_lt, Some, None, refl, sym, ap, subst, ◌∙◌, arith, length-append, length-take-le, length-drop, take-append-drop, drop-drop, eqb-true, eq-eqb, ◌||◌, if◌then◌else◌, take-append_seam, drop-append_seam, le32, rows_fine, no_fault, Physmap, IsPhysmapHead, ArePhysmaps, IsToolstack, IsName, name_bytes, is_name, name_in, name_len, name_at, entry_len, entry_fault, entry_rows, entry_in, entries_fault, physmaps_in, toolstack_fault, toolstack, ToolstackIsSpelled}
 use Rattle.mig_legacy.proofs.Entries.{faultless_first, faultless_all, faultless_rest, nothing_behind}
 use Rattle.mig_legacy.proofs.Fields.{in64, first32, first64}

@@ -1,9 +1,8 @@
 -- A legacy stream as the reader takes it, part after part, and the guest that it means.
-use Rattle.mig_legacy.proofs.Common.{◌≡◌, ℕ, List, ◌++◌, Option, refl, sym, ap, ◌∙◌, fold-append, Judged, ◌>>=◌, placed, Passes, Hvm, LegacyCause, LegacyPlace, Start, Tail, Device, GuestOf, blank, mean, sent, put_record, empty_guest, put_libxl_content, no_emulators, emulators_of, with_emulators, IsStreamedBare, judged_as, start_form, tail_form, device_at, LegacyChunk, LegacyTail, LegacyStream, tail_records, device_records, image_records, store_records, mean_legacy, IsLegacySeen, IsLegacyTaken, FrameMap, kept_guest, put_tail, put_device, chunks_at, legacy_at, ChunksSeen}
+use Rattle.mig_legacy.proofs.Common.{◌≡◌, ℕ, List, ◌++◌, Option, refl, sym, ap, ◌∙◌, fold-append, Judged, ◌>>=◌, placed, Passes, Hvm, LegacyCause, LegacyPlace, Start, Tail, Device, GuestOf, blank, mean, sent, put_record, empty_guest, put_libxl_content, no_emulators, emulators_of, with_emulators, IsStreamedBare, judged_as, start_form, tail_form, device_at, LegacyChunk, LegacyTail, LegacyStream, tail_records, device_records, image_records, store_records, mean_legacy, IsLegacySeen, IsLegacyTaken, FrameMap, kept_guest, put_tail, put_device, chunks_at, legacy_at, ChunksSeen, outline_frames}
 use Rattle.std.proofs.Common.{fold}
 use Rattle.std.specs.FinMap as maps
 use Rattle.mig_outline.proofs.Outline.{frames_len}
-use Rattle.mig_outline.specs.Outline.{outline_frames}
 
 abbrev pub stream_of : List LegacyChunk → LegacyTail → Option (List ℕ) → LegacyStream
 stream_of chunks tail device = record { chunks = chunks; tail = tail; device = device }

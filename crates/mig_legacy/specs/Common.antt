@@ -32,3 +32,6 @@ pub use Rattle.mig_pvtables.specs.Whole.{IsStreamed, IsStreamedBare, IsWhole}
 pub use Rattle.mig_records.specs.Words.{IsFirst, first_place, first_word, words}
 pub use Rattle.mig_restore_form.specs.Mean.{GrewByRecord, IsBegun, frame_in, last_bytes, last_entry, mean, put_content_by, put_record, sent}
 pub use Rattle.mig_restore_form.specs.Record.{FrameEntry, StreamRecord}
+pub use Rattle.mig_guest.specs.Parts.{Part}
+pub use Rattle.mig_bytes_form.specs.Form.{judged_as}
+pub use Rattle.mig_restore.specs.Kept.{EntryStep, NotesOn}

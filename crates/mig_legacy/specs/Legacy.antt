@@ -1,10 +1,9 @@
 -- The chunks and the tail of a legacy stream, and the guest that they mean: that of a libxl stream whose records say the
 -- same (Xen's xg_save_restore.h; libxc migration stream; libxl migration stream).
 use Rattle.std.specs.Prelude.{ℕ, Bool, true, false, List, [], ◌∷◌, ◌++◌, Option, Some, None, ◌==◌}
-use Rattle.mig_legacy.specs.Common.{flat_map, list_any, Pair, Hvm, GuestOf, context_key, PartKey, mean, FrameEntry, StreamRecord, EmulatorsOf, emulators_of, with_emulators}
+use Rattle.mig_legacy.specs.Common.{flat_map, list_any, Pair, Hvm, GuestOf, context_key, PartKey, mean, FrameEntry, StreamRecord, EmulatorsOf, emulators_of, with_emulators, Part}
 use Rattle.mig_guest.specs.declared.part_code.PartCode.TheVariants.{Tsc, HvmParam, HvmContext, EmulatorPairs, EmulatorContext}
 use Rattle.mig_guest.specs.PartCodes.{code_number}
-use Rattle.mig_guest.specs.Parts.{Part}
 use Rattle.mig_headers.specs.RecordTypes.{type_number}
 use Rattle.mig_headers.specs.declared.record_type.RecordType.TheVariants as types
 use Rattle.mig_libxl_form.specs.LibxlTypes.{emulator_context_type, emulator_pairs_type}

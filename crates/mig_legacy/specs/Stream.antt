@@ -2,10 +2,9 @@
 -- record if there is one.
 use Rattle.std.specs.Prelude.{◌≡◌, ℕ, List, [], ◌∷◌, length, Option, None, Result}
 use Rattle.std.specs.FinMap as maps
-use Rattle.mig_legacy.specs.Common.{or_stop, Passes, Faulty, sequence_at, LegacyCause, LegacyPlace, GuestOf}
+use Rattle.mig_legacy.specs.Common.{or_stop, Passes, Faulty, sequence_at, LegacyCause, LegacyPlace, GuestOf, judged_as}
 use Rattle.mig_bytes.specs.Judged.{Judged, ◌>>=◌, placed, AgreesWithJudging}
 use Rattle.mig_bytes.specs.declared.answer.Answer.{Answer}
-use Rattle.mig_bytes_form.specs.Form.{judged_as}
 use Rattle.mig_headers.specs.declared.legacy_fault.LegacyPlace.TheVariants.{Start, Chunk, Tail, Device}
 use Rattle.mig_legacy.specs.LegacyForm.{start_form, chunk_form, tail_form, device_form}
 use Rattle.mig_legacy.specs.Legacy.{LegacyChunk, LegacyStream, is_legacy_ended, mean_legacy}

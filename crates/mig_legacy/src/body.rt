@@ -1,12 +1,10 @@
 ghost use Rattle.std.specs.Prelude.{◌≡◌, ◌≤◌, ◌<◌, length, None, IfOk, OnOk, IsErrOf};
-ghost use Rattle.mig_legacy.specs.Common.{RisesOnReadFault, AgreesWithJudging, Hvm, vcpu_limit, GrewByRecord, AreEmulators};
+ghost use Rattle.mig_legacy.specs.Common.{RisesOnReadFault, AgreesWithJudging, Hvm, vcpu_limit, GrewByRecord, AreEmulators, judged_as, EntryStep, NotesOn};
 ghost use Rattle.mig_bytes.specs.declared.stop.Stop.TheVariants.{Memory as NoMemory};
-ghost use Rattle.mig_bytes_form.specs.Form.{judged_as};
 ghost use Rattle.mig_legacy.specs.Batches.{fault_of_batch};
 ghost use Rattle.mig_legacy.specs.LegacyForm.{length_form, words_form, batch_form, clock_of as clock_in, vcpus_form, clock_form, value_form, toolstack_form};
 ghost use Rattle.mig_legacy.specs.Legacy.{param_key as key_of_param};
 ghost use Rattle.mig_legacy.specs.Legacy.LegacyContent.{Nothing};
-ghost use Rattle.mig_restore.specs.Kept.{EntryStep, NotesOn};
 ghost use Rattle.mig_legacy.specs.Seen.{cut_short, put_chunk_frames, put_in_guest, put_in_emulators};
 
 use crate::batch::{batch_fault, page_data_words};

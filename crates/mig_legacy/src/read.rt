@@ -1,12 +1,10 @@
 ghost use Rattle.std.specs.Prelude.{◌≡◌, ◌≤◌, ◌+◌, ◌||◌, ◌<◌, ◌∷◌, [], ◌++◌, ⊤, List, true, IfNone, IfOk, OnOk, IsErrOf, Some, None};
 ghost use Rattle.std.specs.FinMap as maps;
-ghost use Rattle.mig_legacy.specs.Common.{or_stop, RisesOnReadFault, AgreesWithJudging, FrameMap, first_named, Hvm, most_frames, IsStreamed, IsStreamedBare, with_emulators, AreEmulators};
+ghost use Rattle.mig_legacy.specs.Common.{or_stop, RisesOnReadFault, AgreesWithJudging, FrameMap, first_named, Hvm, most_frames, IsStreamed, IsStreamedBare, with_emulators, AreEmulators, judged_as, NotesOn};
 ghost use Rattle.mig_bytes.specs.declared.stop.Stop.TheVariants.{Memory as NoMemory};
-ghost use Rattle.mig_bytes_form.specs.Form.{judged_as};
 ghost use Rattle.mig_legacy.specs.declared.chunk.ChunkKind.TheVariants as kinds;
 ghost use Rattle.mig_legacy.specs.LegacyForm.{most_chunks, start_causes, place_causes, start_form, type_form, content_form, chunk_form};
 ghost use Rattle.mig_legacy.specs.Legacy.{LegacyChunk, is_end, is_value_of};
-ghost use Rattle.mig_restore.specs.Kept.{NotesOn};
 ghost use Rattle.mig_legacy.specs.Seen.{NotesChunks, put_chunk_frames};
 ghost use Rattle.mig_legacy.specs.Seen.{IsLegacySeen, IsLegacyBegun, IsLegacyTaken, TakesLegacy};
 ghost use Rattle.mig_legacy.specs.Chunks.{IsWithinLimits};

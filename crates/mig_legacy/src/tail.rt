@@ -1,6 +1,5 @@
 ghost use Rattle.std.specs.Prelude.{◌≡◌, ◌≤◌, ◌+◌, ◌∷◌, Some, length, IsOk, IfOk, OnOk};
-ghost use Rattle.mig_legacy.specs.Common.{RisesOnReadFault, AgreesWithJudging, most_body, scan, Hvm, IsFew, IsBegun, AreEmulators, IsStreamedBare};
-ghost use Rattle.mig_bytes_form.specs.Form.{judged_as};
+ghost use Rattle.mig_legacy.specs.Common.{RisesOnReadFault, AgreesWithJudging, most_body, scan, Hvm, IsFew, IsBegun, AreEmulators, IsStreamedBare, judged_as};
 ghost use Rattle.mig_legacy.specs.LegacyForm.{tail_of, tail_form, device_form};
 ghost use Rattle.mig_legacy.specs.Seen.{put_tail, put_device};
 ghost use Rattle.mig_legacy.specs.Stream.{device_at};

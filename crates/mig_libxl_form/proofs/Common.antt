@@ -1,8 +1,8 @@
 -- Names that many proofs of this crate use.
-pub use Rattle.std.proofs.Common.{Bool, Err, List, None, Ok, Option, Result, Some, [], ap, append_assoc, arith, cond, drop, false, inl, inr, leb-false, length, length-append, length-drop, length-take-le, ltb-false, map, nat_eq, nat_le, nat_lt, not, refl, subst, sym, take, take-append-drop, true, ℕ, ◌++◌, ◌+◌, ◌-◌, ◌<◌, ◌^◌, ◌∙◌, ◌∷◌, ◌≡◌, ◌≤◌, ◌⊎◌}
+pub use Rattle.std.proofs.Common.{Bool, Err, List, None, Ok, Option, Result, Some, [], ap, append_assoc, arith, cond, drop, false, inl, inr, leb-false, length, length-append, length-drop, length-take-le, ltb-false, map, nat_eq, nat_le, nat_lt, not, refl, subst, sym, take, take-append-drop, true, ℕ, ◌++◌, ◌+◌, ◌-◌, ◌<◌, ◌∙◌, ◌∷◌, ◌≡◌, ◌≤◌, ◌⊎◌}
 pub use Rattle.std.proofs.lemmas.Bool.{and_from, and_parts, eq-eqb, eqb-true, false≢true, le-leb, le-ltb, leb-true, lt-leb, lt-ltb, not-false, or_parts}
 pub use Rattle.std.proofs.lemmas.Grind.{common_steps}
-pub use Rattle.std.proofs.lemmas.List.{append-nil, drop-append-le, drop_at, nil_from_length, take_at}
+pub use Rattle.std.proofs.lemmas.List.{append-nil, drop-append-le, drop_at, nil_from_length}
 pub use Rattle.std.proofs.lemmas.List.Sums.{fold-append}
 pub use Rattle.std.proofs.lemmas.Option.{none-some, same_Some}
 pub use Rattle.std.proofs.lemmas.Result.{on_err_weaker, on_ok_weaker}
@@ -60,6 +60,6 @@ pub use Rattle.mig_bytes.proofs.Sequences.{Found, accepted_spelled, spelled_acce
 pub use Rattle.mig_pvtables.specs.Blank.{IsOfBytes, blank, blank_of}
 pub use Rattle.mig_restore_form.proofs.Meaning.{mean_kind, part_ties}
 pub use Rattle.mig_restore_form.specs.Mean.{mean, same_key}
-pub use Rattle.std.proofs.lemmas.List.Elements.{All-append, All-drop, All-from_recursion, All-head, All-map, All-tail, All-take, All-weaker, recursion_from_All}
+pub use Rattle.std.proofs.lemmas.List.Elements.{All-append, All-from_recursion, All-head, All-map, All-tail, All-weaker, recursion_from_All}
 pub use Rattle.std.specs.FinMap.{entries-insert, is_sorted}
 pub use Rattle.std.specs.List.{All, AllByRecursion, flat_map}

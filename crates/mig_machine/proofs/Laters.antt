@@ -1,5 +1,5 @@
 -- What a call adds to a history, and whether it runs lines.
-use Rattle.mig_machine.proofs.Common.{◌≡◌, ℕ, ◌+◌, ◌≤◌, Bool, true, false, cond, List, [], ◌∷◌, length, Option, Some, None, is_some, refl, ap, ◌∙◌, arith, option_map, ◌||◌, ◌==◌, History, LogTook, Since, and_call, and_read, after_log, one_more, Pfns, MachineSeen, is_paused, RunsOn, RunsTillPaused, AsksOn, IsLaterHistory}
+use Rattle.mig_machine.proofs.Common.{◌≡◌, ℕ, ◌+◌, ◌≤◌, Bool, true, false, cond, [], ◌∷◌, Option, Some, None, is_some, refl, ap, ◌∙◌, arith, option_map, ◌||◌, ◌==◌, History, Since, and_call, and_read, after_log, one_more, Pfns, MachineSeen, RunsOn, RunsTillPaused, AsksOn, IsLaterHistory}
 
 pub asks_call : (s : Since) → AsksOn s (and_call s)
 asks_call s = record { read = λ p is. is; twice = λ is. is; calls = omega arith }

@@ -1,9 +1,7 @@
 -- The records of a canonical stream ascend by rank.
 use Rattle.std.specs.FinMap as maps
 use Rattle.std.proofs.Common.{◌≡◌, ◌≤◌, ◌<◌, ℕ, zero, suc, ◌+◌, ◌*◌, ◌^◌, List, [], ◌∷◌, ◌++◌, map, Option, Some, None, refl, ap, subst, sym, arith}
-use Rattle.std.specs.Prelude.{replicate}
 use Rattle.std.specs.List.{AllByRecursion, flat_map, range_with_len}
-use Rattle.byteorder.specs.Endian.{little_bytes}
 use Rattle.mig_bytes.specs.Fields.{le32}
 use Rattle.mig_canon.proofs.CanonParts.{le32_first}
 use Rattle.mig_canon.specs.Canon.{all_vcpus, batch, batches, bodies_of, frame_bodies, frames_in, info_records, key_of, last_records, p2m_body, p2m_record, p2m_records, part_record, records_of, records_of_vcpu, static_bodies, vcpu_record}
@@ -13,7 +11,7 @@ use Rattle.mig_guest.specs.declared.part_code.PartCode.TheVariants.{VcpuBasic, V
 use Rattle.mig_records.specs.Records.{Record}
 use Rattle.mig_records.specs.Shapes.{canonical_bodies, parts_at}
 use Rattle.mig_records_pages.specs.PageData.{Frame, body_of}
-use Rattle.mig_machine_laws.proofs.Common.{Kind, Hvm, Pv}
+use Rattle.mig_machine_laws.proofs.Common.{Kind, Hvm, Pv, replicate, little_bytes}
 use Rattle.mig_machine_laws.specs.CanonOrder.{AscendByRank, record_rank}
 
 -- ---- ranks from one number to another

@@ -1,6 +1,5 @@
 -- That no field may name a frame that isn't there.
-use Rattle.std.proofs.Common.{◌≡◌, ℕ, Bool, true, false, cond, nat_le, None, refl}
-use Rattle.mig_machine_laws.proofs.Common.{fits_field}
+use Rattle.mig_machine_laws.proofs.Common.{fits_field, ◌≡◌, ℕ, Bool, true, false, cond, nat_le, None, refl}
 
 either : (low : Bool) → cond low false false ≡ false
 either true = refl

@@ -1,9 +1,6 @@
 -- A line applies exactly where what its letter asks for stands.
 use Rattle.std.specs.FinMap as maps
 use Rattle.std.proofs.Common.{◌≡◌, ◌≤◌, ◌<◌, ℕ, ◌+◌, ◌^◌, true, false, not, List, length, Option, Some, None, is_some, inl, inr, refl, ap, sym, subst, ◌∙◌, arith}
-use Rattle.std.specs.Prelude.{◌==◌, ◌↔◌, option_and_then}
-use Rattle.std.specs.Cmp.{nat_cmp_total}
-use Rattle.std.specs.FinMap.{nat_cmp-IsAntisymmetric}
 use Rattle.std.proofs.lemmas.Bool.{agree_below_at, and_from, and_parts, both_ways, cases_lt, eq-eqb, eqb-false, eqb-true, le-leb, leb-true, lt-ltb, ltb-true, ne_eqb, not-true, not_from_false, or_from, or_parts}
 use Rattle.mig_pagetypes.specs.PageTypes.{all_types, number_of}
 use Rattle.mig_pagetypes.specs.declared.page_type.PageType.TheVariants.{Notab, L1Tab, L2Tab, L3Tab, L4Tab, L1Pinned, L2Pinned, L3Pinned, L4Pinned, Broken, Xalloc, Xtab}
@@ -11,8 +8,7 @@ use Rattle.mig_guest.specs.PartCodes.{is_fixed}
 use Rattle.mig_host.proofs.InOrder.{found_passes, no_entry, some_entry}
 use Rattle.mig_host.specs.HostView.{has_machine}
 use Rattle.mig_machine_script.specs.HostLines.{has_length, is_allowed, is_unnamed, key_of_numbers, may_come}
-use Rattle.mig_machine_script.specs.ScriptLines.LineOf.{Write, Retype, Add, Remove, Exchange, Put, Dot}
-use Rattle.mig_machine_laws.proofs.Common.{HostFrame, HostFrames, HostOf, Kind, Pv, Hvm, PageType, LineOf, applies, type_of}
+use Rattle.mig_machine_laws.proofs.Common.{HostFrame, HostFrames, HostOf, Kind, Pv, Hvm, PageType, LineOf, applies, type_of, ◌==◌, ◌↔◌, option_and_then, nat_cmp_total, nat_cmp-IsAntisymmetric, Write, Retype, Add, Remove, Exchange, Put, Dot}
 use Rattle.mig_machine_laws.specs.ScriptWords.{IsFree, MayApply, NamesMachineFrame, is_allowed_number}
 use Rattle.mig_machine_laws.specs.ScriptWords.MayApply.{write, retype, add, remove, exchange, put, dot}
 use Rattle.mig_machine_laws.proofs.NamedFrames.{named_false, named_true}

@@ -1,9 +1,7 @@
 -- What a line leaves.
 use Rattle.std.specs.FinMap as maps
 use Rattle.std.proofs.Common.{◌≡◌, ◌≢◌, ◌≤◌, ℕ, ◌+◌, ◌++◌, Bool, true, false, cond, List, length, take, drop, Option, Some, None, refl, ap, subst, ◌∙◌}
-use Rattle.std.specs.Prelude.{replicate}
 use Rattle.std.specs.Option.{option_map, unwrap_or}
-use Rattle.std.proofs.lemmas.Bool.{false_from_ne_true}
 use Rattle.mig_bytes.proofs.NumberMaps.{inserted, inserted_other, removed, removed_other}
 use Rattle.mig_guest.proofs.PartSets.{put_there}
 use Rattle.mig_guest.specs.declared.part_key.PartKey.{PartKey}
@@ -11,8 +9,7 @@ use Rattle.mig_host.specs.Changes.{changed_at, page_for, put_or_stay}
 use Rattle.mig_pagestore.specs.Pages.{spliced}
 use Rattle.mig_pagetypes.specs.declared.page_type.PageType.TheVariants.{Notab}
 use Rattle.mig_machine_script.specs.HostLines.{changed_by, typed_as}
-use Rattle.mig_machine_script.specs.ScriptLines.LineOf.{Write, Retype, Add, Remove, Exchange, Put, Dot}
-use Rattle.mig_machine_laws.proofs.Common.{HostFrame, HostOf, LineOf, PageType, after_line, applies, type_has_data, type_of}
+use Rattle.mig_machine_laws.proofs.Common.{HostFrame, HostOf, LineOf, PageType, after_line, applies, type_has_data, type_of, replicate, false_from_ne_true, Write, Retype, Add, Remove, Exchange, Put, Dot}
 use Rattle.mig_machine_laws.specs.ScriptWords.{MayApply, NamesPfn, frame_after, is_allowed_number}
 use Rattle.mig_machine_laws.specs.ScriptWords.MayApply.{write as may_write, retype as may_retype}
 use Rattle.mig_machine_laws.specs.ScriptWords.NamesPfn.{write as names_write, retype as names_retype, add as names_add, remove as names_remove, exchange as names_exchange}

@@ -1,11 +1,8 @@
 -- What lines put into the log.
-use Rattle.std.proofs.Common.{◌≡◌, ◌⊎◌, ℕ, Bool, true, false, cond, List, [], ◌∷◌, Option, Some, None, inl, inr, refl, ap, sym, subst, ◌∙◌}
-use Rattle.std.specs.Prelude.{◌==◌, ◌↔◌}
 use Rattle.std.proofs.lemmas.Bool.{eq-eqb, eqb-true, or_cases, or_left, or_right}
 use Rattle.mig_guest.specs.Pfns.{with_pfn}
 use Rattle.mig_machine_script.specs.HostLines.{logs, pfn_changed, with_logged}
-use Rattle.mig_machine_script.specs.ScriptLines.LineOf.{Write, Retype, Add, Remove, Exchange, Put, Dot}
-use Rattle.mig_machine_laws.proofs.Common.{HostOf, LineOf, Pfns, after_line, applies, logged_after}
+use Rattle.mig_machine_laws.proofs.Common.{HostOf, LineOf, Pfns, after_line, applies, logged_after, ◌≡◌, ◌⊎◌, ℕ, Bool, true, false, cond, List, [], ◌∷◌, Option, Some, None, inl, inr, refl, ap, sym, subst, ◌∙◌, ◌==◌, ◌↔◌, Write, Retype, Add, Remove, Exchange, Put, Dot}
 use Rattle.mig_machine_laws.specs.ScriptWords.{IsNamedIn, MayApply, NamesPfn}
 use Rattle.mig_machine_laws.specs.ScriptWords.NamesPfn.{write, retype, add, remove, exchange}
 use Rattle.mig_machine_laws.specs.ScriptWords.IsNamedIn.{here, later}

@@ -1,18 +1,13 @@
 -- Machine frames that tables name.
 use Rattle.std.specs.FinMap as maps
-use Rattle.std.proofs.Common.{◌≡◌, ◌≤◌, ◌<◌, ◌⊎◌, ℕ, zero, suc, ◌+◌, Bool, true, false, cond, not, List, Option, Some, None, inl, inr, refl, ap, sym, ◌∙◌, arith}
-use Rattle.std.specs.Prelude.{◌==◌, ◌&&◌}
 use Rattle.std.specs.List.{list_any, range_with_len}
-use Rattle.std.specs.Cmp.{nat_cmp_total}
-use Rattle.std.specs.FinMap.{nat_cmp-IsAntisymmetric}
-use Rattle.std.proofs.lemmas.Bool.{and_from, and_parts, both_ways, cases_lt, eq-eqb, eqb-true, false_from_ne_true, not-true, not_from_false, or_from}
 use Rattle.std.proofs.lemmas.List.Folds.{list_any_at}
 use Rattle.std.proofs.lemmas.List.FromFn.{length-range_with_len, get_or-range_with_len}
 use Rattle.mig_guest.specs.Footprints.{machine_named, table_in}
 use Rattle.mig_guest.specs.Tables.{is_blank_slot, is_present, named_frame}
 use Rattle.mig_host.proofs.InOrder.{no_entry, some_entry}
 use Rattle.mig_machine_script.specs.HostLines.{is_machine, names_machine, table_names}
-use Rattle.mig_machine_laws.proofs.Common.{HostFrame, HostFrames, level_of, long_at}
+use Rattle.mig_machine_laws.proofs.Common.{HostFrame, HostFrames, level_of, long_at, ◌≡◌, ◌≤◌, ◌<◌, ◌⊎◌, ℕ, zero, suc, ◌+◌, Bool, true, false, cond, not, List, Option, Some, None, inl, inr, refl, ap, sym, ◌∙◌, arith, ◌==◌, ◌&&◌, nat_cmp_total, nat_cmp-IsAntisymmetric, and_from, and_parts, both_ways, cases_lt, eq-eqb, eqb-true, false_from_ne_true, not-true, not_from_false, or_from}
 use Rattle.mig_machine_laws.specs.ScriptWords.{NamesMachineFrame}
 use Rattle.mig_machine_laws.proofs.SlotNames.{blank_there, named_is, not_blank}
 

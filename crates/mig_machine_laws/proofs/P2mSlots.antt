@@ -1,8 +1,6 @@
 -- What the slots of a P2M frame say.
-use Rattle.std.proofs.Common.{◌≡◌, ℕ, ◌+◌, ◌-◌, ◌*◌, ◌^◌, ◌<◌, Option, Some, None, ap, sym, subst, ◌∙◌, arith}
-use Rattle.std.specs.Prelude.{unwrap_or}
 use Rattle.mig_guest.proofs.Longs.{long_of_longs}
-use Rattle.mig_machine_laws.proofs.Common.{long_at, p2m_page}
+use Rattle.mig_machine_laws.proofs.Common.{long_at, p2m_page, ◌≡◌, ℕ, ◌+◌, ◌-◌, ◌*◌, ◌^◌, ◌<◌, Option, Some, None, ap, sym, subst, ◌∙◌, arith, unwrap_or}
 
 -- what the slot is filled with
 abbrev filled : (ℕ → Option ℕ) → ℕ → ℕ → ℕ

@@ -1,8 +1,7 @@
 -- How many rounds there are, and which logs go on.
-use Rattle.std.proofs.Common.{◌≡◌, ◌≤◌, ◌<◌, ◌+◌, ◌∷◌, ◌++◌, ℕ, List, [], length, Option, Bool, true, false, inl, inr, refl, ap, subst, arith, length-append}
 use Rattle.std.specs.Prelude.{◌||◌}
 use Rattle.mig_guest.specs.Rounds.{GoesOn, OfEachLog}
-use Rattle.mig_machine_laws.proofs.Common.{Kind, Hvm, LogTook, History, Rounds, to_read, size, all_below, BatchesCut, FrameTold, IsBehind, all_told}
+use Rattle.mig_machine_laws.proofs.Common.{Kind, Hvm, LogTook, History, Rounds, to_read, size, all_below, BatchesCut, FrameTold, IsBehind, all_told, ◌≡◌, ◌≤◌, ◌<◌, ◌+◌, ◌∷◌, ◌++◌, ℕ, List, [], length, Option, Bool, true, false, inl, inr, refl, ap, subst, arith, length-append}
 use Rattle.mig_machine_laws.specs.FiveRounds.{full_round, last_log, five_rounds}
 
 pub number : (kind : Kind) (width : ℕ) (h : History) → (r : Rounds kind width h) → (1 ≤ length r.live) × (length r.live ≤ 5)

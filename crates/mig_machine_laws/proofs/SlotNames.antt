@@ -1,11 +1,9 @@
 -- What the slots of a table name.
 use Rattle.std.proofs.Common.{◌≡◌, ◌≤◌, ◌<◌, ◌⊎◌, ℕ, ◌/◌, ◌%◌, ◌^◌, Bool, true, false, cond, not, List, Some, None, nat_le, refl, ap, ◌∙◌, arith}
-use Rattle.std.specs.Prelude.{◌==◌, ◌&&◌, option_and_then}
-use Rattle.std.proofs.lemmas.Bool.{eq-eqb}
 use Rattle.mig_guest.specs.declared.table.Entry.TheVariants.{Blank, NotPresent, Superpage, Frame}
 use Rattle.mig_guest.specs.Footprints.{named_by, table_in, names_in}
 use Rattle.mig_guest.specs.Tables.{entry_of, is_blank_slot, is_large, is_present, named_frame}
-use Rattle.mig_machine_laws.proofs.Common.{HostFrame, HostFrames, footprint_of, level_of, long_at, pfn_in}
+use Rattle.mig_machine_laws.proofs.Common.{HostFrame, HostFrames, footprint_of, level_of, long_at, pfn_in, ◌==◌, ◌&&◌, option_and_then, eq-eqb}
 
 -- what an entry names, by whether its slot is blank and whether it is present
 by_tests : (blank present large : Bool) (e : ℕ) → named_by (cond blank Blank (cond (not present) NotPresent (cond large Superpage (Frame (named_frame e))))) e ≡ cond blank None (cond present (Some (named_frame e)) None)

@@ -1,9 +1,7 @@
 -- The host of the exercise with 8 frames, worked through.
 use Rattle.std.specs.FinMap as maps
 use Rattle.std.proofs.Common.{◌≡◌, ◌<◌, ℕ, zero, suc, ◌+◌, ◌-◌, ◌*◌, ◌%◌, ◌^◌, Bool, true, false, cond, nat_lt, List, [], ◌∷◌, length, get_or, Some, None, refl, ap, sym, subst, ◌∙◌, arith, length-append}
-use Rattle.std.specs.Prelude.{◌==◌, unwrap_or}
 use Rattle.std.proofs.lemmas.Bool.{le-ltb, ne_eqb}
-use Rattle.byteorder.specs.Endian.{little_bytes}
 use Rattle.mig_guest.proofs.Longs.{length_longs, long_of_longs}
 use Rattle.mig_guest.specs.Longs.{longs}
 use Rattle.mig_guest.specs.PartKeys.{p2m_key, shared_key, vcpu_key}
@@ -11,8 +9,7 @@ use Rattle.mig_exercise.proofs.Frames.{frame_none, frame_there, p2m_there, share
 use Rattle.mig_exercise.specs.ExerciseHosts.{IsExerciseSize, exercise_context, exercise_frame, exercise_machine, exercise_machine_of, exercise_p2m_list, exercise_page, first_contents, host_of_exercise, page_of_zeros, present_entry}
 use Rattle.mig_exercise.specs.ExerciseScripts.{exercise_write, script_of_exercise, writes_up_to}
 use Rattle.mig_exercise.specs.Numbers.{number}
-use Rattle.mig_machine_script.specs.ScriptLines.LineOf.{Write, Dot}
-use Rattle.mig_machine_laws.proofs.Common.{long_at}
+use Rattle.mig_machine_laws.proofs.Common.{long_at, ◌==◌, unwrap_or, little_bytes, Write, Dot}
 use Rattle.mig_machine_laws.specs.WorkedExercise.{PageSays, eight_context, eight_machines}
 
 -- ---- frames and parts

@@ -6,14 +6,11 @@ use Rattle.mig_bytes.specs.Judged.Judged.{Faulty}
 use Rattle.mig_bytes.specs.declared.stop.Stop.TheVariants.{Refused, ReadFault, Memory}
 use Rattle.mig_bytes.proofs.Joins.{any_stop, both_pass, same_passes, only_first}
 use Rattle.mig_guest.specs.Frames.{FrameMap, framed}
-use Rattle.mig_headers.specs.declared.kind.Kind.TheVariants.{Pv, Hvm}
-use Rattle.mig_outline.specs.Outline.{outline_type, outline_page, outline_framed, put_outline_entry}
+use Rattle.mig_outline.proofs.Common.{Pv, Hvm, outline_type, outline_page, outline_framed, put_outline_entry, Notab, Broken, Xalloc, Xtab, page_at}
 use Rattle.mig_pagetypes.specs.PageTypes.{type_has_data}
-use Rattle.mig_pagetypes.specs.declared.page_type.PageType.TheVariants.{Notab, Broken, Xalloc, Xtab}
 use Rattle.mig_restore.proofs.Begun.{one_set, only_entry}
 use Rattle.mig_restore.proofs.Compared.{judged_too}
 use Rattle.mig_restore_form.proofs.Growth.{word_inside, grows_frame}
-use Rattle.mig_restore_form.specs.Judging.{page_at}
 
 -- ---- a page of which nothing is kept
 

@@ -2,11 +2,10 @@
 use Rattle.mig_pvtables.proofs.Common.{◌≡◌, ◌*◌, ◌+◌, ℕ, Bool, not, List, [], ◌∷◌, nat_lt, nat_le, cond, Option, Some, None, is_some, refl, sym, ap, ◌∙◌, ◌&&◌, ◌||◌, option_map, option_or, list_any, range_with_len, find, nat_cmp_total, nat_cmp-IsAntisymmetric, Pv, Hvm, TooManyFrames, most_frames, level_of, Entry, Frame, FrameOf, FrameMap, GuestOf, PartMap, entry, type_at, listed_in, is_this, is_notab, is_needed, is_misplaced, find_slot, find_entry, find_p2m, is_absent, fits_field, first_some, first_cause, faults_for, fault_of_guest, count_in, p2m_key, gdt_ents, field_value, frame_of_field, is_used, PageType, each_value}
 use Rattle.std.specs.FinMap as maps
 use Rattle.mig_guest.proofs.KeyedMaps.{is_some-mapped}
-use Rattle.mig_headers.specs.declared.kind.Kind.{Kind}
+use Rattle.mig_outline.proofs.Common.{Kind, Notab, Broken, Xalloc, Xtab}
 use Rattle.mig_guest.specs.declared.table.Entry.TheVariants.{Blank, NotPresent, Superpage}
 use Rattle.mig_headers.specs.declared.fault.Cause.{Cause}
 use Rattle.mig_headers.specs.declared.fault.Cause.TheVariants.{P2mFrame, TargetAbsent, VcpuFrame}
-use Rattle.mig_pagetypes.specs.declared.page_type.PageType.TheVariants.{Notab, Broken, Xalloc, Xtab}
 use Rattle.mig_pvtables.specs.Faults.{slots, too_many, missing, find_in_contexts, find_field, misfits, is_root, faults_by, fault_by}
 use Rattle.mig_guest.specs.PartKeys.{shared_key, vcpu_key, context_key}
 use Rattle.mig_pvtables.proofs.EachValue.{shown, some_each, entries_each, len_each, each_each}

@@ -1,8 +1,6 @@
 -- Pages are forgotten behind each record, or behind all of them.
-use Rattle.mig_pvtables.proofs.Common.{◌≡◌, ℕ, List, [], ◌∷◌, Option, Some, None, refl, sym, ap, ◌∙◌, nat_cmp_total, nat_cmp-IsAntisymmetric, level_of, PageType, FrameOf, FrameMap, GuestOf}
+use Rattle.mig_outline.proofs.Common.{◌≡◌, ℕ, List, [], ◌∷◌, Option, Some, None, refl, sym, ap, ◌∙◌, nat_cmp_total, nat_cmp-IsAntisymmetric, level_of, PageType, FrameOf, FrameMap, GuestOf, Kind, Xtab}
 use Rattle.std.specs.Prelude.{fold}
-use Rattle.mig_headers.specs.declared.kind.Kind.{Kind}
-use Rattle.mig_pagetypes.specs.declared.page_type.PageType.TheVariants.{Xtab}
 use Rattle.mig_guest.specs.Frames.{framed}
 use Rattle.mig_pvtables.proofs.EachValue.{each_each, same_each}
 use Rattle.mig_restore_form.specs.Mean.{type_in_guest, put_entry, put_entries, put_content, put_record, empty_guest, sent}

@@ -1,11 +1,9 @@
 -- The outline of a guest: what is put into it, and how many frames it has.
 use Rattle.mig_restore.proofs.Common.{◌≡◌, ℕ, List, length, Option, refl, sym, ap, ◌∙◌, Kind, PageType, GuestOf, Content, FrameEntry, FrameMap, framed, type_in_guest, put_entry, put_content, StreamRecord, meant_as_sent}
 use Rattle.std.specs.FinMap as maps
-use Rattle.mig_headers.specs.declared.kind.Kind.TheVariants.{Hvm, Pv}
+use Rattle.mig_outline.proofs.Common.{Hvm, Pv, Xtab, nat_cmp_total, nat_cmp-IsAntisymmetric}
 use Rattle.mig_outline.proofs.Changed.{changed_insert, changed_remove}
 use Rattle.mig_outline.specs.Outline.{outline, outline_frame, outline_frames, outline_framed, put_outline_entry, put_outline_content}
-use Rattle.mig_pagetypes.specs.declared.page_type.PageType.TheVariants.{Xtab}
-use Rattle.mig_pvtables.proofs.Common.{nat_cmp_total, nat_cmp-IsAntisymmetric}
 use Rattle.mig_pvtables.proofs.EachValue.{len_each}
 use Rattle.mig_pvtables.specs.Blank.{blank, blank_of, blanked_frame}
 use Rattle.mig_restore.proofs.Kept.{content_on}

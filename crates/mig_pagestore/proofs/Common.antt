@@ -1,7 +1,7 @@
 -- Names that many proofs of this crate use.
-pub use Rattle.std.proofs.Common.{Bool, Bor, IfNone, IsSome, List, MutBor, None, Option, Some, T, [], ap, append-nil, append_assoc, arith, cond, false, get_or, get_or-set_other, get_or-set_same, inl, inr, is_some, length, length-append, length-set, map, refl, replicate, set, slice_get, slice_index, subst, suc, sym, take, drop, true, zero, ℕ, ◌%◌, ◌&&◌, ◌*◌, ◌++◌, ◌+◌, ◌-◌, ◌/◌, ◌<◌, ◌==◌, ◌^◌, ◌∙◌, ◌∷◌, ◌≡◌, ◌≢◌, ◌≤◌}
+pub use Rattle.std.proofs.Common.{Bool, Bor, IsSome, List, MutBor, None, Option, Some, T, [], ap, append-nil, append_assoc, arith, cond, false, get_or, get_or-set_other, get_or-set_same, inl, inr, is_some, length, length-append, length-set, map, refl, replicate, set, slice_get, slice_index, subst, suc, sym, take, drop, true, zero, ℕ, ◌%◌, ◌&&◌, ◌*◌, ◌++◌, ◌+◌, ◌-◌, ◌/◌, ◌<◌, ◌==◌, ◌^◌, ◌∙◌, ◌∷◌, ◌≡◌, ◌≢◌, ◌≤◌}
 pub use Rattle.std.proofs.lemmas.Bool.{cases_eq, eq-eqb, eqb-true, ne_eqb}
-pub use Rattle.std.specs.FinMap.{FinMap, entries-from_sorted, entries_sorted, find, get-empty, get-entries, get-from_entries, get-from_sorted, get-insert, get-remove, is_sorted, len-entries, nat_cmp-IsAntisymmetric, same_map}
+pub use Rattle.std.specs.FinMap.{FinMap, entries-from_sorted, entries_sorted, find, get-empty, get-entries, get-from_entries, get-from_sorted, is_sorted, len-entries, nat_cmp-IsAntisymmetric, same_map}
 pub use Rattle.std.specs.Option.{ghost_name_of, option_and_then, option_copied, option_copied_mut, option_map, unwrap_or}
 pub use Rattle.std.specs.Ordering.{eq_by_cmp, is_lt, nat_cmp}
 pub use Rattle.mig_pagestore_index.specs.Indexed.{ValueMap}
@@ -30,3 +30,9 @@ pub use denote.Triple.Entry.{alive}
 pub use mir.MapTy.{inst_fn}
 pub use types.ByLocal.{get_tag, lands_as, lands_last}
 pub use Rattle.std.specs.Cmp.{nat_cmp_total}
+pub use base.Fraction.{full_share}
+pub use mir.Val.{vint}
+pub use mir.Syntax.{w64}
+pub use prog.Capped.{capped_is}
+pub use denote.Builtin.{usize}
+pub use types.Run.{bin}

@@ -1,7 +1,6 @@
 -- The pages in memory, and the room behind them. Assumes `Logic`.
-use Rattle.mig_pagestore.proofs.Common.{shadow, makes_shadow, Struct, ◌≡◌, ℕ, suc, ◌+◌, ◌*◌, ◌<◌, List, [], ◌∷◌, ◌++◌, length, refl, ap, ◌∙◌, arith}
+use Rattle.mig_pagestore.proofs.Common.{shadow, makes_shadow, Struct, ◌≡◌, ℕ, suc, ◌+◌, ◌*◌, ◌<◌, List, [], ◌∷◌, ◌++◌, length, refl, ap, ◌∙◌, arith, full_share}
 use Rattle.mig_pagestore.proofs.SlabCommon.{Ura, Ty, Width, int_big, Val, Fits, vint, vstruct, vcons, vnil, of_list, Env, Fml, fat, froom, Item, ‵, ◌⊛◌, some, ◌$◌, ◌∵◌, !, qed, move, keep, drop, use1, use2, split, pick, rewrite, fsplit, fjoin, done, Opd, row, lone, part_at, RattleType}
-use base.Fraction.{full_share}
 use base.Logic.{ent, sep, emp, via, guard_i}
 use borrow.Table.OneValue.{part_out}
 use types.Logic.{Logic, sem}

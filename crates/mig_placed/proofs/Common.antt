@@ -1,8 +1,8 @@
 -- Names that many proofs of this crate use.
 pub use Rattle.std.proofs.Common.{Bool, IfSome, List, None, Option, Some, [], ap, append-nil, arith, drop, drop-drop, false, inl, inr, length, refl, subst, suc, sym, take, true, zero, ℕ, ◌*◌, ◌++◌, ◌+◌, ◌-◌, ◌<◌, ◌^◌, ◌∙◌, ◌∷◌, ◌≡◌, ◌≢◌, ◌≤◌}
-pub use Rattle.std.proofs.Math.Seq.{take-add}
+pub use Rattle.std.proofs.Math.Seq.{take-add, drop-append-add}
 pub use Rattle.std.proofs.lemmas.Bool.{cases_eq}
-pub use Rattle.std.proofs.lemmas.List.{length-drop, length-take, take-append-le, take_all}
+pub use Rattle.std.proofs.lemmas.List.{length-drop, length-take, take-append-le, take_all, drop-append-le}
 pub use Rattle.std.specs.FinMap.{get-empty}
 pub use Rattle.std.specs.Option.{option_map, unwrap_or}
 pub use Rattle.std.specs.Ordering.{nat_cmp}
@@ -11,7 +11,7 @@ pub use Rattle.mig_pagestore.proofs.FrameCells.{cell_some, mark_of_cell, type_of
 pub use Rattle.mig_pagestore.proofs.Mapping.{get-mapped, len-mapped, mapped-empty, mapped-insert, mapped-remove}
 pub use Rattle.mig_pagestore.proofs.Places.{length_whole, whole_is}
 pub use Rattle.mig_guest.proofs.NextEntries.{from_zero, next_entry}
-pub use Rattle.mig_pagestore.specs.FrameView.{AreCells, IsCell, cell_type, is_place, whole_page}
+pub use Rattle.mig_pagestore.specs.FrameView.{AreCells, IsCell, cell_type, is_place, whole_page, cell_mark}
 pub use Rattle.mig_pagestore.specs.Frames.{FrameOf, framed}
 pub use Rattle.mig_pagestore_index.specs.Indexed.{ValueMap}
 pub use Rattle.mig_pagetypes.specs.FrameWords.{word_of}
@@ -26,3 +26,4 @@ pub use Rattle.mig_records_pages.proofs.PageTexts.{pages_next}
 pub use Rattle.mig_records_pages.specs.PageData.{Frame, page_in, pages_of}
 pub use Rattle.mig_records_pages.specs.Copied.{IsFirstFrame}
 pub use Rattle.mig_file.specs.Files.{IsThere}
+pub use Rattle.mig_placed.specs.Joined.{EndsWithin, joined_bytes}

@@ -1,12 +1,10 @@
 -- What stands in a file behind which another stands.
-use Rattle.mig_placed.proofs.Common.{◌≡◌, ◌≤◌, ◌<◌, ℕ, ◌+◌, ◌-◌, ◌^◌, List, ◌++◌, length, take, drop, Bool, true, false, Option, Some, None, IfSome, refl, sym, ap, subst, ◌∙◌, arith, append-nil, [], ◌∷◌, length-drop, take-append-le, take_all, IsThere}
+use Rattle.mig_placed.proofs.Common.{◌≡◌, ◌≤◌, ◌<◌, ℕ, ◌+◌, ◌-◌, ◌^◌, List, ◌++◌, length, take, drop, Bool, true, false, Option, Some, None, IfSome, refl, sym, ap, subst, ◌∙◌, arith, append-nil, [], ◌∷◌, length-drop, take-append-le, take_all, IsThere, drop-append-le, joined_bytes}
 use Rattle.std.proofs.Common.{min, cond, nat_lt, length-append}
 use Rattle.std.proofs.lemmas.Bool.{ltb-true}
 use Rattle.std.proofs.Math.Seq.{drop-append-add, take-append-add}
-use Rattle.std.proofs.lemmas.List.{drop-append-le}
 use Rattle.std.proofs.lemmas.List.Elements.{All-append}
 use Rattle.mig_bytes.specs.Bytes.{AreBytes}
-use Rattle.mig_placed.specs.Joined.{joined_bytes}
 
 module _ (all more : List ℕ) where
   there_inside : (at : ℕ) (b : List ℕ) → IsThere all at b → IsThere (all ++ more) at b

@@ -1,11 +1,8 @@
 -- Pages that stand behind a file in place of some that stand in it.
-use Rattle.mig_placed.proofs.Common.{◌≡◌, ◌≤◌, ℕ, zero, suc, ◌+◌, List, ◌++◌, length, take, drop, Option, Some, None, refl, sym, ap, ◌∙◌, arith, option_map, length-drop, take-append-le, get-mapped, ValueMap, cell_type, whole_page, frame_in_file, frames_in_file}
+use Rattle.mig_placed.proofs.Common.{◌≡◌, ◌≤◌, ℕ, zero, suc, ◌+◌, List, ◌++◌, length, take, drop, Option, Some, None, refl, sym, ap, ◌∙◌, arith, option_map, length-drop, take-append-le, get-mapped, ValueMap, cell_type, whole_page, frame_in_file, frames_in_file, drop-append-add, drop-append-le, cell_mark}
 use Rattle.std.specs.FinMap as maps
 use Rattle.std.specs.FinMap.{nat_cmp-IsAntisymmetric, same_map}
 use Rattle.std.specs.Cmp.{nat_cmp_total}
-use Rattle.std.proofs.Math.Seq.{drop-append-add}
-use Rattle.std.proofs.lemmas.List.{drop-append-le}
-use Rattle.mig_pagestore.specs.FrameView.{cell_mark}
 use Rattle.mig_placed.specs.InFile.{page_in_file}
 use Rattle.mig_placed.specs.Joined.{EndsWithin, EndAllWithin}
 

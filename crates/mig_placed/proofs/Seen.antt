@@ -1,7 +1,6 @@
 -- What cells tell of frames.
-use Rattle.mig_placed.proofs.Common.{◌≡◌, ℕ, zero, suc, ◌+◌, ◌-◌, ◌*◌, ◌<◌, ◌≤◌, List, [], ◌∷◌, ◌++◌, length, take, drop, Option, Some, None, refl, sym, ap, ◌∙◌, arith, length-take, length-drop, take-append-le, take_all, option_map, unwrap_or, whole_is, length_whole, get-mapped, len-mapped, mapped-empty, mapped-insert, mapped-remove, type_of_cell, mark_of_cell, ValueMap, FrameOf, FrameWord, PageType, Xtab, type_has_data, cell_type, whole_page, framed, place_for, place_limit, cell_for, with_place, page_bytes_at, frame_in_file, frames_in_file, frames_after, next_entry, from_zero, entries_counted, IsFirstCell, IsFirstFrame}
+use Rattle.mig_placed.proofs.Common.{◌≡◌, ℕ, zero, suc, ◌+◌, ◌-◌, ◌*◌, ◌<◌, ◌≤◌, List, [], ◌∷◌, ◌++◌, length, take, drop, Option, Some, None, refl, sym, ap, ◌∙◌, arith, length-take, length-drop, take-append-le, take_all, option_map, unwrap_or, whole_is, length_whole, get-mapped, len-mapped, mapped-empty, mapped-insert, mapped-remove, type_of_cell, mark_of_cell, ValueMap, FrameOf, FrameWord, PageType, Xtab, type_has_data, cell_type, whole_page, framed, place_for, place_limit, cell_for, with_place, page_bytes_at, frame_in_file, frames_in_file, frames_after, next_entry, from_zero, entries_counted, IsFirstCell, IsFirstFrame, cell_mark}
 use Rattle.std.specs.FinMap as maps
-use Rattle.mig_pagestore.specs.FrameView.{cell_mark}
 use Rattle.mig_placed.specs.InFile.{page_in_file}
 use Rattle.mig_placed.proofs.Cells.{place_small}
 

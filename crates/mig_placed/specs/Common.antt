@@ -1,7 +1,7 @@
 -- Names that several definitions and contracts of this crate use.
 pub use Rattle.mig_guest.specs.Frames.{entries_from}
 pub use Rattle.mig_pagestore.specs.Frames.{FrameMap, FrameOf, framed}
-pub use Rattle.mig_pagestore.specs.FrameView.{AreCells, IsCell, cell_mark, cell_type, is_place, whole_page}
+pub use Rattle.mig_pagestore.specs.FrameView.{AreCells, IsCell, cell_mark, cell_type, whole_page}
 pub use Rattle.mig_pagestore.specs.Mapped.{mapped}
 pub use Rattle.mig_pagestore_index.specs.Indexed.{ValueMap}
 pub use Rattle.mig_pagetypes.specs.FrameWords.{word_of}

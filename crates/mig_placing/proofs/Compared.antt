@@ -1,21 +1,18 @@
 -- An entry is compared with the frame that a place in the file tells.
-use Rattle.mig_restore.proofs.Common.{◌≡◌, ◌≢◌, ◌<◌, ◌≤◌, ◌+◌, ◌-◌, ℕ, List, length, take, drop, Bool, true, false, nat_eq, Option, Some, None, Result, Ok, Err, refl, sym, ap, subst, ◌∙◌, arith, Judged, AgreesWithJudging, Stop, Kind, PageType, GuestOf, FrameMap, some_frame, is_same_frame}
+use Rattle.mig_restore.proofs.Common.{◌≡◌, ◌≢◌, ◌<◌, ◌≤◌, ◌-◌, ℕ, List, length, take, drop, Bool, true, false, nat_eq, Option, Some, None, Result, Ok, Err, refl, sym, ap, subst, ◌∙◌, arith, Judged, AgreesWithJudging, PageType, some_frame, is_same_frame}
 use Rattle.std.specs.Option.{option_map}
 use Rattle.std.specs.Prelude.{◌&&◌, IfOk, zero, suc}
 use Rattle.std.specs.FinMap as maps
 use Rattle.std.proofs.lemmas.Bool.{ne_eqb}
 use Rattle.mig_bytes.specs.declared.stop.Stop.TheVariants.{ReadFault}
-use Rattle.mig_file.specs.Files.{IsThere, left_at}
-use Rattle.mig_guest.specs.Frames.{FrameOf}
+use Rattle.mig_placing.proofs.Common.{IsThere, left_at, FrameOf, ValueMap, is_same_page}
 use Rattle.mig_pagestore.proofs.Mapping.{get-mapped}
 use Rattle.mig_pagestore.proofs.Places.{whole_is}
-use Rattle.mig_pagestore.specs.FrameView.{cell_mark, cell_type, whole_page}
-use Rattle.mig_pagestore_index.specs.Indexed.{ValueMap}
+use Rattle.mig_pagestore.specs.FrameView.{whole_page}
 use Rattle.mig_pagetypes.specs.declared.frame_word.FrameWord.{FrameWord}
 use Rattle.mig_placed.specs.InFile.{frame_in_file, frames_in_file, page_in_file}
 use Rattle.mig_placed.specs.Runs.{IsFirstCell}
 use Rattle.mig_placing.specs.Compared.{frame_there}
-use Rattle.mig_restore_form.specs.Mean.{is_same_page}
 
 -- ---- the frame of a number
 

@@ -2,10 +2,7 @@
 use Rattle.mig_restore.proofs.Common.{◌≡◌, ℕ, List, Option, Some, None, Ok, refl, ◌∙◌, AgreesWithJudging, FrameMap, ImageOf, IsTaken, Judged, NotesImage}
 use Rattle.mig_restore.specs.declared.read.TakenImage.{TakenImage}
 use Rattle.std.specs.FinMap as maps
-use Rattle.mig_bytes.proofs.Joins.{weakened}
-use Rattle.mig_file.specs.Files.{left_at}
-use Rattle.mig_outline.specs.Outline.{outline_frames}
-use Rattle.mig_placed.specs.InFile.{frames_in_file}
+use Rattle.mig_placing.proofs.Common.{weakened, left_at, outline_frames, frames_in_file}
 use Rattle.mig_restore.proofs.Noted.{both_told}
 use Rattle.mig_placing.specs.Placed.{IsPlacedImage}
 use Rattle.mig_placing.specs.declared.guest.PlacedGuest.{PlacedGuest}

@@ -1,17 +1,14 @@
 -- An entry of a record is noted with the place of its page.
 use Rattle.mig_restore.proofs.Common.{◌≡◌, ◌<◌, ◌+◌, ◌-◌, ◌++◌, ℕ, List, length, take, drop, Bool, true, false, cond, Option, Some, None, Result, Ok, Err, refl, sym, ap, subst, ◌∙◌, arith, append_assoc, part, tried, ◌>>=◌, AgreesWithJudging, Passes, Stop, Cause, Truncated, Kind, PageType, FrameMap, FrameEntry, word_pfn, word_has_data, type_in_word, type_has_data, type_in_guest, entry_at, fault_of_page, put_entry, framed, take-append-drop, same_Some, carries, any_stop, []}
-use Rattle.std.specs.Prelude.{IfSome}
+use Rattle.mig_placing.proofs.Common.{IfSome, left_at, ValueMap, ArePlaced}
 use Rattle.std.specs.FinMap as maps
 use Rattle.std.proofs.Common.{length-append}
 use Rattle.mig_bytes.proofs.Joins.{both_pass, part_passes, same_passes}
-use Rattle.mig_file.specs.Files.{left_at}
 use Rattle.mig_headers.specs.declared.kind.Kind.TheVariants.{Pv, Hvm}
-use Rattle.mig_pagestore_index.specs.Indexed.{ValueMap}
 use Rattle.mig_pagetypes.specs.declared.page_type.PageType.TheVariants.{Broken, Xalloc, Xtab}
 use Rattle.mig_restore_form.specs.Judging.{page_at}
 use Rattle.mig_placed.proofs.Seen.{no_page_at_0, none_placed, page_stands, set_placed}
 use Rattle.mig_placed.specs.InFile.{frames_in_file, page_in_file, place_for, place_limit, with_place}
-use Rattle.mig_placing.specs.Places.{ArePlaced}
 
 -- no frames, with nothing read
 pub none_noted : (file : Option (List ℕ)) (cells : ValueMap) (all : List ℕ) (at : ℕ) → cells ≡ maps.empty → file ≡ Some all → ArePlaced file cells all (left_at file at) maps.empty

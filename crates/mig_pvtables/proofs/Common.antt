@@ -22,7 +22,7 @@ pub use Rattle.mig_guest.proofs.Found.{all_found, first_passes, insert_holds, no
 pub use Rattle.mig_guest.proofs.KeyedMaps.{entries_shown, find_seen, insert_len, is_some-mapped, kept_shown, shown, tied}
 pub use Rattle.mig_guest.proofs.Longs.{each_stays, length_longs, long_of_longs, longs_back, middle_zeroed, put_long, same_longs}
 pub use Rattle.mig_guest.proofs.PartOrder.{part_exact, part_total}
-pub use Rattle.mig_guest.proofs.PartRows.{changed_part, of_part, raw, sole}
+pub use Rattle.mig_guest.proofs.PartRows.{changed_part, of_part, sole}
 pub use Rattle.mig_guest.specs.Formed.{HasNoEmulators, IsContent, IsFormed, IsGuestFrame, IsPart, gdt_ents, width_of}
 pub use Rattle.mig_guest.specs.Frames.{FrameMap, FrameOf, IsFew, IsFrame, entries_from, is_type_of}
 pub use Rattle.mig_guest.specs.Guests.{GuestOf}

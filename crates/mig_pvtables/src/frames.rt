@@ -1,5 +1,5 @@
 ghost use Rattle.std.specs.Prelude.{◌≡◌, ◌≤◌, ◌<◌, ◌^◌, ℕ, Option, Some, IfSome, true};
-ghost use Rattle.mig_guest.specs.Formed.{gdt_ents};
+ghost use Rattle.mig_pvtables.specs.Common.{gdt_ents};
 ghost use Rattle.mig_pvtables.specs.VcpuContexts.{Usage, field_value, is_used, is_used_somewhere, says_where};
 
 use crate::vcpu::{host_frame, vcpu_frame};

@@ -1,7 +1,6 @@
 ghost use Rattle.std.specs.Prelude.{◌≡◌, ◌≤◌, ◌<◌, ℕ, Bool, IfSome, find};
-ghost use Rattle.mig_pvtables.specs.Common.{Entry as Said, NextEntry, level_of, option_copied, option_map};
+ghost use Rattle.mig_pvtables.specs.Common.{Entry as Said, NextEntry, level_of, option_copied, option_map, pfn_limit};
 ghost use Rattle.std.specs.FinMap as maps;
-ghost use Rattle.mig_pagetypes.specs.Limits.{pfn_limit};
 ghost use Rattle.mig_guest.specs.Tables.{entry as what_is_said};
 ghost use Rattle.mig_pvtables.specs.Faults.{find_entry, find_slot, slots};
 

@@ -1,7 +1,7 @@
 -- Names that many proofs of this crate use.
 pub use Rattle.std.proofs.Common.{Bool, Err, List, None, Ok, Option, Result, Some, [], ap, append-nil, append_assoc, arith, cond, drop, drop-drop, drop_at, false, inl, inr, length, length-append, length-drop, length-take-le, map, nat_eq, nat_le, nat_lt, not, refl, replicate, rules, subst, suc, sym, take, take-append-drop, true, zero, ℕ, ◌%◌, ◌*◌, ◌++◌, ◌+◌, ◌-◌, ◌/◌, ◌<◌, ◌^◌, ◌↔◌, ◌∙◌, ◌∷◌, ◌≡◌, ◌≢◌, ◌≤◌}
-pub use Rattle.std.proofs.lemmas.Bool.{and_from, and_parts, and_right, eq-eqb, eqb-true, le-leb, le-ltb, leb-false, leb-true, lt-leb, ltb-false, ltb-true, not-false, not_from_true, or_cases, or_right}
-pub use Rattle.std.proofs.lemmas.List.{drop-append-le, get_or-drop, length-replicate, take-append-le, take-replicate, take_at}
+pub use Rattle.std.proofs.lemmas.Bool.{and_from, and_parts, and_right, eq-eqb, eqb-true, le-leb, le-ltb, leb-false, leb-true, ltb-false, ltb-true, not-false, not_from_true, or_cases, or_right}
+pub use Rattle.std.proofs.lemmas.List.{get_or-drop, length-replicate, take-append-le, take-replicate, take_at}
 pub use Rattle.std.specs.List.{All, AllByRecursion, list_any, position_or_len}
 pub use Rattle.std.specs.Prelude.{OnErr, OnOk, slice_index, ⊤, ◌&&◌, ◌==◌}
 pub use Rattle.byteorder.specs.Endian.{little_bytes, little_number}
@@ -29,7 +29,7 @@ pub use Rattle.mig_guest.proofs.PartOrder.{part_exact, part_total}
 pub use Rattle.mig_guest.proofs.PartRows.{IsOf, of_part, sole, with_bytes}
 pub use Rattle.mig_guest.proofs.PartSets.{cleared_other, put_other, puts_other}
 pub use Rattle.mig_guest.specs.PartKeys.{p2m_key}
-pub use Rattle.mig_headers.proofs.ContextTexts.{contexts_are_spelled, scan_cut}
+pub use Rattle.mig_headers.proofs.ContextTexts.{contexts_are_spelled, scan_cut, in32}
 pub use Rattle.mig_headers.specs.Contexts.{cut_at, scan}
 pub use Rattle.mig_headers.specs.declared.kind.Kind.{Kind}
 pub use Rattle.mig_records.specs.Faults.{fault_of_length, fault_of_words, length_rows}

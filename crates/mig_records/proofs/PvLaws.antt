@@ -1,12 +1,11 @@
 -- The bodies of X86_PV_INFO and X86_PV_P2M_FRAMES without fault are those that are spelled so; what is wrong with the body
 -- of a vCPU's record.
-use Rattle.mig_records.proofs.Common.{◌≡◌, ℕ, ◌+◌, ◌*◌, ◌≤◌, ◌↔◌, Bool, true, false, not, List, [], ◌∷◌, length, take, drop, nat_le, None, refl, sym, ap, ◌∙◌, arith, take-append-drop, length-append, length-drop, length-take-le, ◌==◌, ◌&&◌, little_number, eqb-true, eq-eqb, le-leb, le-ltb, and_parts, not-false, rows_fine, no_fault, Cause, Option, first_fault, fault_of_body, HasBodyLength, small_number, gdt_ents, PartCode, VcpuBasic, VcpuMsrs, leb-true, nat_lt, BadLength, Pv32, BadPvInfo, P2mStart, most_gdt_entries, vcpu_limit, option_or, common_steps, VcpuId, GdtEnts, VcpuExtended, VcpuXsave, fault_of_length, length_rows, IsPvInfo, fault_of_pv_info, p2m_count, IsP2m, fault_of_p2m, is_vcpu, fault_of_vcpu, is_vcpu_type, fault_of_vcpu_record}
+use Rattle.mig_records.proofs.Common.{◌≡◌, ℕ, ◌+◌, ◌*◌, ◌≤◌, ◌↔◌, Bool, true, false, not, List, [], ◌∷◌, length, take, drop, nat_le, None, refl, sym, ap, ◌∙◌, arith, take-append-drop, length-append, length-drop, length-take-le, ◌==◌, ◌&&◌, little_number, eqb-true, eq-eqb, le-leb, le-ltb, and_parts, not-false, rows_fine, no_fault, Cause, Option, first_fault, fault_of_body, HasBodyLength, small_number, gdt_ents, PartCode, VcpuBasic, VcpuMsrs, leb-true, nat_lt, BadLength, Pv32, BadPvInfo, P2mStart, most_gdt_entries, vcpu_limit, option_or, common_steps, VcpuId, GdtEnts, VcpuExtended, VcpuXsave, fault_of_length, length_rows, IsPvInfo, fault_of_pv_info, p2m_count, IsP2m, fault_of_p2m, is_vcpu, fault_of_vcpu, is_vcpu_type, fault_of_vcpu_record, in32}
 use Rattle.std.proofs.lemmas.List.{drop_at}
 use Rattle.std.specs.Prelude.{◌||◌, ◌-◌, ◌%◌}
 use Rattle.mig_bytes.specs.Fields.{le32}
 use Rattle.mig_headers.specs.declared.record_type.RecordType.TheVariants as types
 use Rattle.mig_records.proofs.Rows.{has_allowed}
-use Rattle.mig_headers.proofs.ContextTexts.{in32}
 
 -- ---- X86_PV_INFO
 

@@ -1,6 +1,5 @@
 -- How records are spelled, and the numbers in front of a body.
-use Rattle.mig_records.proofs.Common.{flat_map-append, take-append-le, padding_len, little_bytes, length-bytes_low_first}
-use Rattle.std.proofs.Common.{List, [], ap, append-nil, drop, length, replicate, sym, take, ℕ, ◌++◌, ◌+◌, ◌∙◌, ◌∷◌, ◌≡◌, ◌≤◌}
+use Rattle.mig_records.proofs.Common.{flat_map-append, take-append-le, padding_len, little_bytes, length-bytes_low_first, List, [], ap, append-nil, drop, length, replicate, sym, take, ℕ, ◌++◌, ◌+◌, ◌∙◌, ◌∷◌, ◌≡◌, ◌≤◌}
 use Rattle.std.proofs.Math.Seq.{take-append-add}
 use Rattle.mig_records.specs.Records.{Record, text_of, head_of, spelled}
 use Rattle.mig_bytes.specs.Fields.{with_field}

@@ -1,7 +1,6 @@
 -- A table without fault is one that is spelled as entries, whatever its layout.
-use Rattle.mig_records.proofs.Common.{◌≡◌, ◌≤◌, ℕ, zero, suc, ◌+◌, ◌*◌, ◌/◌, Bool, true, false, cond, List, [], ◌∷◌, ◌++◌, length, take, drop, not, nat_eq, Option, None, refl, sym, ap, subst, ◌∙◌, arith, length-append, length-drop, length-take-le, take-append-drop, drop-drop, drop_at, not-false, not_from_true, eqb-true, eq-eqb, take_at, little_number, little_from-append, Cause, BadLength, first_fault, both_none, neither_some, rows_fine, no_fault, PartCode, PartKey, code_number, Part, Layout, fault_of_key, spelled_key, key_in, entry_width, front_width, AreTableEntries, IsTableFront, IsTable, entry_part, entry_parts, fault_of_entries, entry_count, parts_of_table, fault_of_table, AreWidths, mul-suc, mul-div_cancel_left}
+use Rattle.mig_records.proofs.Common.{◌≡◌, ◌≤◌, ℕ, zero, suc, ◌+◌, ◌*◌, ◌/◌, Bool, true, false, cond, List, [], ◌∷◌, ◌++◌, length, take, drop, not, nat_eq, Option, None, refl, sym, ap, subst, ◌∙◌, arith, length-append, length-drop, length-take-le, take-append-drop, drop-drop, drop_at, not-false, not_from_true, eqb-true, eq-eqb, take_at, little_number, little_from-append, Cause, BadLength, first_fault, both_none, neither_some, rows_fine, no_fault, PartCode, PartKey, code_number, Part, Layout, fault_of_key, spelled_key, key_in, entry_width, front_width, AreTableEntries, IsTableFront, IsTable, entry_part, entry_parts, fault_of_entries, entry_count, parts_of_table, fault_of_table, AreWidths, mul-suc, mul-div_cancel_left, in32}
 use Rattle.mig_bytes.specs.Fields.{le32}
-use Rattle.mig_headers.proofs.ContextTexts.{in32}
 
 -- a number reads its own bytes alone
 pub number_first : (n : ℕ) (bytes rest : List ℕ) → length bytes ≡ n → little_number n (bytes ++ rest) ≡ little_number n bytes

@@ -1,16 +1,7 @@
 -- How what writers of frames append joins, and what their errors say.
-use Rattle.std.proofs.Common.{◌≡◌, ◌≤◌, ◌<◌, ℕ, ◌+◌, ◌-◌, ◌*◌, false, List, ◌∷◌, ◌++◌, length, replicate, take, drop, Option, Result, Ok, Err, sym, ap, subst, ◌∙◌, arith, append-nil, append_assoc, length-append}
-use Rattle.std.proofs.Math.Seq.{take-append-add}
-use Rattle.std.proofs.lemmas.List.{take-append-le, length-take}
-use Rattle.std.specs.Io.KnownBytes.{Appends}
-use Rattle.std.proofs.KnownBytes.{Appends-trans, Appends-nil}
-use Rattle.byteorder.specs.Endian.{little_bytes}
+use Rattle.mig_records_pages.proofs.Common.{◌≡◌, ◌≤◌, ◌<◌, ℕ, ◌+◌, ◌-◌, ◌*◌, false, List, ◌∷◌, ◌++◌, length, replicate, take, drop, Option, Result, Ok, Err, sym, ap, subst, ◌∙◌, arith, append-nil, append_assoc, length-append, take-append-add, take-append-le, length-take, Appends, Appends-trans, Appends-nil, little_bytes, AppendsPart, WriteFailed, head_of, spelled, Frame, page_in, pages_of, words_of, body_of}
 use Rattle.mig_bytes.proofs.Texts.{flat_more, flat_parted}
-use Rattle.mig_bytes.specs.Bytes.{AppendsPart}
 use Rattle.mig_bytes.specs.Faults.{FaultHasCause}
-use Rattle.mig_bytes.specs.declared.failure.WriteFailed.{WriteFailed}
-use Rattle.mig_records.specs.Records.{head_of, spelled}
-use Rattle.mig_records_pages.specs.PageData.{Frame, page_in, pages_of, words_of, body_of}
 use Rattle.mig_records_pages.specs.Copied.{Copies, CopyHasCause}
 use Rattle.mig_records_pages.specs.declared.copy_failed.CopyFailed.{CopyFailed}
 use Rattle.mig_records_pages.specs.declared.copy_failed.CopyFailed.TheVariants.{Read, Write}

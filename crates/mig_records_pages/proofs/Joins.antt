@@ -1,10 +1,9 @@
 -- Batches that were written join, entries that are held are few, and so are the batches.
-use Rattle.std.proofs.Common.{Bool, true, false, cond, ltb-false, ◌≡◌, ℕ, ◌+◌, ◌*◌, ◌<◌, ◌≤◌, ◌^◌, List, [], ◌∷◌, length, map, Option, Result, Ok, Err, refl, sym, ap, subst, arith, length-append}
+use Rattle.std.proofs.Common.{Bool, true, false, cond, ltb-false, ◌≡◌, ℕ, ◌+◌, ◌*◌, ◌<◌, ◌≤◌, ◌^◌, List, [], ◌∷◌, length, map, Option, Result, Ok, Err, refl, sym, subst, arith, length-append}
 use Rattle.std.specs.Prelude.{count_by}
 use Rattle.std.proofs.lemmas.List.{map-append}
 use Rattle.std.proofs.lemmas.List.Sums.{sum_by-append}
-use Rattle.mig_bytes.specs.declared.failure.WriteFailed.{WriteFailed}
-use Rattle.mig_bytes.specs.Bytes.{Puts}
+use Rattle.mig_records_pages.proofs.Common.{WriteFailed, Puts}
 use Rattle.mig_records.specs.Records.{spelled, Record}
 use Rattle.mig_records_pages.specs.Told.{FrameTold, telling_record, all_told}
 use Rattle.mig_records_pages.specs.Written.{IsRecordWithin, WroteAll}

@@ -1,11 +1,7 @@
 -- The words and pages of frames, one after another, and the record that they make.
-use Rattle.std.proofs.Common.{List, [], ap, arith, drop, length, length-append, refl, replicate, sym, take, ℕ, ◌*◌, ◌++◌, ◌+◌, ◌∙◌, ◌∷◌, ◌≡◌, ◌≤◌}
-use Rattle.std.proofs.Math.Seq.{take-append-add}
-use Rattle.std.proofs.lemmas.List.{length-take}
+use Rattle.mig_records_pages.proofs.Common.{List, [], ap, arith, drop, length, length-append, refl, replicate, sym, take, ℕ, ◌*◌, ◌++◌, ◌+◌, ◌∙◌, ◌∷◌, ◌≡◌, ◌≤◌, take-append-add, length-take, head_of, spelled, little_bytes}
 use Rattle.mig_bytes.specs.Bytes.{padding_len}
 use Rattle.mig_records_pages.specs.PageData.{Frame, frame_word_in, page_in, pages_of, words_of, body_of}
-use Rattle.mig_records.specs.Records.{head_of, spelled}
-use Rattle.byteorder.specs.Endian.{little_bytes}
 use Rattle.mig_bytes.specs.Fields.{with_field}
 use Rattle.mig_records_pages.proofs.ListSteps.{flat_next}
 use Rattle.mig_records.proofs.RecordTexts.{spelled_flat}

@@ -2,7 +2,7 @@
 use Rattle.std.proofs.Common.{◌≡◌, ℕ, zero, suc, ◌+◌, ◌<◌, List, [], ◌∷◌, length, map, drop, take, get_or, Option, refl, sym, ap, ◌∙◌, arith}
 use Rattle.std.proofs.lemmas.List.{length-map, take_all}
 use Rattle.mig_pagetypes.specs.declared.page_type.PageType.{PageType}
-use Rattle.mig_records_pages.specs.PageData.{Frame}
+use Rattle.mig_records_pages.proofs.Common.{Frame}
 use Rattle.mig_records_pages.proofs.ListSteps.{drop_next}
 use Rattle.mig_records_pages.specs.declared.held_frame.HeldFrame.{HeldFrame}
 use Rattle.mig_records_pages.specs.Told.{told_of, told_held, telling_frame, telling_frames}

@@ -1,10 +1,6 @@
 -- Records that were written join, and so does a part of one more.
 use Rattle.std.proofs.Common.{◌≡◌, ℕ, List, [], ◌∷◌, ◌++◌, take, Option, Result, Ok, Err, OnErr, sym, ap, subst, ◌∙◌, arith, append_assoc, append-nil}
-use Rattle.std.proofs.lemmas.Grind.{flat_map-append}
-use Rattle.std.specs.Io.KnownBytes.{Appends}
-use Rattle.std.proofs.KnownBytes.{Appends-trans, Appends-nil}
-use Rattle.mig_bytes.specs.declared.failure.WriteFailed.{WriteFailed}
-use Rattle.mig_bytes.specs.Bytes.{AppendsPart, Puts}
+use Rattle.mig_records_pages.proofs.Common.{flat_map-append, Appends, Appends-trans, Appends-nil, WriteFailed, AppendsPart, Puts}
 use Rattle.mig_records.specs.Records.{head_of, spelled, Record, text_of}
 use Rattle.mig_records_pages.specs.Written.{IsShortRecord, IsRecordWithin, AreRecordsWithin, WroteAll, WroteSome, JoinsRecords, LeavesPart}
 

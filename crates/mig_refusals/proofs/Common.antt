@@ -5,8 +5,6 @@ pub use Rattle.std.proofs.lemmas.Bool.{and_from, and_parts, both_ways, cases_Boo
 pub use Rattle.std.proofs.lemmas.Grind.{common_steps}
 pub use Rattle.std.proofs.lemmas.List.{append_cancel_right}
 pub use Rattle.std.proofs.lemmas.List.Elements.{All-append, All-from_recursion, All-head, All-tail, recursion_from_All}
-pub use Rattle.std.proofs.lemmas.List.Folds.{list_any_at}
-pub use Rattle.std.proofs.lemmas.List.FromFn.{get_or-range_with_len, length-range_with_len}
 pub use Rattle.std.proofs.lemmas.Option.{none-some, same_Some}
 pub use Rattle.std.specs.Cmp.{IsTotalOrder, nat_cmp_total, ranked}
 pub use Rattle.std.specs.FinMap.{FinMap, IsAntisymmetric, nat_cmp-IsAntisymmetric}
@@ -66,7 +64,7 @@ pub use Rattle.mig_guest.proofs.PartOrder.{part_exact, part_total}
 pub use Rattle.mig_guest.specs.Formed.{gdt_ents}
 pub use Rattle.mig_guest.specs.Frames.{FrameMap, FrameOf, is_type_of}
 pub use Rattle.mig_guest.specs.Guests.{GuestOf}
-pub use Rattle.mig_guest.specs.Hosts.{HostOf, IsValid}
+pub use Rattle.mig_guest.specs.Hosts.{HostOf, IsValid, HostFrame, most_width}
 pub use Rattle.mig_guest.specs.Longs.{long_at}
 pub use Rattle.mig_guest.specs.Order.{IsAbove, part_cmp}
 pub use Rattle.mig_guest.specs.PartCodes.{code_number, code_of_number, row_of}

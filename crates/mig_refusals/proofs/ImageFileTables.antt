@@ -1,11 +1,8 @@
 -- The tables of causes of a guest image have the causes that stand in words.
-use Rattle.mig_refusals.proofs.Common.{◌≡◌, inl, inr, ℕ, ◌<◌, List, refl, ap, sym, subst, le32, le64, both_ways, false_from_ne_true}
-use Rattle.mig_guest.specs.Hosts.{HostOf}
-use Rattle.mig_headers.specs.declared.image_fault.ImageCause.{ImageCause}
+use Rattle.mig_refusals.proofs.Common.{◌≡◌, inl, inr, ℕ, ◌<◌, List, refl, ap, sym, subst, le32, le64, both_ways, false_from_ne_true, HostOf, ImageCause, GuestImageVersion}
 use Rattle.mig_image.specs.GuestImage.{leaves_out, most_width_of}
 use Rattle.mig_image.specs.GuestImageForm.{content_causes, frame_causes, host_head_causes, padding_causes, page_causes, part_causes}
 use Rattle.mig_image.specs.GuestImageParts.{head_key, head_version}
-use Rattle.mig_image.specs.declared.version.GuestImageVersion.{GuestImageVersion}
 use Rattle.mig_image.specs.declared.version.GuestImageVersion.TheVariants.{One, Two}
 use Rattle.mig_refusals.specs.ImageFileTables.{ImageHeadHas, ImageFrameHas, ImagePageHas, ImagePartHas, ImageContentHas, ImagePaddingHas, ImageTablesSay, most_numbers}
 use Rattle.mig_refusals.specs.ImageFileTables.ImageHeadHas.{other_name, other_kind, not_zero, too_wide, wide_for_version, pv_without_width, wide_for_pv, many_frames, more_than_wide}

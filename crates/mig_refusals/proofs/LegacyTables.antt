@@ -1,15 +1,11 @@
 -- The tables of causes of a legacy stream have the causes that stand in words.
-use Rattle.mig_refusals.proofs.Common.{◌≡◌, inl, inr, ℕ, ◌-◌, ◌^◌, ◌<◌, ◌≤◌, Bool, true, false, cond, nat_lt, List, [], ◌∷◌, ◌++◌, Option, Some, None, refl, ap, sym, subst, arith, le-ltb, lt-ltb, ltb-true, ltb-false, EmulatorsOf, computed, option_map, both_ways}
+use Rattle.mig_refusals.proofs.Common.{◌≡◌, inl, inr, ℕ, ◌-◌, ◌^◌, ◌<◌, ◌≤◌, Bool, true, false, cond, nat_lt, List, [], ◌∷◌, ◌++◌, Option, Some, None, refl, ap, sym, subst, arith, le-ltb, lt-ltb, ltb-true, ltb-false, EmulatorsOf, computed, option_map, both_ways, LegacyCause, ChunkKind, toolstack_fault, spelled_with}
 use Rattle.mig_bytes_form.specs.Tests.Test.{Less}
-use Rattle.mig_headers.specs.declared.legacy_fault.LegacyCause.{LegacyCause}
 use Rattle.mig_headers.specs.declared.legacy_fault.LegacyCause.TheVariants as causes
-use Rattle.mig_legacy.specs.declared.chunk.ChunkKind.{ChunkKind}
 use Rattle.mig_legacy.specs.declared.chunk.ChunkKind.TheVariants.{End, Batch, VcpuMap, Tsc, LastCheckpoint, Toolstack, Param}
 use Rattle.mig_legacy.specs.Chunks.{negative, negative_causes, number_causes}
-use Rattle.mig_legacy.specs.Judged.{toolstack_fault}
 use Rattle.mig_legacy.specs.Legacy.{LegacyChunk, is_end, store_key}
 use Rattle.mig_legacy.specs.LegacyForm.{length_causes, max_causes, pairs_of_toolstack, place_causes, signature_causes, start_causes, toolstack_causes}
-use Rattle.mig_libxl_form.specs.Emulators.{spelled_with}
 use Rattle.mig_refusals.specs.LegacyTables.{LegacyStartHas, LegacyNumberHas, LegacyPlaceHas, LegacyMaxHas, LegacyLengthHas, LegacyToolstackHas, LegacySignatureHas, LegacyTablesSay}
 use Rattle.mig_refusals.specs.LegacyTables.LegacyStartHas.{image_marker, libxl_ident, upper_half}
 use Rattle.mig_refusals.specs.LegacyTables.LegacyNumberHas.{minus_1, minus_5, minus_6, minus_12, minus_13, minus_more, long_batch}

@@ -3,9 +3,9 @@ pub use Rattle.std.specs.List.{flat_map}
 pub use Rattle.mig_bytes.specs.Bytes.{AreBytes, padding_len}
 pub use Rattle.mig_bytes.specs.Fields.{be16, be32, be64, le16, le32, le64}
 pub use Rattle.mig_bytes.specs.Sequences.{Spells}
-pub use Rattle.mig_bytes_form.specs.Form.{RefusedAs, SpelledAs}
+pub use Rattle.mig_bytes_form.specs.Form.{RefusedAs, SpelledAs, FormOf, bytes_form, said_form, ◌>>>◌}
 pub use Rattle.mig_bytes_form.specs.Form.FormOf.{Gives}
-pub use Rattle.mig_bytes_form.specs.Tests.{Test, computed, is_ascending}
+pub use Rattle.mig_bytes_form.specs.Tests.{Test, computed, is_ascending, HasIn}
 pub use Rattle.mig_guest.specs.Frames.{FrameOf, is_type_of}
 pub use Rattle.mig_guest.specs.Guests.{GuestOf}
 pub use Rattle.mig_guest.specs.Hosts.{HostFrame, HostOf, IsValid, most_width}
@@ -39,3 +39,8 @@ pub use Rattle.mig_restore_form.specs.Judging.{Before, Opening, before, code_of_
 pub use Rattle.mig_restore_form.specs.Mean.{sent, type_in_guest}
 pub use Rattle.mig_restore_form.specs.Spelled.{Accepted, Follows}
 pub use Rattle.mig_restore_form.specs.Stream.{ImageOf, IsRefused}
+pub use Rattle.mig_headers.specs.declared.image_fault.ImageCause.{ImageCause}
+pub use Rattle.mig_guest.specs.PartCodes.{code_number, row_of}
+pub use Rattle.mig_headers.specs.declared.legacy_fault.LegacyCause.{LegacyCause}
+pub use Rattle.mig_legacy.specs.declared.chunk.ChunkKind.{ChunkKind}
+pub use Rattle.mig_legacy.specs.Chunks.{number_causes}

@@ -2,9 +2,8 @@
 -- the faultless front before it.
 use Rattle.std.specs.Prelude.{ℕ, ◌<◌, true, List, ◌≡◌, ◌↔◌, Some, length, ◌⊎◌, ◌≤◌, false, IsSome, slice_index}
 use Rattle.std.specs.FinMap as maps
-use Rattle.mig_refusals.specs.Common.{le64, is_ascending, number_of_image_cause, AreCanonicalPairs, are_canonical_pairs, Kind, Hvm, is_type_of, HostOf, HostFrame, IsAbove, PartCode, PartKey, PartMap, GuestImageVersion, is_all_zero, head_version, head_type_number, head_type, opened, has_frame_from, has_part_from, code_fits, code_allows, host_head_causes, frame_causes, page_causes, part_causes, content_causes, padding_causes, host_head_form, host_frame_form, count_form, host_part_form, frames_form, host_parts_form, guest_image_form}
+use Rattle.mig_refusals.specs.Common.{le64, is_ascending, number_of_image_cause, AreCanonicalPairs, are_canonical_pairs, Kind, Hvm, is_type_of, HostOf, HostFrame, IsAbove, PartCode, PartKey, PartMap, GuestImageVersion, is_all_zero, head_version, head_type_number, head_type, opened, has_frame_from, has_part_from, code_fits, code_allows, host_head_causes, frame_causes, page_causes, part_causes, content_causes, padding_causes, host_head_form, host_frame_form, count_form, host_part_form, frames_form, host_parts_form, guest_image_form, ImageCause}
 use Rattle.mig_bytes_form.specs.Form.{FormOf, ◌>>>◌, placed_form, paired, BeginsAs, RefusedAs}
-use Rattle.mig_headers.specs.declared.image_fault.ImageCause.{ImageCause}
 use Rattle.mig_headers.specs.declared.image_fault.ImagePlace.{ImagePlace}
 use Rattle.mig_headers.specs.declared.image_fault.ImagePlace.TheVariants as places
 use Rattle.mig_guest.specs.PartCodes.{code_number, code_of_number, row_of}

@@ -1,11 +1,8 @@
 -- The causes of a guest image in the words of its format, a line for each: where one stands in a part.
 use Rattle.std.specs.Prelude.{◌≡◌, ◌≢◌, ◌↔◌, ◌⊎◌, ℕ, ◌/◌, ◌%◌, ◌^◌, ◌<◌, ◌≤◌, true, List, length, Some, IsSome, slice_index}
 use Rattle.std.specs.FinMap as maps
-use Rattle.mig_refusals.specs.Common.{be64, le32, le64, AreCanonicalPairs, HostOf, HostFrame, IsAbove, PartKey, GuestImageVersion, head_type_number, content_causes, frame_causes, host_head_causes, padding_causes, page_causes, part_causes}
-use Rattle.mig_bytes_form.specs.Tests.{HasIn}
+use Rattle.mig_refusals.specs.Common.{be64, le32, le64, AreCanonicalPairs, HostOf, HostFrame, IsAbove, PartKey, GuestImageVersion, head_type_number, content_causes, frame_causes, host_head_causes, padding_causes, page_causes, part_causes, HasIn, row_of, ImageCause}
 use Rattle.mig_guest.specs.Parts.{parts_of}
-use Rattle.mig_guest.specs.PartCodes.{row_of}
-use Rattle.mig_headers.specs.declared.image_fault.ImageCause.{ImageCause}
 use Rattle.mig_headers.specs.declared.image_fault.ImageCause.TheVariants as causes
 use Rattle.mig_image.specs.declared.version.GuestImageVersion.TheVariants.{One, Two}
 use Rattle.mig_image.specs.GuestImageParts.{head_key, head_pfn, head_version}

@@ -2,17 +2,14 @@
 use Rattle.std.specs.Prelude.{◌≡◌, ◌↔◌, ℕ, ◌^◌, ◌<◌, ◌≤◌, true, false, List, ◌++◌, length, slice_index, Some}
 use Rattle.std.specs.FinMap as maps
 use Rattle.std.specs.Str.{bytes_eq}
-use Rattle.mig_refusals.specs.Common.{Spells, RefusedAs, is_ascending, number_of_legacy_cause, ContextFault, Hvm, sent, EmulatorsOf, IsStart, IsTail, FollowsLegacy}
+use Rattle.mig_refusals.specs.Common.{Spells, RefusedAs, is_ascending, number_of_legacy_cause, ContextFault, Hvm, sent, EmulatorsOf, IsStart, IsTail, FollowsLegacy, LegacyCause, ChunkKind, number_causes}
 use Rattle.mig_headers.specs.Contexts.{scan}
 use Rattle.mig_headers.specs.FirstCauses.{IsTriedFirst}
-use Rattle.mig_headers.specs.declared.legacy_fault.LegacyCause.{LegacyCause}
 use Rattle.mig_headers.specs.declared.legacy_fault.LegacyCause.TheVariants.{BadPageType, WordHigh, BadContext}
 use Rattle.mig_headers.specs.declared.legacy_fault.LegacyPlace.{LegacyPlace}
 use Rattle.mig_headers.specs.declared.legacy_fault.LegacyPlace.TheVariants as places
 use Rattle.mig_pagetypes.specs.LegacyWords.{legacy_type}
-use Rattle.mig_legacy.specs.declared.chunk.ChunkKind.{ChunkKind}
 use Rattle.mig_legacy.specs.Batches.{fault_of_batch}
-use Rattle.mig_legacy.specs.Chunks.{number_causes}
 use Rattle.mig_legacy.specs.Judged.{toolstack_fault}
 use Rattle.mig_legacy.specs.Legacy.{LegacyChunk, LegacyTail, has_value, image_records, is_legacy_ended}
 use Rattle.mig_legacy.specs.LegacyForm.{context_fault, frames_sent, is_unpaired, signature, start_causes, place_causes, toolstack_causes, start_form, chunk_form, tail_form, device_form}

@@ -1,13 +1,9 @@
 -- The causes of a legacy stream in the words of the format (Xen's xg_save_restore.h), a line for each: where one stands in a part.
 use Rattle.std.specs.Prelude.{◌≡◌, ◌↔◌, ◌≢◌, ℕ, ◌-◌, ◌^◌, ◌<◌, ◌≤◌, List, length, codes}
 use Rattle.std.specs.FinMap as maps
-use Rattle.mig_refusals.specs.Common.{be64, le32, sent, Hvm, EmulatorsOf, spelled_with}
-use Rattle.mig_bytes_form.specs.Tests.{HasIn}
-use Rattle.mig_headers.specs.declared.legacy_fault.LegacyCause.{LegacyCause}
+use Rattle.mig_refusals.specs.Common.{be64, le32, sent, Hvm, EmulatorsOf, spelled_with, HasIn, LegacyCause, ChunkKind, number_causes}
 use Rattle.mig_headers.specs.declared.legacy_fault.LegacyCause.TheVariants as causes
-use Rattle.mig_legacy.specs.declared.chunk.ChunkKind.{ChunkKind}
 use Rattle.mig_legacy.specs.declared.chunk.ChunkKind.TheVariants.{End}
-use Rattle.mig_legacy.specs.Chunks.{number_causes}
 use Rattle.mig_legacy.specs.Legacy.{LegacyChunk, has_value, image_records, store_key}
 use Rattle.mig_legacy.specs.LegacyForm.{length_causes, max_causes, pairs_of_toolstack, place_causes, signature_causes, start_causes, toolstack_causes}
 use Rattle.mig_refusals.specs.LegacyToolstack.{FieldWrong}

@@ -1,10 +1,8 @@
 -- The form of a libxl stream around its image (libxl migration stream), and in each part the causes that may stand in it, in the
 -- order of their numbers; and the refusals of streams of either form, behind a faultless front.
 use Rattle.std.specs.Prelude.{◌<◌, ◌≡◌, ◌≤◌, ◌%◌, ◌^◌, ℕ, true, false, Bool, List, [], ◌∷◌, ◌++◌, length, drop, is_some, is_none, ◌==◌, if◌then◌else◌, ◌⊎◌, ◌↔◌, Option, Some}
-use Rattle.mig_refusals.specs.Common.{flat_map, padding_len, le32, be32, be64, Spells, Gives, Test, computed, is_ascending, most_body, number_of_cause, Pair, AreRising, text_of_pair, Cause, Place, most_records, ImageOf, Pv, emulators_of, pairs_said, spelled_with, FollowsLibxl, most_pairs}
-use Rattle.mig_bytes_form.specs.Form.{FormOf, ◌>>>◌, bytes_form, said_form, SpelledAs, RefusedAs}
+use Rattle.mig_refusals.specs.Common.{flat_map, padding_len, le32, be32, be64, Spells, Gives, Test, computed, is_ascending, most_body, number_of_cause, Pair, AreRising, text_of_pair, Cause, Place, most_records, ImageOf, Pv, emulators_of, pairs_said, spelled_with, FollowsLibxl, most_pairs, FormOf, ◌>>>◌, bytes_form, said_form, SpelledAs, RefusedAs, code_number}
 use Rattle.mig_bytes_form.specs.Tests.Test.{Less, AtMost, Equal, Is, Not, Both, Either}
-use Rattle.mig_guest.specs.PartCodes.{code_number}
 use Rattle.mig_guest.specs.declared.part_code.PartCode.TheVariants.{EmulatorContext, EmulatorPairs}
 use Rattle.mig_headers.specs.Headers.{libxl_ident, IsLibxlHeader}
 use Rattle.mig_headers.specs.declared.fault.Cause.TheVariants.{Truncated, BadVersion, BigEndian, BodyTooLong, Unsupported, UnknownMandatory, BadLength, TooManyRecords, BadEmulator, EmulatorForPv, ContextCount, TooManyPairs, EmulatorIndex}

@@ -1,6 +1,6 @@
 -- Names that many proofs of this crate use.
 pub use Rattle.std.proofs.Common.{Bool, Err, List, None, Ok, Option, Result, Some, [], ap, append-nil, append_assoc, arith, cond, drop, false, is_none, le_refl, length, length-append, length-drop, length-take-le, min, nat_eq, nat_le, nat_lt, not, refl, replicate, rules, slice_index, subst, suc, sym, take, take-append-drop, true, zero, ℕ, ◌*◌, ◌++◌, ◌+◌, ◌-◌, ◌<◌, ◌==◌, ◌^◌, ◌||◌, ◌∙◌, ◌∷◌, ◌≡◌, ◌≢◌, ◌≤◌}
-pub use Rattle.std.proofs.lemmas.Bool.{eq-eqb, eqb-false, eqb-true, le-leb, leb-true, lt-leb, lt-ltb, ltb-false, ltb-true, ne_eqb, not-false}
+pub use Rattle.std.proofs.lemmas.Bool.{eq-eqb, eqb-false, eqb-true, le-leb, leb-true, lt-leb, lt-ltb, ltb-false, ltb-true, ne_eqb, not-false, true≢false}
 pub use Rattle.std.proofs.lemmas.Grind.{common_steps}
 pub use Rattle.std.proofs.lemmas.List.{get_or_read, length-map, map-append}
 pub use Rattle.std.specs.Io.KnownBytes.{Appends, Consumes}
@@ -50,7 +50,7 @@ pub use Rattle.mig_records.specs.Shapes.{fault_by_shape, fault_of_body, fault_of
 pub use Rattle.mig_records.specs.Words.{data_len_of, words}
 pub use Rattle.mig_records.specs.declared.head.RecordHead.{RecordHead}
 pub use Rattle.mig_relay.specs.Causes.{is_unasked}
-pub use Rattle.mig_relay.specs.Following.{ComesBehind, ComesNext, count, head_of_next, image_begins, image_end, image_next, image_whole, in_hand, inner_end, kind, libxl_begins, libxl_context, libxl_end, libxl_next, libxl_whole, more, pages_begin, place_of_spot, version, whole, wrapper_header}
+pub use Rattle.mig_relay.specs.Following.{ComesBehind, ComesNext, count, image_begins, image_end, image_next, image_whole, in_hand, inner_end, kind, libxl_begins, libxl_context, libxl_end, libxl_next, libxl_whole, more, pages_begin, place_of_spot, version, whole, wrapper_header, image_opens, marker, wrapper_opens}
 pub use Rattle.mig_relay.specs.Images.{open_image_at, open_next}
 pub use Rattle.mig_relay.specs.Keeping.{HasNumber, HasRecords, IsBodied, IsOther, IsPages, Keeps, KeepsBody, KeepsFirst, KeepsGoing, KeepsHead, KeepsNext, KeepsOpen, KeepsOuter, KeepsRecords, KeepsWords, KeepsWrapper, Stands, fault_of_empty, top_with, with_one}
 pub use Rattle.mig_relay.specs.Parts.{AtBody, AtFront, AtHead, AtKind, AtMarker, AtPadding, AtPages, AtVersion, AtWords, BeginsWithPart, Next, entry_of_word, judged_next, padded, pages_behind, record_with, with_body, with_record, words_behind}
@@ -64,7 +64,7 @@ pub use Rattle.mig_relay.specs.declared.answer.RelayAnswer.{RelayAnswer}
 pub use Rattle.mig_relay.specs.declared.answer.RelayAnswer.TheVariants.{Memory, ReadFault, Refused, WriteFault}
 pub use Rattle.mig_relay.specs.declared.answer.Relayed.{Relayed}
 pub use Rattle.mig_relay.specs.declared.answer.Step.{Step}
-pub use Rattle.mig_relay.specs.declared.answer.Step.TheVariants.{Done, Piece}
+pub use Rattle.mig_relay.specs.declared.answer.Step.TheVariants.{Piece}
 pub use Rattle.mig_relay.specs.declared.state.Coming.{Coming}
 pub use Rattle.mig_relay.specs.declared.state.Relay.{Relay}
 pub use Rattle.mig_relay_bodies.proofs.Types.{bodies_are_parts}
@@ -80,3 +80,4 @@ pub use Rattle.mig_restore_form.specs.Seen.{IsSeen}
 pub use Rattle.mig_restore_form.specs.Stream.{ImageOf, image_at, image_of, kind_at, marker_at, opening_behind, placed_next, version_at}
 pub use Rattle.mig_restore_form.specs.declared.head.RecordsSeen.{RecordsSeen}
 pub use Rattle.mig_restore_form.proofs.Batches.{behind_list, front_list, good_list, list_stage, places_len}
+pub use Rattle.mig_pagetypes.specs.PageTypes.{level_of}

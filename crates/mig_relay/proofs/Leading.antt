@@ -1,6 +1,5 @@
 -- The PAGE_DATA in hand has as many words behind a piece as before it.
-use Rattle.mig_relay.proofs.Common.{◌≡◌, ◌≢◌, ℕ, ◌+◌, ◌≤◌, List, length, Option, Some, None, refl, sym, ap, ◌∙◌, arith, drop, length-drop, ⊤, LibxlRecord, padding_len, places_len, with_places, Opening, StreamRecord, FrameEntry, in_hand, Keeps, KeepsNext, KeepsWordsInHand, IsPages, Next, AtMarker, AtVersion, AtKind, AtHead, AtBody, AtFront, AtWords, AtPages, AtPadding, Outer, Spot, AtStart, AtLibxlHeader, AtLibxlHead, AtLibxlBody, AtLibxlPadding, InImage, AtEnd, PassedPiece, IsStep, ComesBehind, ComesNext, RecordHead, Step, Relay, libxl_next, libxl_context, libxl_end, image_next, image_end, inner_end, wrapper_header, version, kind, libxl_begins, libxl_whole, image_begins, pages_begin, image_whole, count, more, whole}
-use Rattle.std.proofs.lemmas.Bool.{true≢false}
+use Rattle.mig_relay.proofs.Common.{◌≡◌, ◌≢◌, ℕ, ◌+◌, ◌≤◌, List, length, Option, Some, None, refl, sym, ap, ◌∙◌, arith, drop, length-drop, ⊤, LibxlRecord, padding_len, places_len, with_places, Opening, StreamRecord, FrameEntry, in_hand, Keeps, KeepsNext, KeepsWordsInHand, IsPages, Next, AtMarker, AtVersion, AtKind, AtHead, AtBody, AtFront, AtWords, AtPages, AtPadding, Outer, Spot, AtStart, AtLibxlHeader, AtLibxlHead, AtLibxlBody, AtLibxlPadding, InImage, AtEnd, PassedPiece, IsStep, ComesBehind, ComesNext, RecordHead, Step, Relay, libxl_next, libxl_context, libxl_end, image_next, image_end, inner_end, wrapper_header, version, kind, libxl_begins, libxl_whole, image_begins, pages_begin, image_whole, count, more, whole, true≢false}
 use Rattle.mig_relay.specs.Following.{CountDue, KeepsNumber, due, head_spot, image_opens, wrapper_opens, marker}
 use Rattle.mig_relay.specs.Spots.{number_of_words}
 use Rattle.mig_relay.proofs.Paging.{words_number}

@@ -1,7 +1,6 @@
 -- What a step over one part does, whatever the part is.
-use Rattle.mig_relay.proofs.Common.{◌≡◌, ℕ, ◌+◌, ◌<◌, ◌≤◌, List, [], ◌++◌, length, take, drop, Bool, true, false, cond, nat_lt, Option, Some, None, Result, Ok, Err, refl, sym, ap, subst, ◌∙◌, arith, append_assoc, append-nil, length-append, length-take-le, length-drop, take-append-drop, lt-ltb, ltb-true, Consumes, Appends, AppendsPart, TakesFew, Judged, ◌>>=◌, part, tried, placed, AgreesWithJudging, Passes, Faulty, Stop, part_passes, part_whole, same_faulty, Cause, Truncated, Place, StreamOf, ComesNext, place_of_spot, Keeps, BeginsWithPart, Spot, spot, held, is_judged_first, counted, FrontsAreCut, PassedPiece, IsUnfinished, Refuses, Stops, StepMoved, MovedBy, answer_of, RelayAnswer, Refused, WriteFault, Memory, Step, Relay, unless_faulty, IsStep, KeepsWordsInHand}
+use Rattle.mig_relay.proofs.Common.{◌≡◌, ℕ, ◌+◌, ◌<◌, ◌≤◌, List, [], ◌++◌, length, take, drop, Bool, true, false, cond, nat_lt, Option, Some, None, Result, Ok, Err, refl, sym, ap, subst, ◌∙◌, arith, append_assoc, append-nil, length-append, length-take-le, length-drop, take-append-drop, lt-ltb, ltb-true, Consumes, Appends, AppendsPart, TakesFew, Judged, ◌>>=◌, part, tried, placed, AgreesWithJudging, Passes, Faulty, Stop, part_passes, part_whole, same_faulty, Cause, Truncated, Place, StreamOf, ComesNext, place_of_spot, Keeps, BeginsWithPart, Spot, spot, held, is_judged_first, counted, FrontsAreCut, PassedPiece, IsUnfinished, Refuses, Stops, StepMoved, MovedBy, answer_of, RelayAnswer, Refused, WriteFault, Memory, Step, Relay, unless_faulty, IsStep, KeepsWordsInHand, true≢false}
 use Rattle.std.proofs.KnownBytes.{Appends-nil}
-use Rattle.std.proofs.lemmas.Bool.{true≢false}
 use Rattle.mig_bytes.specs.declared.stop.Stop.TheVariants as stops
 
 -- a part that was taken whole into a buffer

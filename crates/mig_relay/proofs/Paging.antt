@@ -1,9 +1,8 @@
 -- A PAGE_DATA on its way: its count, its words and its pages are parts, and words without a page are passed over.
-use Rattle.mig_relay.proofs.Common.{◌≡◌, ℕ, zero, suc, ◌+◌, ◌*◌, ◌-◌, ◌<◌, ◌≤◌, ◌^◌, ◌≢◌, Bool, true, false, cond, nat_eq, nat_lt, not, List, [], ◌∷◌, ◌++◌, length, drop, slice_index, Option, Some, None, Ok, Err, refl, sym, ap, subst, ◌∙◌, arith, ltb-true, ltb-false, eqb-true, eqb-false, not-false, map-append, padding_len, TakesFew, le32, Judged, ◌>>=◌, part, AgreesWithJudging, Stop, GuestOf, rows_fine, Cause, Truncated, BadLength, Place, Record, Kind, word_has_data, fault_of_count, fault_of_words, count_rows, words, RecordHead, ended_more, one_more_record, Opening, before, type_in_word, fault_of_data, fault_of_level, fault_of_page, with_places, sent, put_content, type_in_guest, StreamRecord, FrameEntry, types_of, is_verified, placed_content, Frames, IsSeen, ImageOf, ComesBehind, ComesNext, in_hand, more, image_next, Keeps, KeepsWords, KeepsRecords, KeepsHead, KeepsOuter, IsPages, AtHead, AtFront, AtWords, AtPages, judged_next, record_with, fault_of_list, entry_of_word, BeginsWithPart, Outer, Spot, InImage, spot, carry, Relay, both_none, replicate, count_by, le64, any_stop, data_len_of}
+use Rattle.mig_relay.proofs.Common.{◌≡◌, ℕ, zero, suc, ◌+◌, ◌*◌, ◌-◌, ◌<◌, ◌≤◌, ◌^◌, ◌≢◌, Bool, true, false, cond, nat_eq, nat_lt, not, List, [], ◌∷◌, ◌++◌, length, drop, slice_index, Option, Some, None, Ok, Err, refl, sym, ap, subst, ◌∙◌, arith, ltb-true, ltb-false, eqb-true, eqb-false, not-false, map-append, padding_len, TakesFew, le32, Judged, ◌>>=◌, part, AgreesWithJudging, Stop, GuestOf, rows_fine, Cause, Truncated, BadLength, Place, Record, Kind, word_has_data, fault_of_count, fault_of_words, count_rows, words, RecordHead, ended_more, one_more_record, Opening, before, type_in_word, fault_of_data, fault_of_level, fault_of_page, with_places, sent, put_content, type_in_guest, StreamRecord, FrameEntry, types_of, is_verified, placed_content, Frames, IsSeen, ImageOf, ComesBehind, ComesNext, in_hand, more, image_next, Keeps, KeepsWords, KeepsRecords, KeepsHead, KeepsOuter, IsPages, AtHead, AtFront, AtWords, AtPages, judged_next, record_with, fault_of_list, entry_of_word, BeginsWithPart, Outer, Spot, InImage, spot, carry, Relay, both_none, replicate, count_by, le64, any_stop, data_len_of, level_of}
 use Rattle.std.proofs.lemmas.List.FromFn.{length-map-range_with_len}
 use Rattle.std.proofs.lemmas.List.Sums.{sum_by-cons}
 use Rattle.std.proofs.lemmas.List.{drop_more, drop_all, length-append, length-replicate}
-use Rattle.mig_pagetypes.specs.PageTypes.{level_of}
 use Rattle.mig_pagetypes.specs.declared.page_type.PageType.{PageType}
 use Rattle.mig_relay.specs.Following.{CountDue, FillsBody, WordsDue, bytes_behind_head, due, head_spot, pages_to_come, to_come, whole as last_bytes}
 use Rattle.mig_relay.proofs.Kept.{outer_same, records_same}

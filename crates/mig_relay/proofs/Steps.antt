@@ -1,7 +1,6 @@
 -- From what a relay keeps to the bytes that it stands for.
-use Rattle.mig_relay.proofs.Common.{◌≡◌, ◌≢◌, ℕ, ◌≤◌, Bool, true, false, List, [], ◌∷◌, ◌++◌, length, take, drop, min, ◌+◌, ◌-◌, ◌^◌, ◌<◌, Option, Some, None, Result, Ok, Err, refl, sym, ap, subst, ◌∙◌, arith, append_assoc, append-nil, length-append, length-drop, take-append-drop, Consumes, Appends, AppendsPart, Judged, Passes, passes_not, Cause, Truncated, Place, StreamOf, IsPassable, fault_of_record_body, record_content, bodies_are_parts, before, in_hand, place_of_spot, Keeps, KeepsNext, HasRecords, Next, AtMarker, AtVersion, AtKind, AtHead, AtBody, AtFront, AtWords, AtPages, AtPadding, BeginsWithPart, HasPassed, IsRelayed, Turned, RisesOnAnswer, WritesOnReadFault, Outer, Spot, AtStart, AtLibxlHeader, AtLibxlHead, AtLibxlBody, AtLibxlPadding, InImage, AtEnd, spot, held, carry, FrontsAreCut, PassedPiece, IsUnfinished, is_judged_first, Refuses, Stops, StepMoved, MovedBy, counted, Fits, RelayAnswer, Refused, WriteFault, Memory, Relayed, Step, Coming, Relay, is_some, Stands, RisesOnFault, EndsInside, WritesSome, may_wait, most_waiting, ReadFault}
+use Rattle.mig_relay.proofs.Common.{◌≡◌, ◌≢◌, ℕ, ◌≤◌, Bool, true, false, List, [], ◌∷◌, ◌++◌, length, take, drop, min, ◌+◌, ◌-◌, ◌^◌, ◌<◌, Option, Some, None, Result, Ok, Err, refl, sym, ap, subst, ◌∙◌, arith, append_assoc, append-nil, length-append, length-drop, take-append-drop, Consumes, Appends, AppendsPart, Judged, Passes, passes_not, Cause, Truncated, Place, StreamOf, IsPassable, fault_of_record_body, record_content, bodies_are_parts, before, in_hand, place_of_spot, Keeps, KeepsNext, HasRecords, Next, AtMarker, AtVersion, AtKind, AtHead, AtBody, AtFront, AtWords, AtPages, AtPadding, BeginsWithPart, HasPassed, IsRelayed, Turned, RisesOnAnswer, WritesOnReadFault, Outer, Spot, AtStart, AtLibxlHeader, AtLibxlHead, AtLibxlBody, AtLibxlPadding, InImage, AtEnd, spot, held, carry, FrontsAreCut, PassedPiece, IsUnfinished, is_judged_first, Refuses, Stops, StepMoved, MovedBy, counted, Fits, RelayAnswer, Refused, WriteFault, Memory, Relayed, Step, Coming, Relay, is_some, Stands, RisesOnFault, EndsInside, WritesSome, may_wait, most_waiting, ReadFault, true≢false}
 use Rattle.std.proofs.KnownBytes.{Appends-nil, Appends-trans, Consumes-trans}
-use Rattle.std.proofs.lemmas.Bool.{true≢false}
 use mathlib.Core.Logic.{inl, inr}
 use Rattle.std.specs.Io.KnownBytes.{Keeps as Stays}
 use Rattle.mig_bytes.specs.Faults.{Rose}

@@ -28,3 +28,5 @@ pub use Rattle.mig_relay_bodies.specs.Bodies.{fault_of_libxl_body, fault_of_pair
 pub use Rattle.mig_restore_form.specs.Judging.{Opening, before, body_at, entry_at, fault_of_fields, fault_of_list, most_records, opening_of, pages_at, record_at, type_in_word, with_places, words_at}
 pub use Rattle.mig_restore_form.specs.Record.{Content, FrameEntry, StreamRecord, is_ended, is_verified, placed_content, types_of}
 pub use Rattle.mig_restore_form.specs.Stream.{ImageOf, image_at, image_of, kind_at, opening_at, opening_behind}
+pub use Rattle.mig_bytes.specs.Judged.{Judged, part, placed, said_at, tried, ◌>>=◌}
+pub use Rattle.mig_bytes.specs.declared.stop.Stop.{Stop}

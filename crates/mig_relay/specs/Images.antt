@@ -1,7 +1,6 @@
 -- Judging an image but for what END asks of the whole guest.
 use Rattle.std.specs.Prelude.{◌-◌, ℕ, List, [], length}
-use Rattle.mig_bytes.specs.Judged.{Judged, ◌>>=◌, placed, tried}
-use Rattle.mig_relay.specs.Common.{Passes, onward, Cause, Place, Record, Opening, before, record_at, StreamRecord, is_ended, ImageOf, image_of, opening_at}
+use Rattle.mig_relay.specs.Common.{Passes, onward, Cause, Place, Record, Opening, before, record_at, StreamRecord, is_ended, ImageOf, image_of, opening_at, Judged, ◌>>=◌, placed, tried}
 use Rattle.mig_pvtables.specs.Faults.{fault_of_guest}
 use Rattle.mig_restore_form.specs.Mean.{sent}
 

@@ -2,8 +2,7 @@
 use Rattle.std.specs.Prelude.{◌≡◌, ℕ, List, length, Option, Result}
 use Rattle.mig_bytes.specs.Bytes.{TakesFew}
 use Rattle.mig_bytes.specs.Judged.{AgreesWithJudging, part}
-use Rattle.mig_bytes.specs.declared.stop.Stop.{Stop}
-use Rattle.mig_relay.specs.Common.{Cause, Truncated}
+use Rattle.mig_relay.specs.Common.{Cause, Truncated, Stop}
 
 -- some page stood there and was taken, or no whole one did
 pub record TakesUnseenPage (old new : Option (List ℕ)) (result : Result (Unit {0}) (Stop Cause)) : Type 0 where

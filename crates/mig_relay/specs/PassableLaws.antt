@@ -1,7 +1,6 @@
 -- Laws: what is left out of the judging of a stream, and what no front of a stream is.
 use Rattle.std.specs.Prelude.{◌≡◌, ℕ, false, List, [], ◌++◌}
-use Rattle.mig_bytes.specs.Judged.{◌>>=◌}
-use Rattle.mig_relay.specs.Common.{Passes, Cause, Place, StreamOf, stream_at, IsStreamRefused, image_at}
+use Rattle.mig_relay.specs.Common.{Passes, Cause, Place, StreamOf, stream_at, IsStreamRefused, image_at, ◌>>=◌}
 use Rattle.mig_relay.specs.Causes.{is_unasked}
 use Rattle.mig_relay.specs.Images.{open_image_at, guest_asked}
 use Rattle.mig_relay.specs.Streams.{open_stream_at, IsPassable, IsOpenRefused}

@@ -1,7 +1,6 @@
 -- Where a stream of either form goes on behind a faultless front (libxl migration stream, "Header" and "Records").
 use Rattle.std.specs.Prelude.{ℕ, ◌+◌, ◌*◌, ◌==◌, ◌&&◌, nat_le, Bool, List, [], ◌∷◌, ◌++◌, length, take, Option, None, if◌then◌else◌}
-use Rattle.mig_relay.specs.Common.{padding_len, be64, Passes, LibxlRecord, LibxlContent, Image, libxc_context_type, libxl_ident, fault_of_marker, Cause, Truncated, Place, StreamOf, Bare, RecordHead, ImageOf}
-use Rattle.mig_bytes.specs.Judged.{Judged, ◌>>=◌, part, placed}
+use Rattle.mig_relay.specs.Common.{padding_len, be64, Passes, LibxlRecord, LibxlContent, Image, libxc_context_type, libxl_ident, fault_of_marker, Cause, Truncated, Place, StreamOf, Bare, RecordHead, ImageOf, Judged, ◌>>=◌, part, placed}
 use Rattle.mig_headers.specs.declared.fault.Place.TheVariants.{LibxlRecord as AtRecord}
 use Rattle.mig_relay.specs.Streams.{open_stream_at, open_wrapped, open_libxl_records, open_body}
 use Rattle.mig_relay.specs.Parts.{Next, AtVersion, AtKind, AtBody, AtWords, AtPages, judged_next}

@@ -1,9 +1,8 @@
 -- What a step does.
 use Rattle.std.specs.Prelude.{◌≡◌, ◌<◌, ◌≤◌, ◌+◌, ◌-◌, ◌*◌, ◌^◌, ◌==◌, ℕ, true, false, Bool, List, [], ◌++◌, length, min, Option, Some, None, Result, Ok, Err, ⊤}
 use Rattle.std.specs.Io.KnownBytes.{Consumes, Appends, Keeps as Stays}
-use Rattle.mig_relay.specs.Common.{Rose, be32, be64, le32, Passes, Faulty, libxl_ident, kind_of_number, Cause, Truncated, Place, StreamOf, head_in}
+use Rattle.mig_relay.specs.Common.{Rose, be32, be64, le32, Passes, Faulty, libxl_ident, kind_of_number, Cause, Truncated, Place, StreamOf, head_in, Stop}
 use Rattle.mig_bytes.specs.Judged.{Judged as Verdict}
-use Rattle.mig_bytes.specs.declared.stop.Stop.{Stop}
 use Rattle.mig_bytes.specs.declared.stop.Stop.TheVariants as stops
 use Rattle.mig_records.specs.Words.{words as words_in}
 use Rattle.mig_relay.specs.Following.{ComesNext, place_of_spot}

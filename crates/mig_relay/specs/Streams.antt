@@ -1,7 +1,6 @@
 -- Judging a stream of either form but for what END asks of the whole guest, and for how many bytes an emulator's pairs spell.
 use Rattle.std.specs.Prelude.{◌≡◌, ℕ, ◌&&◌, ◌==◌, List, [], length, drop, nat_le, if◌then◌else◌}
-use Rattle.mig_relay.specs.Common.{code_number, EmulatorPairs, emulator_pairs_type, emulator_context_type, libxc_context_type, padding_len, le32, be64, Passes, Faulty, onward, LibxlRecord, LibxlContent, Image, Pairs, libxl_ident, Cause, Truncated, Place, is_libxl_ended, StreamOf, header_at, Bare, Wrapped, fault_of_pair_body}
-use Rattle.mig_bytes.specs.Judged.{Judged, ◌>>=◌, part, placed, said_at}
+use Rattle.mig_relay.specs.Common.{code_number, EmulatorPairs, emulator_pairs_type, emulator_context_type, libxc_context_type, padding_len, le32, be64, Passes, Faulty, onward, LibxlRecord, LibxlContent, Image, Pairs, libxl_ident, Cause, Truncated, Place, is_libxl_ended, StreamOf, header_at, Bare, Wrapped, fault_of_pair_body, Judged, ◌>>=◌, part, placed, said_at}
 use Rattle.mig_headers.specs.declared.fault.Place.TheVariants.{LibxlHeader, LibxlRecord as AtRecord}
 use Rattle.mig_libxl_form.specs.Judging.{emulator_key, context_at, skipped_at, libxl_head_at}
 use Rattle.mig_policy.specs.PairMaps.{pairs_in}

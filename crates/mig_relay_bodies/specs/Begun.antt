@@ -1,8 +1,7 @@
 -- A body of which some first bytes were taken: what is known of it, and how it is cut into pieces.
 use Rattle.std.specs.Prelude.{◌≡◌, ◌≤◌, ℕ, ◌+◌, ◌-◌, ◌*◌, ◌/◌, min, true, List, [], ◌++◌, length, drop, fold, Option, ⊤}
-use Rattle.mig_relay_bodies.specs.Common.{option_or, layout, fault_of_entries, fault_of_pv_info, fault_of_p2m, fault_of_body, fault_of_content, fault_of_scan, VcpuBasic, VcpuExtended, HvmParam, scan, Cause, pairs_fault}
+use Rattle.mig_relay_bodies.specs.Common.{option_or, layout, fault_of_entries, fault_of_pv_info, fault_of_p2m, fault_of_body, fault_of_content, fault_of_scan, VcpuBasic, VcpuExtended, HvmParam, scan, Cause, pairs_fault, fault_of_context}
 use Rattle.mig_records.specs.declared.layout.Layout.{Layout}
-use Rattle.mig_libxl_form.specs.Judging.{fault_of_context}
 use Rattle.mig_relay_bodies.specs.Bodies.{fault_of_pair_body}
 use Rattle.mig_relay_bodies.specs.ContextChain.{IsBegunContext, chain_piece}
 use Rattle.mig_relay_bodies.specs.PairPieces.{no_bytes, then_byte}

@@ -1,9 +1,8 @@
 -- What is wrong with the whole body of a record, as a reader of the whole body judges it.
 use Rattle.std.specs.Prelude.{ℕ, ◌==◌, List, drop, Option, Some, None, if◌then◌else◌}
-use Rattle.mig_relay_bodies.specs.Common.{option_or, fault_of_pv_info, fault_of_p2m, fault_of_body, parts_of_body, is_optional, type_of_number, Cause, X86PvInfo, X86PvP2mFrames, pairs_fault, code_of_type, lists_of}
+use Rattle.mig_relay_bodies.specs.Common.{option_or, fault_of_pv_info, fault_of_p2m, fault_of_body, parts_of_body, is_optional, type_of_number, Cause, X86PvInfo, X86PvP2mFrames, pairs_fault, code_of_type, lists_of, fault_of_context}
 use Rattle.mig_guest.specs.declared.part_code.PartCode.{PartCode}
 use Rattle.mig_headers.specs.declared.record_type.RecordType.{RecordType}
-use Rattle.mig_libxl_form.specs.Judging.{fault_of_context}
 use Rattle.mig_libxl_form.specs.LibxlTypes.{emulator_pairs_type, emulator_context_type}
 use Rattle.mig_restore_form.specs.Record.{Content}
 use Rattle.mig_restore_form.specs.Record.Content.{Nothing, Sets}

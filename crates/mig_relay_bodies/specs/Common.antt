@@ -12,3 +12,4 @@ pub use Rattle.mig_records.specs.Layouts.{fault_of_entries, fault_of_entry, layo
 pub use Rattle.mig_records.specs.PvBodies.{fault_of_p2m, fault_of_pv_info}
 pub use Rattle.mig_records.specs.Shapes.{fault_of_body, fault_of_content, fault_of_scan, is_chain, parts_of_body, shape_of}
 pub use Rattle.mig_restore_form.specs.Judging.{Before, body_at, code_of_type, fault_of_fields, lists_of}
+pub use Rattle.mig_libxl_form.specs.Judging.{fault_of_context}

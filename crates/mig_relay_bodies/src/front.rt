@@ -1,6 +1,5 @@
 ghost use Rattle.std.specs.Prelude.{◌≡◌, ◌≤◌, ◌*◌, false, ◌++◌, List, ℕ, length, take, drop};
-ghost use Rattle.mig_relay_bodies.specs.Common.{le32, fault_of_entry, fault_of_entries, fault_of_pv_info, fault_of_p2m, fault_of_body, fault_of_content, is_chain, shape_of, VcpuBasic, HvmParam};
-ghost use Rattle.mig_libxl_form.specs.Judging.{fault_of_context};
+ghost use Rattle.mig_relay_bodies.specs.Common.{le32, fault_of_entry, fault_of_entries, fault_of_pv_info, fault_of_p2m, fault_of_body, fault_of_content, is_chain, shape_of, VcpuBasic, HvmParam, fault_of_context};
 ghost use Rattle.mig_relay_bodies.specs.Begun.{FitsForm, IsKnown, fault_of_form, params, piece_of};
 ghost use Rattle.mig_relay_bodies.specs.declared.known.Knows.TheVariants.{Nothing};
 ghost use Rattle.mig_relay_bodies.specs.declared.known.BodyForm.TheVariants.{HvmParams};

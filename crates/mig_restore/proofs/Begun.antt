@@ -1,6 +1,5 @@
 -- The entries of the first words are set, one after another.
-use Rattle.mig_restore.proofs.Common.{◌≡◌, ◌+◌, ◌<◌, ℕ, List, [], ◌∷◌, ◌++◌, Option, Result, Ok, Err, refl, sym, ap, subst, ◌∙◌, length, take, get_or, GuestOf, word_pfn, type_in_word, put_entries_by, EntryStep, map-append, take_more, take-append-drop, FrameMap, AreEntriesSet, AreEntriesBegun, entry_name, word_name, FrameEntry, PageType}
-use Rattle.std.proofs.lemmas.List.Sums.{fold-append}
+use Rattle.mig_restore.proofs.Common.{◌≡◌, ◌+◌, ◌<◌, ℕ, List, [], ◌∷◌, ◌++◌, Option, Result, Ok, Err, refl, sym, ap, subst, ◌∙◌, length, take, get_or, GuestOf, word_pfn, type_in_word, put_entries_by, EntryStep, map-append, take_more, take-append-drop, FrameMap, AreEntriesSet, AreEntriesBegun, entry_name, word_name, FrameEntry, PageType, fold-append}
 use Rattle.std.specs.Prelude.{drop, map, OnErr}
 
 pub none_set : (put : EntryStep) (g : GuestOf) → AreEntriesSet put g g []

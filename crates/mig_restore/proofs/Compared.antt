@@ -1,7 +1,6 @@
 -- What the reader makes of a record where frames are compared.
-use Rattle.mig_restore.proofs.Common.{◌≡◌, ℕ, ◌+◌, List, [], ◌∷◌, ◌++◌, Bool, true, false, cond, not, nat_eq, ◌||◌, Option, Some, None, Result, refl, sym, ap, subst, ◌∙◌, Judged, AgreesWithJudging, any_stop, Passes, Ok, Err, Stop, Kind, GuestOf, FrameEntry, StreamRecord, ImageOf, TakenImage, Content, types_of, is_verified, placed_content, put_content, put_content_by, put_entries_by, put_entry, EntryStep, is_some, entries_in, checked_in, checked_of, differing, agrees, IsCompared, IsImageCompared, IsTaken, IsTakenAndCompared, differs_behind, differs_with, entry_with, FrameMap, NotesOn, one_more_record, pages_at, Nothing, Frames, Sets, Lists, Checks, IsPlaced, IsUnchecked, verified_more, checked_more, differing_join}
+use Rattle.mig_restore.proofs.Common.{◌≡◌, ℕ, ◌+◌, List, [], ◌∷◌, ◌++◌, Bool, true, false, cond, not, nat_eq, ◌||◌, Option, Some, None, Result, refl, sym, ap, subst, ◌∙◌, Judged, AgreesWithJudging, any_stop, Passes, Ok, Err, Stop, Kind, GuestOf, FrameEntry, StreamRecord, ImageOf, TakenImage, Content, types_of, is_verified, placed_content, put_content, put_content_by, put_entries_by, put_entry, EntryStep, is_some, entries_in, checked_in, checked_of, differing, agrees, IsCompared, IsImageCompared, IsTaken, IsTakenAndCompared, differs_behind, differs_with, entry_with, FrameMap, NotesOn, one_more_record, pages_at, Nothing, Frames, Sets, Lists, Checks, IsPlaced, IsUnchecked, verified_more, checked_more, differing_join, both_pass, same_passes}
 use Rattle.std.specs.FinMap as maps
-use Rattle.mig_bytes.proofs.Joins.{both_pass, same_passes}
 use Rattle.mig_restore_form.specs.Judging.{entries_at}
 use Rattle.mig_restore_form.specs.Mean.{sent, differs_of}
 use Rattle.mig_restore.proofs.Noted.{both_told, weaker}

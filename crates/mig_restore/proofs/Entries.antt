@@ -1,7 +1,6 @@
 -- The entry of a word, as a reader takes it: with no page, or with the page that was taken.
-use Rattle.mig_restore.proofs.Common.{◌≡◌, ℕ, List, Option, Some, None, Result, Err, Ok, true, false, Bool, cond, refl, ap, sym, subst, ◌∙◌, part, AgreesWithJudging, Judged, ◌>>=◌, Passes, done, mapped, Stop, Cause, Truncated, Kind, GuestOf, PageType, level_of, word_pfn, word_has_data, FrameEntry, type_in_word, fault_of_level, type_in_guest, entry_at, agrees, tried, said_at, Faulty, Refused, stop, judged_so, is_same_frame, some_frame}
+use Rattle.mig_restore.proofs.Common.{◌≡◌, ℕ, List, Option, Some, None, Result, Err, Ok, true, false, Bool, cond, refl, ap, sym, subst, ◌∙◌, part, AgreesWithJudging, Judged, ◌>>=◌, Passes, done, mapped, Stop, Cause, Truncated, Kind, GuestOf, PageType, level_of, word_pfn, word_has_data, FrameEntry, type_in_word, fault_of_level, type_in_guest, entry_at, agrees, tried, said_at, Faulty, Refused, stop, judged_so, is_same_frame, some_frame, IsErrAnd}
 use Rattle.std.specs.FinMap as fin
-use Rattle.std.specs.Result.{IsErrAnd}
 
 -- ---- a page
 

@@ -1,12 +1,9 @@
 -- Judging the parts of an image takes a front.
-use Rattle.mig_restore.proofs.Common.{ℕ, ◌*◌, List, Bool, true, false, cond, Option, Some, None, le32, Judged, ◌>>=◌, part, tried, Passes, Cause, Truncated, ImageHeader, DomainHeader, Kind, RecordType, PartCode, word_has_data, Nothing, Frames, Sets, Before, opening_of, code_of_type, with_places, entry_at, list_at, pages_at, typed_at, body_at, head_at, lists_of, marker_at, version_at, kind_at, fault_of_head, fault_of_list, fault_of_page, fault_of_body, fault_of_count, fault_of_p2m, parts_of_body}
+use Rattle.mig_restore.proofs.Common.{ℕ, ◌*◌, List, Bool, true, false, cond, Option, Some, None, le32, Judged, ◌>>=◌, part, tried, Passes, Cause, Truncated, ImageHeader, DomainHeader, Kind, RecordType, PartCode, word_has_data, Nothing, Frames, Sets, Before, opening_of, code_of_type, with_places, entry_at, list_at, pages_at, typed_at, body_at, head_at, lists_of, marker_at, version_at, kind_at, fault_of_head, fault_of_list, fault_of_page, fault_of_body, fault_of_count, fault_of_p2m, parts_of_body, each, placed, plain_at, PageData, X86PvInfo, X86PvP2mFrames, fault_of_pv_info}
 use Rattle.mig_bytes.proofs.Fronts.{TakesFronts, front_each, front_part, front_pass, front_placed, front_said, front_then}
 use Rattle.mig_bytes.specs.Fields.{be32}
-use Rattle.mig_bytes.specs.Judged.{each, placed, plain_at}
 use Rattle.mig_headers.specs.Headers.{fault_of_marker, fault_of_image, fault_of_domain, kind_of_number}
 use Rattle.mig_headers.specs.RecordTypes.{is_optional, type_of_number}
-use Rattle.mig_headers.specs.declared.record_type.RecordType.TheVariants.{PageData, X86PvInfo, X86PvP2mFrames}
-use Rattle.mig_records.specs.PvBodies.{fault_of_pv_info}
 use Rattle.mig_records.specs.Words.{words}
 use Rattle.mig_restore_form.specs.Judging.{coded_at, page_at, words_at}
 use Rattle.mig_restore_form.specs.Stream.{opening_at, opening_behind}

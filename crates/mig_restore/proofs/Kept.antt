@@ -1,7 +1,6 @@
 -- What is kept of a guest goes on as the guest does.
-use Rattle.mig_restore.proofs.Common.{◌≡◌, List, [], ◌∷◌, ◌++◌, refl, sym, ap, ◌∙◌, Kind, FrameMap, FrameEntry, GuestOf, Content, Nothing, Frames, Sets, Lists, Checks, StreamRecord, EntryStep, kept_guest, put_entry, put_entries_by, put_content, put_content_by, empty_guest, one_more_record}
+use Rattle.mig_restore.proofs.Common.{◌≡◌, List, [], ◌∷◌, ◌++◌, refl, sym, ap, ◌∙◌, Kind, FrameMap, FrameEntry, GuestOf, Content, Nothing, Frames, Sets, Lists, Checks, StreamRecord, EntryStep, kept_guest, put_entry, put_entries_by, put_content, put_content_by, empty_guest, one_more_record, sent}
 use Rattle.std.specs.FinMap as maps
-use Rattle.mig_restore_form.specs.Mean.{sent}
 
 module _ (kept : FrameMap → FrameMap) where
   pub none_kept : kept maps.empty ≡ maps.empty → (kind : Kind) → kept_guest kept (empty_guest kind) ≡ empty_guest kind

@@ -1,16 +1,7 @@
 -- What is noted of frames stays noted as a source is read on, and goes on with what is taken of it.
-use Rattle.mig_restore.proofs.Common.{◌≡◌, ◌≢◌, ℕ, List, [], ◌∷◌, ◌++◌, Bool, true, false, Option, Some, None, Result, Ok, Err, refl, sym, ap, subst, ◌∙◌, Judged, ◌>>=◌, part, said_at, Passes, AgreesWithJudging, any_stop, mapped, then_reads, Stop, Cause, Truncated, Kind, GuestOf, RecordType, PartCode, FrameMap, FrameEntry, Content, Nothing, Frames, Sets, Lists, Checks, StreamRecord, ImageOf, put_content, put_entries_by, put_entry, placed_content, IsSaid, code_of_type, with_places, entry_at, list_at, pages_at, typed_at, lists_of, fault_of_body, fault_of_p2m, parts_of_body, pages_read, one_more_record, sent_kind, NotesOn, NotesImage, IsCompared, IsImageCompared, checked_in, differing, put_frames}
+use Rattle.mig_restore.proofs.Common.{◌≡◌, ◌≢◌, ℕ, List, [], ◌∷◌, ◌++◌, Bool, true, false, Option, Some, None, Result, Ok, Err, refl, sym, ap, subst, ◌∙◌, Judged, ◌>>=◌, part, said_at, Passes, AgreesWithJudging, any_stop, mapped, then_reads, Stop, Cause, Truncated, Kind, GuestOf, RecordType, PartCode, FrameMap, FrameEntry, Content, Nothing, Frames, Sets, Lists, Checks, StreamRecord, ImageOf, put_content, put_entries_by, put_entry, placed_content, IsSaid, code_of_type, with_places, entry_at, list_at, pages_at, typed_at, lists_of, fault_of_body, fault_of_p2m, parts_of_body, pages_read, one_more_record, sent_kind, NotesOn, NotesImage, IsCompared, IsImageCompared, checked_in, differing, put_frames, IsErrAnd, fold-append, TakesFronts, both_pass, same_passes, each, plain_at, PageData, X86PvInfo, X86PvP2mFrames, fault_of_pv_info, coded_at, sent}
 use Rattle.std.specs.FinMap as maps
-use Rattle.std.specs.Result.{IsErrAnd}
-use Rattle.std.proofs.lemmas.List.Sums.{fold-append}
-use Rattle.mig_bytes.proofs.Fronts.{TakesFronts}
-use Rattle.mig_bytes.proofs.Joins.{both_pass, same_passes}
 use Rattle.mig_bytes.proofs.Said.{said_passes}
-use Rattle.mig_bytes.specs.Judged.{each, plain_at}
-use Rattle.mig_headers.specs.declared.record_type.RecordType.TheVariants.{PageData, X86PvInfo, X86PvP2mFrames}
-use Rattle.mig_records.specs.PvBodies.{fault_of_pv_info}
-use Rattle.mig_restore_form.specs.Judging.{coded_at}
-use Rattle.mig_restore_form.specs.Mean.{sent}
 use Rattle.mig_restore.proofs.Fronts.{front_list}
 
 -- ---- what a content makes of frames

@@ -1,8 +1,7 @@
 -- What stays of a guest where the pages of a PAGE_DATA end with an error.
 use Rattle.std.specs.Prelude.{◌≡◌, ℕ, List, ◌++◌, map}
-use Rattle.mig_restore.specs.Common.{GuestOf, PageType, type_in_word, put_entries_by, FrameEntry}
+use Rattle.mig_restore.specs.Common.{GuestOf, PageType, type_in_word, put_entries_by, FrameEntry, word_pfn}
 use Rattle.mig_restore.specs.Kept.{EntryStep}
-use Rattle.mig_pagetypes.specs.FrameWords.{word_pfn}
 
 -- the frame number and the type of an entry, and of a word
 abbrev pub entry_name : FrameEntry → ℕ × PageType

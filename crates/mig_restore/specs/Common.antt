@@ -14,6 +14,9 @@ pub use Rattle.mig_headers.specs.declared.kind.Kind.{Kind}
 pub use Rattle.mig_pagetypes.specs.declared.page_type.PageType.{PageType}
 pub use Rattle.mig_records.specs.Faults.{fault_of_length}
 pub use Rattle.mig_restore_form.specs.Judging.{Before, Opening, body_at, entry_at, fault_of_level, head_at, info_at, list_at, most_records, next_at, opening_of, p2m_at, pages_at, record_at, sets_at, type_in_word, typed_at, with_places, words_at}
-pub use Rattle.mig_restore_form.specs.Mean.{GrewByRecord, IsBegun, agrees, checked_in, checked_of, differing, differs_of, mean, put_content_by, put_entries, put_entries_by, put_entry, sent}
+pub use Rattle.mig_restore_form.specs.Mean.{GrewByRecord, IsBegun, agrees, checked_in, differing, differs_of, mean, put_content_by, put_entries, put_entries_by, put_entry, sent}
 pub use Rattle.mig_restore_form.specs.Record.{Content, FrameEntry, StreamRecord, is_verified, placed_content, types_of}
 pub use Rattle.mig_restore_form.specs.Stream.{ImageOf, image_at, image_behind, kind_at, marker_at, opening_at, opening_behind, records_at, version_at}
+pub use Rattle.mig_pagetypes.specs.FrameWords.{word_pfn}
+pub use Rattle.mig_pvtables.specs.Faults.{fault_of_guest}
+pub use Rattle.mig_restore_form.specs.Spelled.{IsGoodWord}

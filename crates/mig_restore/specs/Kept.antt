@@ -1,8 +1,7 @@
 -- What is kept of the frames that records set: all of them, or less.
 use Rattle.std.specs.Prelude.{◌≡◌, ℕ, List, Option, None}
 use Rattle.std.specs.FinMap as maps
-use Rattle.mig_pvtables.specs.Faults.{fault_of_guest}
-use Rattle.mig_restore.specs.Common.{Kind, FrameMap, FrameEntry, GuestOf, Content, put_entries, sent, ImageOf}
+use Rattle.mig_restore.specs.Common.{Kind, FrameMap, FrameEntry, GuestOf, Content, put_entries, sent, ImageOf, fault_of_guest}
 use Rattle.mig_restore_form.specs.Record.Content.{Frames}
 
 -- what an entry makes of frames that are kept

@@ -1,8 +1,7 @@
 -- What taking the page of an entry does.
 use Rattle.std.specs.Prelude.{◌≡◌, ℕ, List, length, Option, None, Result, OnOk}
-use Rattle.mig_restore.specs.Common.{AreBytes, RisesOnReadFault, AgreesWithJudging, said_at, Cause, Truncated, FrameEntry, PageType, fault_of_level, type_in_word}
+use Rattle.mig_restore.specs.Common.{AreBytes, RisesOnReadFault, AgreesWithJudging, said_at, Cause, Truncated, FrameEntry, PageType, fault_of_level, type_in_word, word_pfn}
 use Rattle.mig_bytes.specs.declared.stop.Stop.{Stop}
-use Rattle.mig_pagetypes.specs.FrameWords.{word_pfn}
 use Rattle.mig_pagetypes.specs.PageTypes.{level_of}
 
 -- a page is taken, whole and without fault, or it is told why not

@@ -1,6 +1,6 @@
 ghost use Rattle.std.specs.Prelude.{◌≡◌, ◌≤◌, ◌^◌, ◌*◌, IfOk, OnOk, OnErr, IsErrOf, length, vec_len, true, false, None, Some};
 ghost use Rattle.std.specs.List.{All, AllByRecursion};
-ghost use Rattle.mig_restore.specs.Common.{RisesOnReadFault, AgreesWithJudging, each, plain_at, Truncated, Memory, record_row_of, type_of_number, most_body, RecordType, fault_of_length, put_entries, put_entries_by, put_content_by, GrewByRecord, sets_at, info_at, p2m_at, words_at, with_places, entry_at, list_at, pages_at, typed_at, body_at};
+ghost use Rattle.mig_restore.specs.Common.{RisesOnReadFault, AgreesWithJudging, each, plain_at, Truncated, Memory, record_row_of, type_of_number, most_body, RecordType, fault_of_length, put_entries, put_entries_by, put_content_by, GrewByRecord, sets_at, info_at, p2m_at, words_at, with_places, entry_at, list_at, pages_at, typed_at, body_at, IsGoodWord};
 ghost use Rattle.mig_guest.specs.PartCodes.{row_of, code_number};
 ghost use Rattle.mig_guest.specs.Formed.{is_emulator_code};
 ghost use Rattle.mig_records.specs.Layouts.{IsSmallKey};
@@ -9,7 +9,6 @@ ghost use Rattle.mig_headers.specs.declared.kind.Kind.TheVariants.{Pv};
 ghost use Rattle.mig_restore.specs.Begun.{AreEntriesBegun};
 ghost use Rattle.mig_restore.specs.Kept.{EntryStep, NotesOn, put_frames};
 ghost use Rattle.mig_restore_form.specs.Record.Content.{Nothing};
-ghost use Rattle.mig_restore_form.specs.Spelled.{IsGoodWord};
 
 use crate::keeps::KeepsFrames;
 use mig_bytes::{ReadFailed, Source, Stop, are_bytes, skip, take_long, take_part, u32_le};

@@ -2,13 +2,11 @@ ghost use Rattle.std.specs.Prelude.{◌≡◌, ◌∷◌, [], ◌++◌, ℕ, ⊤
 ghost use Rattle.std.specs.declared.option.Option.{Option};
 ghost use Rattle.std.specs.FinMap as maps;
 ghost use Rattle.mig_guest.specs.Formed.{IsFormed};
-ghost use Rattle.mig_pvtables.specs.Faults.{fault_of_guest};
 ghost use Rattle.mig_pvtables.specs.declared.testing.WholeAnswer.TheVariants.{Fault};
 ghost use Rattle.mig_restore.specs.Begun.{AreEntriesSet};
-ghost use Rattle.mig_restore.specs.Common.{RisesOnReadFault, AgreesWithJudging, FrameEntry, FrameMap, GrewByRecord, GuestOf, Kind, agrees, entry_at, put_entry};
+ghost use Rattle.mig_restore.specs.Common.{RisesOnReadFault, AgreesWithJudging, FrameEntry, FrameMap, GrewByRecord, GuestOf, Kind, agrees, entry_at, put_entry, fault_of_guest, IsGoodWord};
 ghost use Rattle.mig_restore.specs.Compared.{IsCompared};
 ghost use Rattle.mig_restore.specs.Kept.{IsOfFaultless, NotesOn, kept_guest};
-ghost use Rattle.mig_restore_form.specs.Spelled.{IsGoodWord};
 
 use crate::compare::has_frame;
 use crate::page::{EntryPage, take_page};

@@ -2,7 +2,7 @@
 pub use Rattle.std.proofs.Common.{Bool, Err, List, None, Ok, Option, Some, [], ap, append-nil, append_assoc, arith, codes, cond, drop, false, get_or, inl, inr, length, length-append, length-drop, length-take-le, map, nat_lt, not, refl, rules, string_bytes, subst, suc, sym, take, take-append-drop, true, zero, ℕ, ◌*◌, ◌++◌, ◌+◌, ◌-◌, ◌<◌, ◌==◌, ◌∙◌, ◌∷◌, ◌≡◌, ◌≢◌, ◌≤◌, ◌⊎◌}
 pub use Rattle.std.proofs.lemmas.List.Sums.{sum_by_push}
 pub use Rattle.std.specs.Io.KnownBytes.{Consumes}
-pub use Rattle.std.specs.Prelude.{IfOk, count_by, decimal, if◌then◌else◌, is_some, nat_le, option_map, ⊤, ◌&&◌, ◌||◌}
+pub use Rattle.std.specs.Prelude.{IfOk, count_by, if◌then◌else◌, is_some, nat_le, option_map, ⊤, ◌&&◌, ◌||◌}
 pub use Rattle.mig_bytes.specs.Bytes.{padding_len}
 pub use Rattle.mig_bytes.specs.Fields.{le32}
 pub use Rattle.mig_headers.specs.Headers.{kind_of_number}
@@ -31,5 +31,5 @@ pub use Rattle.serde_json.specs.View.{items_of, view}
 pub use Rattle.serde_json.specs.Written.{comma_if, compact_text, has_float, items_have_float, items_text, members_have_float}
 pub use Rattle.mig_relay.specs.Steps.{IsStep, RisesOnFault}
 pub use Rattle.std.proofs.Math.Seq.{drop-append-add, drop-append_seam, take-append-add, take-append-le, take-append_seam, take_all}
-pub use Rattle.std.proofs.lemmas.Bool.{eq-eqb, le-leb, lt-ltb, ne_eqb}
-pub use Rattle.std.proofs.lemmas.List.{append_cancel_right, take_more}
+pub use Rattle.std.proofs.lemmas.Bool.{eq-eqb, le-leb, lt-ltb, ne_eqb, true≢false}
+pub use Rattle.std.proofs.lemmas.List.{append_cancel_right, take_more, nil_from_length}

@@ -1,8 +1,6 @@
 -- What a viewer has seen while the relay goes on, and at its end.
-use Rattle.mig_show.proofs.Common.{◌≡◌, ◌≢◌, ℕ, Bool, true, false, List, [], ◌++◌, Option, Some, None, Ok, refl, sym, ap, subst, ◌∙◌, append_assoc, append-nil, is_some, IfOk, Consumes, Cause, Place, ImageHeader, in_hand, words_in_hand, Next, AtMarker, AtVersion, AtKind, AtHead, AtBody, AtFront, AtWords, AtPages, AtPadding, Outer, Spot, AtStart, AtLibxlHeader, AtLibxlHead, AtLibxlBody, AtLibxlPadding, InImage, AtEnd, begins_with_ident, StepSays, Step, Relay, ShownFront, StandsBefore, of_form, image_first, SeenState, with_step, with_end, Shows, RisesOnShow, front_tree, Err, RisesOnFault, Keeps, KeepsNext, StandsForBytes, PassesOn, IsRefusedBehind, IsNotRefused, is_at_end, is_at_start, ended_by, ShowsRefused}
+use Rattle.mig_show.proofs.Common.{◌≡◌, ◌≢◌, ℕ, Bool, true, false, List, [], ◌++◌, Option, Some, None, Ok, refl, sym, ap, subst, ◌∙◌, append_assoc, append-nil, is_some, IfOk, Consumes, Cause, Place, ImageHeader, in_hand, words_in_hand, Next, AtMarker, AtVersion, AtKind, AtHead, AtBody, AtFront, AtWords, AtPages, AtPadding, Outer, Spot, AtStart, AtLibxlHeader, AtLibxlHead, AtLibxlBody, AtLibxlPadding, InImage, AtEnd, begins_with_ident, StepSays, Step, Relay, ShownFront, StandsBefore, of_form, image_first, SeenState, with_step, with_end, Shows, RisesOnShow, front_tree, Err, RisesOnFault, Keeps, KeepsNext, StandsForBytes, PassesOn, IsRefusedBehind, IsNotRefused, is_at_end, is_at_start, ended_by, ShowsRefused, true≢false, nil_from_length}
 use Rattle.std.proofs.KnownBytes.{Consumes-nil, Consumes-trans}
-use Rattle.std.proofs.lemmas.Bool.{true≢false}
-use Rattle.std.proofs.lemmas.List.{nil_from_length}
 use Rattle.std.specs.Prelude.{◌≤◌}
 use Rattle.mig_bytes.specs.Faults.{Rose}
 use Rattle.mig_relay.specs.Following.{from_start}

@@ -1,6 +1,6 @@
 -- Names that several definitions and contracts of this crate use.
-pub use Rattle.std.specs.Io.KnownBytes.{Consumes, WriteAppends}
-pub use Rattle.mig_bytes.specs.Faults.{FaultHasCause, Rose}
+pub use Rattle.std.specs.Io.KnownBytes.{Consumes}
+pub use Rattle.mig_bytes.specs.Faults.{Rose}
 pub use Rattle.mig_headers.specs.RecordTypes.{is_optional, type_number, type_of_number}
 pub use Rattle.mig_headers.specs.declared.fault.Cause.{Cause}
 pub use Rattle.mig_headers.specs.declared.fault.Place.{Place}
@@ -11,3 +11,4 @@ pub use Rattle.mig_pagetypes.specs.FrameWords.{word_has_data}
 pub use Rattle.serde_json.specs.Data.{Data, Members, array, boolean, member, no_members, null, number, object, put, string, unsigned}
 pub use Rattle.serde_json.specs.View.{items_of, members_view, view}
 pub use Rattle.serde_json.specs.Written.{comma_if, compact_text, has_float}
+pub use Rattle.mig_headers.specs.declared.kind.Kind.{Kind}

@@ -3,9 +3,8 @@
 use Rattle.std.specs.Prelude.{◌≡◌, ◌≢◌, ◌+◌, ◌*◌, ℕ, Bool, true, false, List, [], ◌∷◌, ◌++◌, length, count_by, Option, Some, None, if◌then◌else◌}
 use Rattle.mig_bytes.specs.Fields.{le32, be32}
 use Rattle.mig_headers.specs.Headers.{kind_of_number}
-use Rattle.mig_show.specs.Common.{End, Place, type_number, word_has_data}
+use Rattle.mig_show.specs.Common.{End, Place, type_number, word_has_data, Kind}
 use Rattle.mig_headers.specs.declared.fault.Place.TheVariants.{ImageHeader, DomainHeader, LibxlHeader, LibxlRecord, Record}
-use Rattle.mig_headers.specs.declared.kind.Kind.{Kind}
 use Rattle.mig_libxl_form.specs.LibxlTypes.{libxc_context_type, libxl_end_type}
 use Rattle.mig_records.specs.Records.{IsRecord}
 use Rattle.mig_records.specs.Words.{words}

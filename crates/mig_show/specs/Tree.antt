@@ -1,7 +1,6 @@
 -- The tree that shows a stream's records, in the terms of JSON: objects have their members in the order of their keys.
 use Rattle.std.specs.Prelude.{ℕ, Bool, List, map, codes, Option, Some, None, ◌==◌, ◌&&◌, not, if◌then◌else◌}
-use Rattle.mig_show.specs.Common.{Data, null, boolean, number, string, array, object, unsigned, Members, no_members, member, put, items_of, Place, Cause, Pv, Hvm, PageData, type_number}
-use Rattle.mig_headers.specs.declared.kind.Kind.{Kind}
+use Rattle.mig_show.specs.Common.{Data, null, boolean, number, string, array, object, unsigned, Members, no_members, member, put, items_of, Place, Cause, Pv, Hvm, PageData, type_number, Kind}
 use Rattle.mig_show.specs.declared.record.Seen1.{Seen1}
 use Rattle.mig_show.specs.Names.{shown_name}
 use Rattle.mig_show.specs.Refusals.{refused_text}

@@ -1,6 +1,5 @@
 ghost use Rattle.std.specs.Prelude.{◌≡◌, ℕ, Bool, List, Option, Some, false};
-ghost use Rattle.mig_show.specs.Common.{Data, has_float, compact_text, Cause, Place};
-ghost use Rattle.mig_headers.specs.declared.kind.Kind.{Kind};
+ghost use Rattle.mig_show.specs.Common.{Data, has_float, compact_text, Cause, Place, Kind};
 ghost use Rattle.mig_show.specs.declared.record.Seen1.{Seen1};
 ghost use Rattle.mig_show.specs.Smallest.{smallest_tree, smallest_text};
 ghost use Rattle.mig_show.specs.Shows.{Shows};

@@ -1,6 +1,6 @@
 -- The stream of a PV guest has no emulators.
 use Rattle.mig_tool_guest.proofs.Common.{emulators_in}
-use Rattle.mig_libxl_form.proofs.Common.{◌≡◌, ℕ, true, false, List, [], ◌∷◌, ◌++◌, nat_eq, Some, refl, sym, ap, ◌∙◌, ◌||◌, eqb-true, or_parts, same_Some, Spells, no_part, one_more, Pv, ImageOf, LibxlRecord, LibxlContent, EmulatorsOf, no_emulators, put_libxl_content, has_emulator, image_among, is_libxl_ended, FollowsLibxl, HasLibxlContent, IsLibxlRecord, IsStream, optional, ends, pairs, context, StreamOf, image_of_stream, Bare, Wrapped}
+use Rattle.mig_libxl_form.proofs.Common.{◌≡◌, ℕ, true, false, List, [], ◌∷◌, nat_eq, Some, refl, sym, ap, ◌∙◌, ◌||◌, eqb-true, or_parts, same_Some, Spells, no_part, one_more, Pv, ImageOf, LibxlRecord, LibxlContent, EmulatorsOf, no_emulators, put_libxl_content, has_emulator, image_among, is_libxl_ended, FollowsLibxl, HasLibxlContent, IsLibxlRecord, IsStream, optional, ends, pairs, context, StreamOf, image_of_stream, Bare, Wrapped}
 use Rattle.mig_libxl_form.proofs.Among.{among_more, emulator_more, emulators_more, ended_more}
 use Rattle.mig_libxl_form.specs.Spelled.IsLibxlRecord.{image as an_image, body as a_body}
 use Rattle.mig_libxl_form.specs.Emulators.{emulators_of}

@@ -22,7 +22,7 @@ pub use Rattle.mig_restore_form.proofs.Meaning.{mean_kind, sent_kind}
 pub use Rattle.mig_tool_guest.specs.Addresses.{AddressReported, FrameInHost, FrameInStream, HasUnsoundHost, HostHasFrame, HostHasNone, MeansFrame, MeansNone, StreamHasFrame, StreamHasNone, any_host_at}
 pub use Rattle.mig_tool_guest.specs.Fronts.{Accepting, Checked, IsSummary, LegacyChecked, Normalised, PartWritten, Restored, Verified, input_with, restored_text, summary_of}
 pub use Rattle.mig_tool_guest.specs.Outcomes.{outcome_of}
-pub use Rattle.mig_tool_guest.specs.Promises.{HasFront, convert_promise, normalise_file_promise, normalise_promise, relay_promise, restore_file_promise, restore_promise, show_promise, verify_promise, walk_image_promise, walk_promise}
+pub use Rattle.mig_tool_guest.specs.Promises.{HasFront, convert_promise, normalise_file_promise, normalise_promise, relay_promise, restore_file_promise, restore_promise, show_promise, verify_promise}
 pub use Rattle.mig_tool_guest.specs.Refusals.{HasLegacyRefusal, HasOpenRefusal, HasStreamRefusal, HasWalkImageRefusal, HasWalkRefusal}
 pub use Rattle.mig_tool_report.proofs.Promises.{copy_told, finished, input_same, line_put, never_failed, never_usage, no_line, own_line_alone, text_rose, text_told, text_written, unchanged, untouched_sink, unwritten}
 pub use Rattle.mig_tool_report.proofs.Statuses.{line_reported, says_of}

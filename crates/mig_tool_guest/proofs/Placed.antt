@@ -1,5 +1,5 @@
 -- What comes of a file whose pages are read again where they are written.
-use Rattle.mig_tool_guest.proofs.Common.{inl, inr, Appends, AppendsPart, AcceptedLegacy, Outcome, OutcomeSays, Refusing, ◌⊎◌, ◌≡◌, ◌∙◌, ◌++◌, ℕ, List, Option, Some, None, Ok, refl, sym, ap, subst, GuestOf, AcceptedStream, Accepting, Hvm, HasFront, IsCarried, Normalised, PartWritten, InputRises, OutputRises, ComesTo, Effects, normalise_promise, status_of, accepted_is_stream, canon_any, stream_at, AreBytes, AgreesWithJudging, with_frames, left_in, FileSource, FrameMap, Cause, Place, IsPlacedLegacy, legacy_at, IsPlacedStream, accepted_carried, with_emulators, StreamOf, emulators_in, guest_of, outline, ValueMap, all_placed, frames_in_file, frames_after, PlacedGuest, sent_kind, mean, sent, ImageOf, normalise_file_promise, same_Some}
+use Rattle.mig_tool_guest.proofs.Common.{inl, inr, Appends, AppendsPart, AcceptedLegacy, Outcome, OutcomeSays, Refusing, ◌⊎◌, ◌≡◌, ◌∙◌, ◌++◌, ℕ, List, Option, Some, None, Ok, refl, sym, ap, subst, GuestOf, AcceptedStream, Accepting, Hvm, HasFront, IsCarried, Normalised, PartWritten, InputRises, OutputRises, ComesTo, Effects, status_of, accepted_is_stream, canon_any, stream_at, AreBytes, AgreesWithJudging, with_frames, left_in, FileSource, FrameMap, Cause, Place, IsPlacedLegacy, legacy_at, IsPlacedStream, accepted_carried, with_emulators, StreamOf, emulators_in, guest_of, outline, ValueMap, all_placed, frames_in_file, frames_after, PlacedGuest, sent_kind, mean, sent, ImageOf, normalise_file_promise, same_Some}
 use Rattle.mig_tool_guest.proofs.Reporting.{accepted_legacy, text_part, whole_text}
 use Rattle.mig_headers.specs.declared.legacy_fault.LegacyCause.{LegacyCause}
 use Rattle.mig_headers.specs.declared.legacy_fault.LegacyPlace.{LegacyPlace}

@@ -1,5 +1,5 @@
 -- What comes of a file whose pages are read again where the image of its guest is written.
-use Rattle.mig_tool_guest.proofs.Common.{inl, inr, Appends, AppendsPart, ComesTo, Effects, GuestOf, HasFront, HasStreamRefusal, Hvm, InputRises, IsBase, IsCarried, List, None, Ok, Option, Outcome, OutcomeSays, OutputRises, PartWritten, Restored, Some, ap, AcceptedStream, accepted_is_stream, refl, restore_promise, restored_text, status_of, stream_at, subst, sym, ℕ, ◌≡◌, ◌⊎◌, ◌∙◌, AreBytes, AgreesWithJudging, with_frames, FrameMap, Cause, Place, IsPlacedStream, accepted_carried, guest_of, ValueMap, all_placed, frames_in_file, frames_after, PlacedGuest, restore_file_promise, same_Some, IfSome, is_some, true}
+use Rattle.mig_tool_guest.proofs.Common.{inl, inr, Appends, AppendsPart, ComesTo, Effects, GuestOf, Hvm, InputRises, IsBase, IsCarried, List, None, Ok, Option, Outcome, OutputRises, PartWritten, Some, ap, AcceptedStream, accepted_is_stream, refl, restore_promise, restored_text, status_of, stream_at, subst, sym, ℕ, ◌≡◌, ◌⊎◌, ◌∙◌, AreBytes, AgreesWithJudging, with_frames, FrameMap, Cause, Place, IsPlacedStream, accepted_carried, guest_of, ValueMap, all_placed, frames_in_file, frames_after, PlacedGuest, restore_file_promise, same_Some, IfSome, is_some, true}
 use Rattle.mig_host.specs.Hosted.{CanBeHosted}
 use Rattle.mig_tool_guest.proofs.Placed.{IsCopied, may_write, never_usage, same_guest}
 use Rattle.mig_tool_guest.proofs.Reporting.{base_fits, whole_few, whole_restored}

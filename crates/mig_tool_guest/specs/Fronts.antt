@@ -1,12 +1,11 @@
 -- An accepted front of the input, and what was written or reported of its guest.
 use Rattle.std.specs.Prelude.{◌≡◌, ◌↔◌, ◌≤◌, ℕ, List, ◌++◌, length, ⊤, Some, Option}
 use Rattle.std.specs.FinMap as maps
-use Rattle.mig_tool_guest.specs.Common.{Appends, AppendsPart, Passes, GuestOf, IsValid, host_at, IsSound, view, canon_any, AcceptedStream, ok_line}
+use Rattle.mig_tool_guest.specs.Common.{Appends, AppendsPart, Passes, GuestOf, IsValid, host_at, IsSound, view, canon_any, AcceptedStream, ok_line, AcceptedLegacy}
 use Rattle.mig_host.specs.Hosted.{hosted}
 use Rattle.mig_image.specs.declared.version.GuestImageVersion.TheVariants.{Two}
 use Rattle.mig_image.specs.GuestImage.{guest_image}
 use Rattle.mig_libxl_form.specs.Carried.{IsCarried}
-use Rattle.mig_legacy.specs.Spelled.{AcceptedLegacy}
 use Rattle.mig_libxl_form.specs.Stream.{StreamOf, guest_of, image_of_stream}
 use Rattle.mig_restore_form.specs.Mean.{differs_of}
 use Rattle.mig_restore_form.specs.Stream.{ImageOf}

@@ -1,8 +1,6 @@
 -- What each command that reads a guest, or passes its stream on, promises.
 use Rattle.std.specs.Prelude.{◌≡◌, ◌⊎◌, ℕ, List, ⊤, Some}
-use Rattle.mig_tool_guest.specs.Common.{Appends, AppendsPart, Rose, GuestOf, canon_any, AcceptedStream, IsCutPart, IsDoneOrStarved, Promise, copies_text, reports_line, writes_text, ok_line, relayed_line, walked_line, EndsWithOwnLine, PutsLineOrFault}
-use Rattle.mig_legacy.specs.Spelled.{AcceptedLegacy}
-use Rattle.mig_tool_report.specs.Report.{checked_legacy_line, checked_line}
+use Rattle.mig_tool_guest.specs.Common.{Appends, AppendsPart, Rose, GuestOf, canon_any, AcceptedStream, IsCutPart, IsDoneOrStarved, Promise, copies_text, reports_line, writes_text, ok_line, relayed_line, walked_line, EndsWithOwnLine, PutsLineOrFault, AcceptedLegacy, checked_legacy_line, checked_line}
 use Rattle.mig_tool_report.specs.declared.status.Status.TheVariants as statuses
 use Rattle.mig_tool_guest.specs.Addresses.{AddressReported, FrameInHost, FrameInStream, HostHasFrame, StreamHasFrame}
 use Rattle.mig_tool_guest.specs.Fronts.{Accepting, Checked, LegacyChecked, Normalised, PartWritten, Restored, Verified, restored_text}

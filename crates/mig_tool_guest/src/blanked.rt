@@ -1,16 +1,7 @@
 ghost use Rattle.std.specs.Prelude.{◌≡◌, ◌⊎◌, ℕ, List, IfSome, Ok, Some};
 ghost use Rattle.mig_blanked.specs.Behind.{guest_behind};
-ghost use Rattle.mig_bytes.specs.Bytes.{AreBytes};
-ghost use Rattle.mig_bytes.specs.Judged.{AgreesWithJudging};
-ghost use Rattle.mig_file.specs.Files.{failed_in, left_in};
-ghost use Rattle.mig_guest.specs.Formed.{IsFormed};
-ghost use Rattle.mig_headers.specs.declared.fault.Cause.{Cause};
-ghost use Rattle.mig_headers.specs.declared.fault.Place.{Place};
 ghost use Rattle.mig_headers.specs.declared.kind.Kind.TheVariants.{Pv};
-ghost use Rattle.mig_libxl.specs.Placed.{IsPlacedStream};
-ghost use Rattle.mig_libxl_form.specs.Stream.{stream_at};
-ghost use Rattle.mig_placed.specs.InFile.{frames_in_file};
-ghost use Rattle.mig_tool_guest.specs.Common.{Appends, AppendsPart, AcceptedStream, ComesTo, InputRises, IsPartCopied, OutputRises, canon_any, effects, input_effect, sink_effect, status_of, unreached};
+ghost use Rattle.mig_tool_guest.specs.Common.{Appends, AppendsPart, AcceptedStream, ComesTo, InputRises, IsPartCopied, OutputRises, canon_any, effects, input_effect, sink_effect, status_of, unreached, AreBytes, AgreesWithJudging, failed_in, left_in, IsFormed, Cause, Place, IsPlacedStream, stream_at, frames_in_file};
 ghost use Rattle.mig_tool_guest.specs.Fronts.{PartWritten};
 ghost use Rattle.mig_tool_guest.specs.Promises.{normalise_file_promise};
 ghost use Rattle.mig_tool_report.specs.declared.outcome.Outcome.TheVariants as outcomes;

@@ -1,14 +1,9 @@
 ghost use Rattle.std.specs.Prelude.{◌≡◌, ◌⊎◌, ℕ, List, Option};
-ghost use Rattle.mig_tool_guest.specs.Common.{Appends, AppendsPart, canon_any, OutputRises, CarriedOut, ComesTo, effects, input_effect, sink_effect, unreached, status_of};
+ghost use Rattle.mig_tool_guest.specs.Common.{Appends, AppendsPart, canon_any, OutputRises, CarriedOut, ComesTo, effects, input_effect, sink_effect, unreached, status_of, or_stop, RisesOnReadFault, AgreesWithJudging, stream_at, IsBase};
 ghost use Rattle.mig_pvtables.specs.Whole.{IsWhole};
-ghost use Rattle.mig_bytes.specs.Answers.{or_stop};
-ghost use Rattle.mig_bytes.specs.Faults.{RisesOnReadFault};
-ghost use Rattle.mig_bytes.specs.Judged.{AgreesWithJudging};
-ghost use Rattle.mig_libxl_form.specs.Stream.{stream_at};
 ghost use Rattle.mig_tool_guest.specs.Fronts.{IsSummary, input_with, restored_text};
 ghost use Rattle.mig_tool_guest.specs.Outcomes.{outcome_of};
 ghost use Rattle.mig_tool_guest.specs.Promises.{normalise_promise, convert_promise, restore_promise, verify_promise};
-ghost use Rattle.mig_tool_report.specs.Words.{IsBase};
 ghost use Rattle.mig_tool_report.specs.declared.outcome.Outcome.TheVariants as outcomes;
 ghost use Rattle.mig_tool_report.specs.declared.outcome.Refusal.TheVariants as refusals;
 

@@ -1,8 +1,4 @@
-ghost use Rattle.mig_bytes.specs.Answers.{or_stop};
-ghost use Rattle.mig_bytes.specs.Faults.{RisesOnReadFault};
-ghost use Rattle.mig_bytes.specs.Judged.{AgreesWithJudging};
-ghost use Rattle.mig_file.specs.Files.{failed_in, left_in};
-ghost use Rattle.mig_libxl_form.specs.Stream.{stream_at};
+ghost use Rattle.mig_tool_guest.specs.Common.{or_stop, RisesOnReadFault, AgreesWithJudging, failed_in, left_in, stream_at};
 ghost use Rattle.mig_tool_guest.specs.Fronts.{IsSummary};
 
 use mig_file::{FileSource, PageFile};

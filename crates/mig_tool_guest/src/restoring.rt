@@ -1,20 +1,9 @@
 ghost use Rattle.std.specs.Prelude.{◌≡◌, ◌⊎◌, ℕ, List, IfSome, Ok, Some};
-ghost use Rattle.mig_bytes.specs.Bytes.{AreBytes};
-ghost use Rattle.mig_bytes.specs.Judged.{AgreesWithJudging};
-ghost use Rattle.mig_canon.specs.Elsewhere.{with_frames};
-ghost use Rattle.mig_file.specs.Files.{failed_in, left_in};
-ghost use Rattle.mig_guest.specs.Formed.{IsFormed};
-ghost use Rattle.mig_headers.specs.declared.fault.Cause.{Cause};
-ghost use Rattle.mig_headers.specs.declared.fault.Place.{Place};
 ghost use Rattle.mig_headers.specs.declared.kind.Kind.TheVariants.{Hvm};
 ghost use Rattle.mig_host.specs.Hosted.{CanBeHosted};
-ghost use Rattle.mig_libxl.specs.Placed.{IsPlacedStream};
-ghost use Rattle.mig_libxl_form.specs.Stream.{stream_at};
-ghost use Rattle.mig_placed.specs.InFile.{frames_in_file};
-ghost use Rattle.mig_tool_guest.specs.Common.{Appends, AppendsPart, AcceptedStream, CarriedOut, ComesTo, InputRises, IsPartCopied, OutputRises, effects, input_effect, sink_effect, status_of, unreached};
+ghost use Rattle.mig_tool_guest.specs.Common.{Appends, AppendsPart, AcceptedStream, CarriedOut, ComesTo, InputRises, IsPartCopied, OutputRises, effects, input_effect, sink_effect, status_of, unreached, AreBytes, AgreesWithJudging, with_frames, failed_in, left_in, IsFormed, Cause, Place, IsPlacedStream, stream_at, frames_in_file, IsBase};
 ghost use Rattle.mig_tool_guest.specs.Fronts.{PartWritten, restored_text};
 ghost use Rattle.mig_tool_guest.specs.Promises.{restore_file_promise};
-ghost use Rattle.mig_tool_report.specs.Words.{IsBase};
 ghost use Rattle.mig_tool_report.specs.declared.outcome.Outcome.TheVariants as outcomes;
 
 use crate::commands::{restored, unread};

@@ -1,7 +1,4 @@
-use Rattle.mig_image.proofs.Common.{ℕ, ◌+◌, ◌-◌, ◌%◌, ◌^◌, ◌++◌, ◌∷◌, ◌≡◌, ap, arith, sym, take, subst, HostFrame, option_copied, ◌∙◌, Two, frame_text}
-use Rattle.mig_host.specs.Hosted.{with_machines_from}
-use Rattle.mig_host.specs.HostView.{with_machine}
-use Rattle.mig_image.specs.PagesHeld.{HoldsPages}
+use Rattle.mig_image.proofs.Common.{ℕ, ◌+◌, ◌-◌, ◌%◌, ◌^◌, ◌++◌, ◌∷◌, ◌≡◌, ap, arith, sym, take, subst, HostFrame, option_copied, ◌∙◌, Two, frame_text, with_machines_from, with_machine, HoldsPages}
 use Rattle.mig_image.proofs.HostedFrames.{counted_next, page_is, pages_behind, taken_next, unwrapped}
 use Rattle.mig_image.proofs.Writers.{drop_next, ended_early, flat_next}
 use Rattle.mig_records_pages.specs.PageData.{Frame}

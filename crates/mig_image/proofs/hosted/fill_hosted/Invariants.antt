@@ -1,8 +1,4 @@
-use Rattle.mig_image.proofs.Common.{◌≡◌, ◌≤◌, ◌+◌, ◌*◌, ◌^◌, length, take, drop, flat_map}
-use Rattle.mig_host.specs.Hosted.{with_machines_from}
-use Rattle.mig_image.specs.GuestImage.{frame_text}
-use Rattle.mig_image.specs.PagesHeld.{HoldsPages}
-use Rattle.mig_image.specs.declared.version.GuestImageVersion.TheVariants.{Two}
+use Rattle.mig_image.proofs.Common.{◌≡◌, ◌≤◌, ◌+◌, ◌*◌, ◌^◌, length, take, drop, flat_map, with_machines_from, frame_text, HoldsPages, Two}
 use Rattle.mig_image.proofs.hosted.fill_hosted.Given as goal
 
 abbrev pub invariant-loop-i : goal.invariant-loop-i

@@ -1,6 +1,5 @@
-use Rattle.mig_image.proofs.Common.{◌+◌, ◌∙◌, ap, arith, sym}
+use Rattle.mig_image.proofs.Common.{◌+◌, ◌∙◌, ap, arith, sym, least_width}
 use Rattle.std.proofs.Math.ListN.{drop_of_length-le}
-use Rattle.mig_host.specs.Hosted.{least_width}
 use Rattle.mig_image.proofs.HostedFrames.{greater_is}
 use Rattle.mig_image.proofs.Writers.{drop_next}
 use Rattle.mig_image.proofs.hosted.width_for.Goals as goal

@@ -1,6 +1,4 @@
-use Rattle.mig_image.proofs.Common.{◌≡◌, drop}
-use Rattle.std.specs.Prelude.{max}
-use Rattle.mig_host.specs.Hosted.{least_width}
+use Rattle.mig_image.proofs.Common.{◌≡◌, drop, max, least_width}
 use Rattle.mig_image.proofs.hosted.width_for.Given as goal
 
 abbrev pub invariant-loop-i : goal.invariant-loop-i

@@ -1,10 +1,8 @@
-use Rattle.mig_image.proofs.Common.{◌≡◌, ◌+◌, ◌≤◌, ◌∙◌, Appends, AppendsPart, Appends-trans, Two, all_parted, ap, arith, drop, drop-drop, flat_map, flat_more, frame_text, length, length-drop, rules, subst, sym, take}
+use Rattle.mig_image.proofs.Common.{◌≡◌, ◌+◌, ◌≤◌, ◌∙◌, Appends, AppendsPart, Appends-trans, Two, all_parted, ap, arith, drop, drop-drop, flat_map, flat_more, frame_text, length, length-drop, rules, subst, sym, take, with_machines_from, AreFrames}
 use Rattle.std.proofs.lemmas.List.{length-take}
 use Rattle.mig_host.proofs.CountedUp.{counted_length}
-use Rattle.mig_host.specs.Hosted.{with_machines_from}
 use Rattle.mig_image.proofs.HostedFrames.{buffer_holds, counted_here, frames_from_place, some_frames, unwrapped}
 use Rattle.mig_image.proofs.Writers.{walked}
-use Rattle.mig_image.specs.PagesHeld.{AreFrames}
 use Rattle.mig_records_pages.proofs.Copying.{part_behind, part_front, part_none, part_same}
 use Rattle.mig_image.proofs.hosted.write_frames.Goals as goal
 

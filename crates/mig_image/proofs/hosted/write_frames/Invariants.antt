@@ -1,8 +1,4 @@
-use Rattle.mig_image.proofs.Common.{◌≡◌, ◌≤◌, ◌+◌, ◌-◌, ◌^◌, true, length, take, drop, flat_map, Appends}
-use Rattle.mig_host.specs.Hosted.{with_machines_from}
-use Rattle.mig_image.specs.GuestImage.{frame_text}
-use Rattle.mig_image.specs.PagesHeld.{AreFrames}
-use Rattle.mig_image.specs.declared.version.GuestImageVersion.TheVariants.{Two}
+use Rattle.mig_image.proofs.Common.{◌≡◌, ◌≤◌, ◌+◌, ◌-◌, ◌^◌, true, length, take, drop, flat_map, Appends, with_machines_from, frame_text, AreFrames, Two}
 use Rattle.mig_image.proofs.hosted.write_frames.Given as goal
 
 abbrev pub invariant-loop-done : goal.invariant-loop-done

@@ -1,9 +1,6 @@
-use Rattle.mig_image.proofs.Common.{List, sym, subst, ℕ, ◌≡◌, Appends, AppendsPart}
-use Rattle.std.proofs.KnownBytes.{Appends-trans}
+use Rattle.mig_image.proofs.Common.{sym, subst, Appends, AppendsPart, Appends-trans, HaveRoom, parts_text}
 use Rattle.std.specs.FinMap as maps
-use Rattle.mig_guest.specs.Frames.{FrameMap}
 use Rattle.mig_image.proofs.Parts.{parts_of_guest}
-use Rattle.mig_image.specs.Behind.{HaveRoom, parts_text}
 use Rattle.mig_image.proofs.HostedFrames.{are_frames, hosted_image, machines_fit}
 use Rattle.mig_records_pages.proofs.Copying.{part_behind, part_front, part_same}
 use Rattle.mig_image.proofs.hosted.write_hosted.Goals as goal

@@ -1,5 +1,4 @@
-use Rattle.mig_image.proofs.Common.{ap, puts_same, puts_stop, puts_then, subst, sym}
-use Rattle.mig_image.specs.Behind.{HaveRoom, parts_text}
+use Rattle.mig_image.proofs.Common.{ap, puts_same, puts_stop, puts_then, subst, sym, HaveRoom, parts_text}
 use Rattle.mig_image.proofs.Parts.{parts_of_host}
 use Rattle.mig_image.proofs.Writers.{image_is}
 use Rattle.mig_image.proofs.write.write_host.Goals as goal

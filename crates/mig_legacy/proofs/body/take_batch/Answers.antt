@@ -1,9 +1,7 @@
-use Rattle.mig_legacy.proofs.Common.{◌≡◌, length, rules, sym, ap, subst, arith, All, IsGoodWord, page_data_words, judged_as, words_form, batch_form, stopped}
+use Rattle.mig_legacy.proofs.Common.{◌≡◌, length, rules, sym, ap, subst, arith, All, IsGoodWord, page_data_words, judged_as, words_form, batch_form, stopped, any_stop, stops}
 use Rattle.mig_legacy.proofs.Batches.{behind_words, batch_is}
 use Rattle.mig_legacy.proofs.BatchFrames.{good_words, few_words, batch_read, batch_stopped}
-use Rattle.mig_bytes.proofs.Joins.{any_stop}
 use Rattle.mig_legacy.proofs.Noted.{batch_noted}
-use Rattle.mig_restore.proofs.Noted.{stops}
 use Rattle.mig_legacy.proofs.body.take_batch.Goals as goal
 
 pub take_entries-requires-clause-good : goal.take_entries-requires-clause-good

@@ -1,6 +1,5 @@
-use Rattle.mig_legacy.proofs.Common.{◌∙◌, ap, subst, rules}
+use Rattle.mig_legacy.proofs.Common.{◌∙◌, ap, subst, rules, left_at}
 use Rattle.std.specs.FinMap as maps
-use Rattle.mig_file.specs.Files.{left_at}
 use Rattle.mig_legacy.proofs.PlacedStreams.{legacy_placed}
 use Rattle.mig_placing.specs.Places.{ArePlaced}
 use Rattle.mig_legacy.proofs.placed.place_legacy.Goals as goal

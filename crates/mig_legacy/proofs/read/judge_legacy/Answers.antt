@@ -1,8 +1,6 @@
-use Rattle.mig_legacy.proofs.Common.{IsLegacyTaken, legacy_at, weakened}
+use Rattle.mig_legacy.proofs.Common.{IsLegacyTaken, legacy_at, weakened, outline_frames, mean_legacy}
 use Rattle.mig_legacy.proofs.Streams.{frames_meant}
-use Rattle.mig_outline.specs.Outline.{outline_frames}
 use Rattle.std.specs.FinMap as maps
-use Rattle.mig_legacy.specs.Legacy.{mean_legacy}
 use Rattle.mig_legacy.proofs.Common.{◌≡◌}
 use Rattle.mig_legacy.proofs.read.judge_legacy.Goals as goal
 

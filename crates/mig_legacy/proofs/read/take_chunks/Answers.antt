@@ -1,5 +1,4 @@
-use Rattle.mig_legacy.proofs.Common.{arith, refl, rules, subst, sym, Err, AgreesWithJudging, IsLegacySeen, chunks_at, ChunksSeen}
-use Rattle.mig_bytes.proofs.Joins.{any_stop}
+use Rattle.mig_legacy.proofs.Common.{arith, refl, rules, subst, sym, Err, AgreesWithJudging, IsLegacySeen, chunks_at, ChunksSeen, any_stop}
 use Rattle.mig_legacy.proofs.Arrivals.{state, arrived_first, arrived_next, arrived_end, arrived_noted, arrived_stopped}
 use Rattle.mig_legacy.proofs.read.take_chunks.Goals as goal
 

@@ -1,8 +1,7 @@
-use Rattle.mig_legacy.proofs.Common.{◌≡◌, refl, rules, subst, ◌≤◌, ◌>>=◌, placed, Passes, judged_so, mapped, stopped, then_reads, placed_then, placed_ends, placed_fine, Start, Tail, Device, judged_as, start_form, tail_form, device_at, chunks_at, legacy_at, most_frames}
+use Rattle.mig_legacy.proofs.Common.{◌≡◌, refl, rules, subst, ◌≤◌, ◌>>=◌, placed, Passes, judged_so, mapped, stopped, then_reads, placed_then, placed_ends, placed_fine, Start, Tail, Device, judged_as, start_form, tail_form, device_at, chunks_at, legacy_at, most_frames, stops}
 use Rattle.std.specs.FinMap as maps
 use Rattle.mig_legacy.proofs.Streams.{stream_of, behind_start, behind_chunks, behind_tail, stream_is, stream_taken}
 use Rattle.mig_bytes.proofs.Joins.{any_stop, done}
-use Rattle.mig_restore.proofs.Noted.{stops}
 use Rattle.mig_legacy.proofs.Noted.{before_chunks, behind_chunks_noted, placed_device_splits, start_splits, tail_splits}
 use Rattle.mig_legacy.proofs.read.take_parts.Goals as goal
 

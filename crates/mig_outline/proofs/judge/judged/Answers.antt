@@ -1,7 +1,7 @@
 use Rattle.mig_restore.proofs.Common.{subst, AgreesWithJudging, IsTaken}
 use Rattle.mig_bytes.proofs.Joins.{weakened}
 use Rattle.mig_outline.specs.Judges.{IsTally}
-use Rattle.mig_outline.specs.Outline.{outline_frames}
+use Rattle.mig_outline.proofs.Common.{outline_frames}
 use Rattle.mig_outline.proofs.judge.judged.Goals as goal
 
 pub returns-in-Ok-clause-read : goal.returns-in-Ok-clause-read

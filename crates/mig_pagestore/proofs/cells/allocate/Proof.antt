@@ -1,13 +1,8 @@
 -- `allocate` takes a block with no page in it, and keeps the right to free it. Assumes `Logic`.
-use Rattle.mig_pagestore.proofs.Common.{◌⊑◌, ⊑_trans, inst_fn, get_tag, lands_as, bounded, layout, param, makes_shadow, types_at, type_at, Struct, Struct-Makes, within, calls_at, alive, Al, seen, Takes, at_takes, Answered, Answer-typed, Takes-goes, Takes-gives, answers, fm, proved_at, ◌-◌, ◌<◌, ◌≤◌, ◌^◌}
+use Rattle.mig_pagestore.proofs.Common.{◌⊑◌, ⊑_trans, inst_fn, get_tag, lands_as, bounded, layout, param, makes_shadow, types_at, type_at, Struct, Struct-Makes, within, calls_at, alive, Al, seen, Takes, at_takes, Answered, Answer-typed, Takes-goes, Takes-gives, answers, fm, proved_at, ◌-◌, ◌<◌, ◌≤◌, ◌^◌, vint, w64, capped_is, usize, bin}
 use Rattle.mig_pagestore.proofs.Steps.{◌≡◌, ℕ, ◌+◌, ◌*◌, List, [], ◌∷◌, ◌++◌, refl, lit<, arith, after, ent, sep, SProp, id⊢, ftrue, froom, flft, Val, vptr, fact, tables, WpFn, Logic, sem, ‵, raw, ◌⊛◌, later, prop, at_ret, ◌$◌, ◌∵◌, !, qed, by, move, keep, drop, use0, use1, use2, use3, split, join, fsplit, fjoin, fpack, feq_i, await, rewrite, regoal, suffices, frame, done, whole, agg, enter, of_opd, lit, stop, fld, no_more, and_then, first, exec, returns, alloc_all, pass_all, free_all, look_at, get, get_in, sets, sets_last, env, owns, RefOf, Ptr, block_ptr, plain, nothing, heard, Stays, walk_of, says, stay_dropped, Goes-dropped, ends_at, block, Base, Cells, word, Good, Mark, mark, mark_made, big}
 use mathlib.Core.Bool.{true, false}
 use Rattle.mig_pagestore.proofs.SlabCommon.{Ura, Lft, Share, Args, Fn, a_type, dcons, dnil, vstruct, vcons, vnil, Env, Wp, after_seq, at_return, Item, ⋆, any_q, switches_on, RattleType, Valss}
-use mir.Val.{vint}
-use mir.Syntax.{w64}
-use prog.Capped.{capped_is}
-use denote.Builtin.{usize}
-use types.Run.{bin}
 use types.Kit.{Post as After}
 use types.Match.{live, vrt, in_variant}
 use denote.Laws.{Is}

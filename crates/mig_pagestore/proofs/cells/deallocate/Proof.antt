@@ -1,13 +1,8 @@
 -- `deallocate` makes one block of the pages and of the room behind them, and hands it back with the allocator's token. Assumes `Logic`.
-use Rattle.mig_pagestore.proofs.Common.{◌⊑◌, ⊑_trans, inst_fn, lands_last, bounded, param, types_at, calls_at_last, alive, Al, seen, Gives, at_gives, Gives-goes, Gives-Gives, Goes-blank, fm, proved_at}
+use Rattle.mig_pagestore.proofs.Common.{◌⊑◌, ⊑_trans, inst_fn, lands_last, bounded, param, types_at, calls_at_last, alive, Al, seen, Gives, at_gives, Gives-goes, Gives-Gives, Goes-blank, fm, proved_at, vint, w64, capped_is, usize, bin}
 use Rattle.mig_pagestore.proofs.Steps.{◌≡◌, ◌+◌, ◌-◌, ◌*◌, ◌≤◌, List, [], ◌∷◌, ◌++◌, length, refl, sym, ap, subst, ◌∙◌, lit<, arith, after, SProp, id⊢, never, ftrue, froom, flft, Val, vunit, vptr, fact, tables, WpFn, ‵, raw, ◌⊛◌, later, prop, at_ret, ◌$◌, ◌∵◌, !, qed, move, keep, drop, use1, use2, split, join, fsplit, fjoin, feq_i, await, rewrite, regoal, suffices, group, done, whole, sub, enter, of_opd, unit_lit, lit, stop, fld, no_more, and_then, first, blocks, exec, returns, alloc_all, pass_all, free_all, look_at, get, get_in, sets, env, owns, RefOf, Ptr, block_ptr, in_a_block, plain, nothing, heard, Stays, walk_of, stay_dropped, Goes-dropped, ends_at, block, cells_own, Base, Cells, lowers, word, mark, mark_told, big, all_room}
 use Rattle.mig_pagestore.proofs.SlabCommon.{Lft, Share, Args, Fn, a_type, dcons, dnil, ty_unit, has_ty, WT, Env, given, learn, RattleType}
 use lib.Dec.{T}
-use mir.Val.{vint}
-use mir.Syntax.{w64}
-use prog.Capped.{capped_is}
-use denote.Builtin.{usize}
-use types.Run.{bin}
 use Prim.Native.Nat.{ℕ, ◌<◌, ◌^◌}
 use Rattle.mig_pagestore.specs.contracts.cells.Deed as D
 use Rattle.mig_pagestore.specs.contracts.cells.deallocate as f

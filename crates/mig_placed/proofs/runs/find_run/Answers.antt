@@ -1,5 +1,4 @@
-use Rattle.std.proofs.Common.{sym, ap, ◌∙◌, drop}
-use Rattle.mig_placed.specs.Runs.{frames_after}
+use Rattle.mig_placed.proofs.Common.{sym, ap, ◌∙◌, drop, frames_after}
 use Rattle.mig_placed.proofs.Seen.{none_from_placed}
 use Rattle.mig_placed.proofs.runs.find_run.Goals as goal
 

@@ -1,4 +1,4 @@
-use Rattle.std.proofs.Common.{◌≤◌, ◌-◌}
+use Rattle.mig_placed.proofs.Common.{◌≤◌, ◌-◌}
 use Rattle.mig_placed.specs.Runs.{IsRunFrom, IsSmallRun}
 use Rattle.mig_placed.proofs.runs.find_run.Given as goal
 

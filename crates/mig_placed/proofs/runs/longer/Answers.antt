@@ -1,4 +1,4 @@
-use Rattle.std.proofs.Common.{arith}
+use Rattle.mig_placed.proofs.Common.{arith}
 use Rattle.mig_placed.proofs.RunSteps.{run_over, run_begun, run_longer}
 use Rattle.mig_placed.proofs.runs.longer.Goals as goal
 

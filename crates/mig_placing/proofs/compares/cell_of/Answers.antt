@@ -1,5 +1,5 @@
 use Rattle.mig_placing.proofs.Compared.{frame_told, none_first, none_told}
-use Rattle.mig_restore.proofs.Common.{◌≤◌, arith}
+use Rattle.mig_placing.proofs.Common.{◌≤◌, arith}
 use Rattle.mig_placing.proofs.compares.cell_of.Goals as goal
 
 pub returns-then-first-pfn-clause-some : goal.returns-then-first-pfn-clause-some

@@ -1,7 +1,5 @@
-use Rattle.mig_restore.proofs.Common.{Some, None, refl, Bool, true, false, ◌≡◌, cond, rules, ap, sym, ◌∙◌}
-use Rattle.mig_placed.specs.InFile.{page_in_file}
+use Rattle.mig_placing.proofs.Common.{Some, None, refl, Bool, true, false, ◌≡◌, cond, rules, ap, sym, ◌∙◌, page_in_file, is_same_page}
 use Rattle.mig_placing.proofs.Compared.{none_sent, none_there, other_type, page_alike, turned}
-use Rattle.mig_restore_form.specs.Mean.{is_same_page}
 use Rattle.mig_placing.proofs.compares.has_cell.Goals as goal
 
 pub returns-then-not-is_of_type : goal.returns-then-not-is_of_type

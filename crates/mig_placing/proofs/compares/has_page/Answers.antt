@@ -1,6 +1,4 @@
-use Rattle.mig_restore.proofs.Common.{◌≡◌, ◌-◌, length, subst, rules}
-use Rattle.std.specs.Prelude.{IfSome}
-use Rattle.mig_file.specs.Files.{IsThere}
+use Rattle.mig_placing.proofs.Common.{◌≡◌, ◌-◌, length, subst, rules, IfSome, IsThere}
 use Rattle.mig_placing.proofs.Compared.{page_read}
 use Rattle.mig_placing.proofs.compares.has_page.Goals as goal
 

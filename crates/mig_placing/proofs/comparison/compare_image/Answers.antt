@@ -1,10 +1,6 @@
-use Rattle.mig_restore.proofs.Common.{◌∙◌, ap, subst}
+use Rattle.mig_placing.proofs.Common.{◌∙◌, ap, subst, left_at, outline_frames, ArePlaced, both_compared}
 use Rattle.std.specs.FinMap as maps
-use Rattle.mig_file.specs.Files.{left_at}
-use Rattle.mig_outline.specs.Outline.{outline_frames}
 use Rattle.mig_placing.proofs.Compared.{begun_told}
-use Rattle.mig_placing.specs.Places.{ArePlaced}
-use Rattle.mig_restore.proofs.Compared.{both_compared}
 use Rattle.mig_placing.proofs.comparison.compare_image.Goals as goal
 
 pub returns-clause-read : goal.returns-clause-read

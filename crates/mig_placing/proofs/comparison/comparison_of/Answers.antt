@@ -1,6 +1,5 @@
 use Rattle.mig_restore.proofs.Common.{subst, AgreesWithJudging, IsTakenAndCompared}
-use Rattle.mig_bytes.proofs.Joins.{weakened}
-use Rattle.mig_outline.specs.Outline.{outline_frames}
+use Rattle.mig_placing.proofs.Common.{weakened, outline_frames}
 use Rattle.mig_placing.specs.Compared.{IsComparison}
 use Rattle.mig_placing.proofs.comparison.comparison_of.Goals as goal
 

@@ -1,8 +1,6 @@
-use Rattle.mig_restore.proofs.Common.{◌∙◌, ap, subst, rules}
+use Rattle.mig_placing.proofs.Common.{◌∙◌, ap, subst, rules, left_at, ArePlaced}
 use Rattle.std.specs.FinMap as maps
-use Rattle.mig_file.specs.Files.{left_at}
 use Rattle.mig_placing.proofs.Images.{image_placed}
-use Rattle.mig_placing.specs.Places.{ArePlaced}
 use Rattle.mig_placing.proofs.image.place_image_rest.Goals as goal
 
 pub returns-in-Ok-clause-read : goal.returns-in-Ok-clause-read

@@ -1,5 +1,4 @@
-use Rattle.std.proofs.Common.{◌≡◌, [], sym, ap, ◌∙◌, length, arith}
-use Rattle.std.proofs.lemmas.List.{take-append-le, take_all, length-take}
+use Rattle.mig_records_pages.proofs.Common.{◌≡◌, [], sym, ap, ◌∙◌, length, arith, take-append-le, take_all, length-take}
 use Rattle.std.specs.Option.{option_copied, unwrap_or}
 use Rattle.mig_records_pages.proofs.gathered.put_page.Goals as goal
 

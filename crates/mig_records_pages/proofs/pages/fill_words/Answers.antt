@@ -1,6 +1,5 @@
-use Rattle.std.proofs.Common.{◌≡◌, sym, ◌∙◌, ap, arith}
+use Rattle.mig_records_pages.proofs.Common.{◌≡◌, sym, ◌∙◌, ap, arith, Frame}
 use Rattle.mig_pagetypes.specs.FrameWords.{word_of}
-use Rattle.mig_records_pages.specs.PageData.{Frame}
 use Rattle.mig_records_pages.proofs.ListSteps.{drop_next, not_ended}
 use Rattle.mig_records_pages.proofs.PageTexts.{pages_next, words_put}
 use Rattle.mig_records_pages.proofs.pages.fill_words.Goals as goal

@@ -1,5 +1,4 @@
-use Rattle.std.proofs.Common.{◌≡◌, ◌*◌, ◌≤◌, length, take, drop}
-use Rattle.mig_records_pages.specs.PageData.{words_of, pages_of}
+use Rattle.mig_records_pages.proofs.Common.{◌≡◌, ◌*◌, ◌≤◌, length, take, drop, words_of, pages_of}
 use Rattle.mig_records_pages.proofs.pages.fill_words.Given as goal
 
 abbrev pub invariant-loop-i : goal.invariant-loop-i

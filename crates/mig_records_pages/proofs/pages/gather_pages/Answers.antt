@@ -1,6 +1,4 @@
-use Rattle.std.proofs.Common.{◌-◌, ◌*◌, take, drop, refl, ap, ◌∙◌, rules, arith, drop-drop, length}
-use Rattle.std.proofs.lemmas.List.{length-drop, length-take}
-use Rattle.mig_records_pages.specs.PageData.{pages_of}
+use Rattle.mig_records_pages.proofs.Common.{◌-◌, ◌*◌, take, drop, refl, ap, ◌∙◌, rules, arith, drop-drop, length, length-drop, length-take, pages_of}
 use Rattle.mig_records_pages.proofs.Copying.{pages_gathered, some_of_more}
 use Rattle.mig_records_pages.proofs.pages.gather_pages.Goals as goal
 

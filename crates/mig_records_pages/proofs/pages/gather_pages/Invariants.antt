@@ -1,5 +1,4 @@
-use Rattle.std.proofs.Common.{◌≡◌, ◌*◌, ◌-◌, ◌≤◌, true, length, take, drop}
-use Rattle.mig_records_pages.specs.PageData.{pages_of}
+use Rattle.mig_records_pages.proofs.Common.{◌≡◌, ◌*◌, ◌-◌, ◌≤◌, true, length, take, drop, pages_of}
 use Rattle.mig_records_pages.proofs.pages.gather_pages.Given as goal
 
 abbrev pub invariant-loop-done : goal.invariant-loop-done

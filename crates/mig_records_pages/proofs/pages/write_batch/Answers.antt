@@ -1,7 +1,4 @@
-use Rattle.std.proofs.Common.{◌≤◌, ◌^◌, ℕ, List, Err, refl, ap, subst, length, arith}
-use Rattle.mig_bytes.specs.Bytes.{AppendsPart}
-use Rattle.mig_records.specs.Records.{spelled}
-use Rattle.mig_records_pages.specs.PageData.{Frame, body_of}
+use Rattle.mig_records_pages.proofs.Common.{◌≤◌, ◌^◌, ℕ, List, Err, refl, ap, subst, length, arith, AppendsPart, spelled, Frame, body_of}
 use Rattle.mig_records_pages.specs.Told.{told_held}
 use Rattle.mig_records_pages.proofs.Copying.{kept_cause}
 use Rattle.mig_records_pages.proofs.Joins.{batch_joins}

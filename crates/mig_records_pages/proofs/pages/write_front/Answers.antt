@@ -1,4 +1,4 @@
-use Rattle.mig_bytes.proofs.Texts.{puts_then, puts_stop}
+use Rattle.mig_records_pages.proofs.Common.{puts_then, puts_stop}
 use Rattle.mig_records_pages.proofs.pages.write_front.Goals as goal
 
 pub returns-in_err-write_count-clause-bytes : goal.returns-in_err-write_count-clause-bytes

@@ -1,10 +1,4 @@
-use Rattle.std.proofs.Common.{◌-◌, length, take, drop, sym, ap, subst, ◌∙◌, rules, arith, drop-drop}
-use Rattle.std.proofs.lemmas.List.{length-drop}
-use Rattle.std.specs.Io.KnownBytes.{Appends}
-use Rattle.std.proofs.KnownBytes.{Appends-trans}
-use Rattle.mig_bytes.specs.Bytes.{AppendsPart}
-use Rattle.mig_bytes.proofs.Texts.{flat_more}
-use Rattle.mig_records_pages.specs.PageData.{page_in, pages_of}
+use Rattle.mig_records_pages.proofs.Common.{◌-◌, length, take, drop, sym, ap, subst, ◌∙◌, rules, arith, drop-drop, length-drop, Appends, Appends-trans, AppendsPart, flat_more, page_in, pages_of}
 use Rattle.mig_records_pages.proofs.Copying.{part_of_more}
 use Rattle.mig_records_pages.proofs.pages.write_pages.Goals as goal
 

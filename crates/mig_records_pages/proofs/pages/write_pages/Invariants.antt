@@ -1,6 +1,4 @@
-use Rattle.std.proofs.Common.{◌≡◌, ◌≤◌, ◌-◌, true, length, take, drop}
-use Rattle.std.specs.Io.KnownBytes.{Appends}
-use Rattle.mig_records_pages.specs.PageData.{pages_of}
+use Rattle.mig_records_pages.proofs.Common.{◌≡◌, ◌≤◌, ◌-◌, true, length, take, drop, Appends, pages_of}
 use Rattle.mig_records_pages.proofs.pages.write_pages.Given as goal
 
 abbrev pub invariant-loop-done : goal.invariant-loop-done

@@ -1,7 +1,4 @@
-use Rattle.std.proofs.Common.{subst, arith, take}
-use Rattle.std.proofs.KnownBytes.{Appends-nil}
-use Rattle.mig_bytes.specs.Bytes.{AppendsPart}
-use Rattle.mig_records_pages.specs.PageData.{pages_of}
+use Rattle.mig_records_pages.proofs.Common.{subst, arith, take, Appends-nil, AppendsPart, pages_of}
 use Rattle.mig_records_pages.proofs.Copying.{part_none, part_of_more, some_of_more}
 use Rattle.mig_records_pages.proofs.pages.write_some.Goals as goal
 

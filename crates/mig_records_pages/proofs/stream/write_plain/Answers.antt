@@ -1,4 +1,4 @@
-use Rattle.std.proofs.Common.{arith}
+use Rattle.mig_records_pages.proofs.Common.{arith}
 use Rattle.mig_records_pages.proofs.Written.{record_joins}
 use Rattle.mig_records_pages.proofs.stream.write_plain.Goals as goal
 

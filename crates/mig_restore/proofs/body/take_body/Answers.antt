@@ -1,5 +1,4 @@
-use Rattle.mig_restore.proofs.Common.{◌≡◌, true, refl, rules, judged_so, Nothing, Truncated, body_at, put_frames}
-use Rattle.mig_bytes.specs.Judged.{plain_at}
+use Rattle.mig_restore.proofs.Common.{◌≡◌, true, refl, rules, judged_so, Nothing, Truncated, body_at, put_frames, plain_at}
 use Rattle.mig_headers.specs.RecordTypes.{is_optional}
 use Rattle.mig_restore.proofs.Fronts.{front_plain}
 use Rattle.mig_restore.proofs.Noted.{optional_stays, still}

@@ -1,5 +1,4 @@
-use Rattle.mig_restore.proofs.Common.{◌≡◌, take, Ok, AgreesWithJudging, put_entry, put_entries_by, NotesOn, GrewByRecord, with_places, entry_at, AreEntriesSet}
-use Rattle.mig_bytes.specs.Judged.{each}
+use Rattle.mig_restore.proofs.Common.{◌≡◌, take, Ok, AgreesWithJudging, put_entry, put_entries_by, NotesOn, GrewByRecord, with_places, entry_at, AreEntriesSet, each}
 use Rattle.mig_restore.proofs.body.take_entries.Given as goal
 
 abbrev pub invariant-loop-place : goal.invariant-loop-place

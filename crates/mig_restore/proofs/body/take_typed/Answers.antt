@@ -1,10 +1,8 @@
-use Rattle.mig_restore.proofs.Common.{put_frames, typed_at, Nothing, lists_of, Truncated, fault_of_p2m, refl, rules, ◌≡◌, ◌∙◌, List, ℕ, Option, Some, Result, ap, sym, subst, Judged, AgreesWithJudging, Stop, Cause, RecordType, code_of_number, PartCode, Content, code_of_type, has_length, same_kinds, sets_no_emulator}
+use Rattle.mig_restore.proofs.Common.{put_frames, typed_at, Nothing, lists_of, Truncated, fault_of_p2m, refl, rules, ◌≡◌, ◌∙◌, List, ℕ, Option, Some, Result, ap, sym, subst, Judged, AgreesWithJudging, Stop, Cause, RecordType, code_of_number, PartCode, Content, code_of_type, has_length, same_kinds, sets_no_emulator, fault_of_pv_info, front_said}
 use Rattle.mig_restore_form.proofs.Bodies.{coded_is, shaped_code}
-use Rattle.mig_records.specs.PvBodies.{fault_of_pv_info}
 use Rattle.mig_restore_form.specs.Judging.{info_at, p2m_at}
 use Rattle.mig_restore.proofs.Noted.{said_only, still, typed_stays}
 use Rattle.mig_restore.proofs.Fronts.{front_typed}
-use Rattle.mig_bytes.proofs.Fronts.{front_said}
 use Rattle.mig_restore.proofs.body.take_typed.Goals as goal
 
 found : (this : RecordType) (code : PartCode) (number : ℕ) (r : Option PartCode) → code_of_type this ≡ code_of_number number → r ≡ code_of_number number → r ≡ Some code → code_of_type this ≡ Some code

@@ -1,5 +1,4 @@
-use Rattle.mig_restore.proofs.Common.{◌≡◌, ◌≤◌, ℕ, take, Ok, AgreesWithJudging, with_places, entry_at}
-use Rattle.mig_bytes.specs.Judged.{each}
+use Rattle.mig_restore.proofs.Common.{◌≡◌, ◌≤◌, ℕ, take, Ok, AgreesWithJudging, with_places, entry_at, each}
 use Rattle.mig_restore.proofs.Compared.{AreCounted}
 use Rattle.mig_restore.proofs.check.check_entries.Given as goal
 

@@ -1,5 +1,4 @@
-use Rattle.std.specs.Prelude.{⊤}
-use Rattle.mig_restore.proofs.Common.{[], FrameMap}
+use Rattle.mig_restore.proofs.Common.{[], FrameMap, ⊤}
 use Rattle.mig_restore.proofs.Compared.{both_compared}
 use Rattle.mig_restore.proofs.read.read_image.Goals as goal
 

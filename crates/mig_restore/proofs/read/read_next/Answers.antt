@@ -1,5 +1,4 @@
-use Rattle.mig_restore.proofs.Common.{any_stop, NotesOn, IsCompared, differs_behind, put_frames, ◌≡◌, ℕ, List, [], ◌∷◌, ◌++◌, true, false, nat_eq, rules, ap, sym, subst, ◌∙◌, eq-eqb, ne_eqb, map-append, done, then_reads, stopped, refused, FrameMap, kept_guest, GuestOf, StreamRecord, types_of, Opening, before, IsSeen, RecordsSeen, record_at, next_at, asks, behind_record, not_last, last_fine, last_faulty, sent_kind}
-use Rattle.mig_restore_form.specs.Mean.{sent}
+use Rattle.mig_restore.proofs.Common.{any_stop, NotesOn, IsCompared, differs_behind, put_frames, ◌≡◌, ℕ, List, [], ◌∷◌, ◌++◌, true, false, nat_eq, rules, ap, sym, subst, ◌∙◌, eq-eqb, ne_eqb, map-append, done, then_reads, stopped, refused, FrameMap, kept_guest, GuestOf, StreamRecord, types_of, Opening, before, IsSeen, RecordsSeen, record_at, next_at, asks, behind_record, not_last, last_fine, last_faulty, sent_kind, sent}
 use Rattle.mig_restore.proofs.Kept.{kept_more}
 use Rattle.mig_restore.proofs.Noted.{both_told, stops}
 use Rattle.mig_restore.proofs.read.read_next.Goals as goal

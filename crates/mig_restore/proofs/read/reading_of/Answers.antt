@@ -1,11 +1,10 @@
-use Rattle.mig_restore.proofs.Common.{◌≡◌, Result, Ok, refl, sym, subst, ◌∙◌, AgreesWithJudging, IsBegun, IsReading, IsTakenAndCompared, TakenImage, meant_as_sent}
+use Rattle.mig_restore.proofs.Common.{◌≡◌, Result, Ok, refl, sym, subst, ◌∙◌, AgreesWithJudging, IsBegun, IsReading, IsTakenAndCompared, TakenImage, meant_as_sent, weakened}
 use Rattle.std.specs.Prelude.{IfOk}
 use Rattle.mig_restore.specs.Kept.{IsOfFaultless}
 use Rattle.mig_pvtables.specs.Whole.{IsStreamedBare}
 use Rattle.mig_pvtables.proofs.BlankAgain.{blank_again}
 use Rattle.mig_pvtables.proofs.BlankBytesKept.{blank_bytes}
 use Rattle.mig_pvtables.proofs.BlankWhole.{whole_blank, blank_plain}
-use Rattle.mig_bytes.proofs.Joins.{weakened}
 use Rattle.mig_restore.proofs.read.reading_of.Goals as goal
 
 -- what holds of an answer that is there

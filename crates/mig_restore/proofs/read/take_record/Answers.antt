@@ -1,8 +1,7 @@
-use Rattle.mig_restore.proofs.Common.{NotesOn, put_frames, differs_behind, subst, ◌≡◌, refl, rules, ◌∙◌, padding_len, part, Passes, is_verified, placed_content, mapped, then_reads, stopped, Truncated, head_at, body_at, record_at, behind_body, behind_head, begins, goes_on, padded}
+use Rattle.mig_restore.proofs.Common.{NotesOn, put_frames, differs_behind, subst, ◌≡◌, refl, rules, ◌∙◌, padding_len, part, Passes, is_verified, placed_content, mapped, then_reads, stopped, Truncated, head_at, body_at, record_at, behind_body, behind_head, begins, goes_on, padded, front_part}
 use Rattle.mig_restore.proofs.Compared.{counts_on, record_compared, record_told}
 use Rattle.mig_restore.proofs.Noted.{noted_then, stops, then_compared, then_noted}
 use Rattle.mig_restore.proofs.Fronts.{front_head}
-use Rattle.mig_bytes.proofs.Fronts.{front_part}
 use Rattle.mig_restore.proofs.read.take_record.Goals as goal
 
 pub returns-in_err-head-clause-read : goal.returns-in_err-head-clause-read

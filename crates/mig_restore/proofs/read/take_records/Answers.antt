@@ -1,5 +1,4 @@
-use Rattle.mig_bytes.proofs.Joins.{any_stop}
-use Rattle.mig_restore.proofs.Common.{refl, rules, subst, sym, ◌∙◌, Err, AgreesWithJudging, records_at, IsTaken, opening_of, IsBegun, TakenImage, empty_begun}
+use Rattle.mig_restore.proofs.Common.{refl, rules, subst, sym, ◌∙◌, Err, AgreesWithJudging, records_at, IsTaken, opening_of, IsBegun, TakenImage, empty_begun, any_stop}
 use Rattle.mig_restore.proofs.Arrivals.{state, arrived_first, arrived_next, arrived_end, arrived_noted, arrived_compared, arrived_stopped}
 use Rattle.mig_restore.proofs.Kept.{none_kept}
 use Rattle.mig_restore.proofs.read.take_records.Goals as goal

@@ -1,4 +1,4 @@
-use Rattle.mig_tool.proofs.Common.{arith, refl, Effects, effects, input_effect, sink_effect, same_command}
+use Rattle.mig_tool.proofs.Common.{refl, Effects, effects, input_effect, sink_effect, same_command}
 use Rattle.mig_file.specs.Files.{failed_in, left_in}
 use Rattle.mig_tool.proofs.Reporting.{keeps_file_command, of_same_file}
 use Rattle.mig_tool.proofs.run.run_file.Goals as goal

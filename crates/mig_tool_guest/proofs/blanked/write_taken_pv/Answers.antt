@@ -1,4 +1,4 @@
-use Rattle.mig_tool_guest.proofs.Common.{AcceptedStream, Effects, GuestOf, HasStreamRefusal, InputRises, List, Option, ap, effects, inr, input_effect, refl, sink_effect, status_of, subst, sym, unreached, unwritten, ℕ, failed_in, left_in, normalise_file_promise}
+use Rattle.mig_tool_guest.proofs.Common.{AcceptedStream, Effects, HasStreamRefusal, InputRises, List, Option, effects, inr, input_effect, refl, sink_effect, status_of, subst, sym, unreached, unwritten, ℕ, failed_in, left_in, normalise_file_promise}
 use Rattle.mig_tool_guest.proofs.BlankTexts.{blanked_text, found_blanked, starved_says, text_of_blank}
 use Rattle.mig_tool_guest.proofs.Placed.{FindsAll, came_copied, copy_comes, part_copied, told_bytes}
 use Rattle.mig_tool_report.specs.declared.outcome.Outcome.TheVariants as outcomes

@@ -1,8 +1,6 @@
-use Rattle.mig_legacy.proofs.Common.{◌≡◌, rules, subst, sym, ◌<◌, Passes, mapped, stopped, then_reads, judged_as, type_form, content_form, chunk_form, most_chunks}
+use Rattle.mig_legacy.proofs.Common.{◌≡◌, rules, subst, sym, ◌<◌, Passes, mapped, stopped, then_reads, judged_as, type_form, content_form, chunk_form, most_chunks, put_chunk_frames, stops, then_noted}
 use Rattle.mig_legacy.proofs.Chunked.{chunk_of, behind_kind, begins, goes_behind, seen_more}
 use Rattle.mig_legacy.proofs.Noted.{form_front}
-use Rattle.mig_legacy.specs.Seen.{put_chunk_frames}
-use Rattle.mig_restore.proofs.Noted.{stops, then_noted}
 use Rattle.mig_legacy.proofs.read.ChunksSeen.take_chunk.Goals as goal
 
 pub returns-in_err-kind-clause-read : goal.returns-in_err-kind-clause-read

@@ -1,7 +1,4 @@
-use Rattle.mig_legacy.proofs.Common.{◌≡◌, ◌≢◌, ℕ, AgreesWithJudging, ChunkKind, Batch, Toolstack, content_form, refl, rules, judged_as, subst, sym, ◌∙◌}
-use Rattle.mig_legacy.specs.declared.chunk.ChunkKind.TheVariants.{VcpuMap, Tsc, Param}
-use Rattle.mig_legacy.specs.Seen.{put_chunk_frames}
-use Rattle.mig_restore.specs.Kept.{NotesOn}
+use Rattle.mig_legacy.proofs.Common.{◌≡◌, ◌≢◌, ℕ, AgreesWithJudging, ChunkKind, Batch, Toolstack, content_form, refl, rules, judged_as, subst, sym, ◌∙◌, VcpuMap, Tsc, Param, put_chunk_frames, NotesOn}
 use Rattle.mig_legacy.proofs.Noted.{other_noted}
 use Rattle.mig_legacy.proofs.Contents.{takes_batch, takes_toolstack}
 use Rattle.mig_legacy.proofs.read.ChunksSeen.take_content.Goals as goal

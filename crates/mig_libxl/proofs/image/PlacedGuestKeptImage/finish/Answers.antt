@@ -1,5 +1,4 @@
-use Rattle.mig_libxl.proofs.Common.{ap, sym, subst, GuestOf}
-use Rattle.mig_guest.specs.Formed.{IsFormed}
+use Rattle.mig_libxl.proofs.Common.{ap, GuestOf}
 use Rattle.mig_libxl_form.proofs.EmulatorGuests.{guest_formed}
 use Rattle.mig_libxl.proofs.Images.{placed_whole}
 use Rattle.mig_libxl.proofs.image.PlacedGuestKeptImage.finish.Goals as goal

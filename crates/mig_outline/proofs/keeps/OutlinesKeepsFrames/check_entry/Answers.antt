@@ -1,6 +1,5 @@
 use Rattle.mig_restore.proofs.Common.{refl, ◌≡◌, None, false, rules, level_of, type_in_guest, type_in_word, mapped, stopped, entry_at, entry_with, Passes}
-use Rattle.mig_restore_form.specs.Judging.{page_at}
-use Rattle.mig_restore.proofs.Noted.{weaker}
+use Rattle.mig_outline.proofs.Common.{page_at, weaker}
 use Rattle.mig_outline.proofs.keeps.OutlinesKeepsFrames.check_entry.Goals as goal
 
 pub returns-then-is_some-clause-read : goal.returns-then-is_some-clause-read

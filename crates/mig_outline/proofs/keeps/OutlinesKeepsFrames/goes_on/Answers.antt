@@ -1,7 +1,6 @@
 use Rattle.mig_outline.proofs.Changed.{changed_empty}
 use Rattle.mig_outline.proofs.Outline.{entry_on, outline_len}
-use Rattle.mig_outline.specs.Outline.{outline_frame}
-use Rattle.mig_pvtables.proofs.Common.{nat_cmp_total, nat_cmp-IsAntisymmetric}
+use Rattle.mig_outline.proofs.Common.{outline_frame, nat_cmp_total, nat_cmp-IsAntisymmetric}
 use Rattle.mig_outline.proofs.keeps.OutlinesKeepsFrames.goes_on.Goals as goal
 
 pub returns-clause-entry : goal.returns-clause-entry

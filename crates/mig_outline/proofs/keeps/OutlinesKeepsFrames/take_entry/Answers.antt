@@ -1,9 +1,7 @@
 use Rattle.mig_restore.proofs.Common.{◌≡◌, None, is_some, rules, refl, sym, ap, ◌∙◌, level_of, type_in_guest, type_in_word, mapped, stopped, entry_at, Passes}
 use Rattle.mig_outline.proofs.Entries.{entry_of, outline_set, outline_grows, tabled, table_named}
-use Rattle.mig_outline.specs.Outline.{put_outline_entry}
+use Rattle.mig_outline.proofs.Common.{put_outline_entry, page_at, weaker}
 use Rattle.mig_restore.proofs.Begun.{one_set}
-use Rattle.mig_restore_form.specs.Judging.{page_at}
-use Rattle.mig_restore.proofs.Noted.{weaker}
 use Rattle.mig_outline.proofs.keeps.OutlinesKeepsFrames.take_entry.Goals as goal
 
 pub returns-then-is_some-clause-read : goal.returns-then-is_some-clause-read

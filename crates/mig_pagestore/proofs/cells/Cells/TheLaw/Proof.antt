@@ -2,7 +2,7 @@
 use Prim.Native.Nat.{ℕ}
 use mathlib.Core.List.{List}
 use Rattle.mig_pagestore.proofs.SlabCommon.{Ura, Lft, ffalse, row, mem, shared_of, each_shared, each_shr_laws}
-use base.Fraction.{full_share}
+use Rattle.mig_pagestore.proofs.Common.{full_share}
 use types.Logic.{Logic}
 use denote.RawPtr.{Ptr, RawPtr, block_ptr, null_ptr}
 use denote.Param.Shared.{copy_shared}

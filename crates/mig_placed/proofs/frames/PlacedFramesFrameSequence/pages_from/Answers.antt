@@ -1,6 +1,5 @@
-use Rattle.std.proofs.Common.{arith}
+use Rattle.mig_placed.proofs.Common.{arith, frames_after}
 use Rattle.mig_records_pages.proofs.Copying.{some_of_more}
-use Rattle.mig_placed.specs.Runs.{frames_after}
 use Rattle.mig_placed.proofs.frames.PlacedFramesFrameSequence.pages_from.Goals as goal
 
 pub returns-in-Err-clause-wanted : goal.returns-in-Err-clause-wanted

@@ -1,7 +1,4 @@
-use Rattle.std.proofs.Common.{List, ℕ, ◌≡◌, ◌-◌, length, IfSome, arith, subst, sym}
-use Rattle.std.proofs.lemmas.List.{length-take}
-use Rattle.mig_placed.proofs.Common.{IsThere}
-use Rattle.mig_placed.specs.Joined.{joined_bytes}
+use Rattle.mig_placed.proofs.Common.{IsThere, List, ℕ, ◌≡◌, ◌-◌, length, IfSome, arith, subst, sym, length-take, joined_bytes}
 use Rattle.mig_placed.proofs.JoinedBytes.{read_across, filled}
 use Rattle.mig_placed.proofs.joined.JoinedFilesPageFile.read_at.Goals as goal
 

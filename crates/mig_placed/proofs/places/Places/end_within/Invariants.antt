@@ -1,7 +1,5 @@
-use Rattle.std.proofs.Common.{◌≡◌, ◌≤◌, ◌<◌, ◌-◌, ◌^◌, ℕ, Some}
+use Rattle.mig_placed.proofs.Common.{◌≡◌, ◌≤◌, ◌<◌, ◌-◌, ◌^◌, ℕ, Some, cell_mark, EndsWithin}
 use Rattle.std.specs.FinMap as maps
-use Rattle.mig_pagestore.specs.FrameView.{cell_mark}
-use Rattle.mig_placed.specs.Joined.{EndsWithin}
 use Rattle.mig_placed.proofs.places.Places.end_within.Given as goal
 
 abbrev pub invariant-loop-pfn : goal.invariant-loop-pfn

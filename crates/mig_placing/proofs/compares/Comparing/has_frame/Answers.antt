@@ -1,7 +1,5 @@
-use Rattle.mig_restore.proofs.Common.{Some, None, Option, cond, ap, sym, ◌∙◌, is_same_frame, some_frame}
+use Rattle.mig_placing.proofs.Common.{Some, None, Option, cond, ap, sym, ◌∙◌, is_same_frame, some_frame, FrameOf, frames_in_file}
 use Rattle.std.specs.FinMap as maps
-use Rattle.mig_guest.specs.Frames.{FrameOf}
-use Rattle.mig_placed.specs.InFile.{frames_in_file}
 use Rattle.mig_placing.proofs.Compared.{none_alike, turned}
 use Rattle.mig_placing.proofs.compares.Comparing.has_frame.Goals as goal
 

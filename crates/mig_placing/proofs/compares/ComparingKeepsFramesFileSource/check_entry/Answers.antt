@@ -1,6 +1,4 @@
-use Rattle.mig_restore.proofs.Common.{Some, None, cond, rules, ◌∙◌, entry_at}
-use Rattle.mig_bytes.proofs.Joins.{weakened}
-use Rattle.mig_placed.specs.InFile.{frames_in_file}
+use Rattle.mig_placing.proofs.Common.{Some, None, cond, rules, entry_at, weakened, frames_in_file}
 use Rattle.mig_placing.proofs.Compared.{unread_says_nothing}
 use Rattle.mig_restore.proofs.Compared.{told_apart}
 use Rattle.mig_restore.proofs.Entries.{compared}

@@ -1,4 +1,4 @@
-use Rattle.mig_restore.proofs.Common.{rules}
+use Rattle.mig_placing.proofs.Common.{rules}
 use Rattle.mig_placing.proofs.Places.{entry_noted}
 use Rattle.mig_placing.proofs.keeps.PlacingKeepsFramesFileSource.take_entry.Goals as goal
 

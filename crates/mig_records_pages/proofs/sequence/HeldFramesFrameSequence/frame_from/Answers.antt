@@ -1,4 +1,4 @@
-use Rattle.std.proofs.Common.{refl, rules}
+use Rattle.mig_records_pages.proofs.Common.{refl, rules}
 use Rattle.mig_records_pages.proofs.Places.{held_at}
 use Rattle.mig_records_pages.proofs.sequence.HeldFramesFrameSequence.frame_from.Goals as goal
 

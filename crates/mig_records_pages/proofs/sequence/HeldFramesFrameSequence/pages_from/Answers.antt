@@ -1,4 +1,4 @@
-use Rattle.std.proofs.Common.{sym, ◌∙◌, refl, rules, drop-drop}
+use Rattle.mig_records_pages.proofs.Common.{sym, ◌∙◌, refl, rules, drop-drop}
 use Rattle.mig_records_pages.proofs.Copying.{first_page}
 use Rattle.mig_records_pages.proofs.Places.{held_at, frames_held}
 use Rattle.mig_records_pages.proofs.sequence.HeldFramesFrameSequence.pages_from.Goals as goal

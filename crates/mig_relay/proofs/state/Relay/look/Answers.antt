@@ -1,5 +1,4 @@
-use Rattle.mig_relay.proofs.Common.{sym, subst}
-use Rattle.mig_relay.specs.Keeping.{Stands}
+use Rattle.mig_relay.proofs.Common.{sym, subst, Stands}
 use Rattle.mig_relay.proofs.Steps.{says_behind, going_behind, over_behind, leaves_words, over_there, stands_behind}
 use Rattle.mig_relay.proofs.state.Relay.look.Goals as goal
 

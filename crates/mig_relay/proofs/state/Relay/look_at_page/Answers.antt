@@ -1,6 +1,4 @@
-use Rattle.mig_relay.proofs.Common.{◌≡◌, ◌+◌, ◌∷◌, ◌++◌, None, Some, Ok, Err, length, length-append, arith, rules, refl, sym, subst, [], ap, ◌∙◌, Record, before, type_in_word, type_in_guest, fault_of_level, part, Truncated, AgreesWithJudging, TakesFew, AtPages, entry_of_word, InImage, answer_of, Relay, get_or_read}
-use Rattle.mig_pagetypes.specs.PageTypes.{level_of}
-use Rattle.mig_relay.specs.Steps.{counted}
+use Rattle.mig_relay.proofs.Common.{◌≡◌, ◌+◌, ◌∷◌, ◌++◌, None, Some, Ok, Err, length, length-append, arith, rules, refl, sym, subst, [], ap, ◌∙◌, Record, before, type_in_word, type_in_guest, fault_of_level, part, Truncated, AgreesWithJudging, TakesFew, AtPages, entry_of_word, InImage, answer_of, Relay, get_or_read, level_of, counted}
 use Rattle.mig_relay.proofs.Moves.{not_taken, went}
 use Rattle.mig_relay.proofs.Kept.{this_number}
 use Rattle.mig_relay.proofs.Paging.{IsKept, next_word, page_is, outer_stays, records_stay, turned, turning_keeps, same_page_fault, page_left}

@@ -1,5 +1,4 @@
-use Rattle.mig_relay.proofs.Common.{arith, refl, ap, [], AtVersion, InImage, carry}
-use Rattle.mig_relay.specs.Following.{marker}
+use Rattle.mig_relay.proofs.Common.{arith, refl, ap, [], AtVersion, InImage, carry, marker}
 use Rattle.mig_relay.proofs.Kept.{outer_same}
 use Rattle.mig_relay.proofs.Unrolls.{marker_is}
 use Rattle.mig_relay.proofs.SpotParts.{lifted}

@@ -1,5 +1,4 @@
-use Rattle.mig_relay.proofs.Common.{arith, refl, sym, ap, subst, ◌∙◌, [], List, ℕ, length, Option, Ok, Err, AgreesWithJudging, part, Truncated, AtVersion, Alone, AtLibxlHeader, InImage, IsNotRefused, RelayAnswer}
-use Rattle.mig_relay.specs.Following.{wrapper_opens, image_opens}
+use Rattle.mig_relay.proofs.Common.{arith, refl, sym, ap, subst, ◌∙◌, [], List, ℕ, length, Option, Ok, Err, AgreesWithJudging, part, Truncated, AtVersion, Alone, AtLibxlHeader, InImage, IsNotRefused, RelayAnswer, wrapper_opens, image_opens}
 use Rattle.mig_relay.proofs.Openings.{wrapped_form, bare_form, none_behind, begun_long, whole_not_short, ident_is_fine}
 use Rattle.mig_relay.proofs.SpotParts.{start_is}
 use Rattle.mig_relay.proofs.Moves.{Buffered, not_taken, not_allowed, not_written, went}

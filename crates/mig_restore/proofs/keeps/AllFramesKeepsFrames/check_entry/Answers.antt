@@ -1,5 +1,4 @@
-use Rattle.mig_restore.proofs.Common.{◌≡◌, ◌∙◌, Some, None, cond, ap, rules, entry_at, entry_with}
-use Rattle.mig_bytes.proofs.Joins.{weakened}
+use Rattle.mig_restore.proofs.Common.{◌≡◌, ◌∙◌, Some, None, cond, ap, rules, entry_at, entry_with, weakened}
 use Rattle.mig_restore.proofs.Compared.{told_apart}
 use Rattle.mig_restore.proofs.Entries.{compared}
 use Rattle.mig_restore.proofs.keeps.AllFramesKeepsFrames.check_entry.Goals as goal
