@@ -1,3 +1,4 @@
+pub mod Common
 pub mod Compared
 pub mod Images
 pub mod Places

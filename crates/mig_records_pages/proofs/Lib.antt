@@ -1,3 +1,4 @@
+pub mod Common
 mod Places
 pub mod Written
 pub mod Joins
