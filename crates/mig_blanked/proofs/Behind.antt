@@ -11,7 +11,7 @@ use Rattle.mig_placed.specs.InFile.{frame_in_file, frames_in_file, page_bytes_at
 use Rattle.mig_placed.specs.Runs.{IsFirstCell}
 use Rattle.mig_pvtables.proofs.EachValue.{get_each, len_each}
 use Rattle.mig_pvtables.specs.Blank.{zero_page}
-use Rattle.mig_blanked.proofs.Formed.{zero_size}
+use Rattle.mig_pvtables.proofs.BlankFormed.{zero_size}
 use Rattle.mig_records_pages.proofs.Copying.{some_of_more}
 use Rattle.mig_records_pages.proofs.ListSteps.{entries_counted}
 use Rattle.mig_records_pages.specs.Copied.{IsFirstFrame}

@@ -1,4 +1,4 @@
+pub mod Plain
 pub mod Behind
-pub mod Formed
 pub mod Marks
 pub mod Outlines

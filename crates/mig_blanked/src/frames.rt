@@ -1,22 +1,22 @@
 ghost use Rattle.std.specs.Prelude.{◌≡◌, ◌<◌, ◌≤◌, ◌*◌, ℕ, List, [], length, take, is_some, IfOk, IfSome, OnErr, Some};
 ghost use Rattle.std.specs.declared.option.Option.{Option};
 ghost use Rattle.std.specs.FinMap as maps;
-ghost use Rattle.std.specs.Option.{option_copied, option_map, unwrap_or};
+ghost use Rattle.std.specs.Option.{option_map, unwrap_or};
 ghost use Rattle.mig_pagetypes.specs.PageTypes.{level_of};
 ghost use Rattle.mig_placed.specs.InFile.{page_in_file};
 ghost use Rattle.mig_pvtables.specs.Blank.{zero_page};
-ghost use Rattle.mig_blanked.specs.Behind.{kept_page, page_behind};
+ghost use Rattle.mig_blanked.specs.Behind.{AreInFile, kept_page, page_behind};
 
 use mig_bytes::Failed;
 use mig_file::PageFile;
 use mig_guest::Guest;
 use mig_pagestore_index::Index;
 use mig_pagetypes::FrameWord;
-use mig_placed::Places;
-use mig_records_pages::FrameSequence;
+use mig_placed::{PlacedFrames, Places};
+use mig_records_pages::{FrameSequence, pages_with, put_page};
 
-/// The frames of a PV guest in its blank form, one by one: of a P2M frame the page is zeros, of a page table the one in the
-/// outline, and of any other frame the one at its place in the file.
+/// The frames of a PV guest in its blank form: of a P2M frame the page is zeros, of a page table the one in the outline, and of
+/// any other frame the one at its place in the file. Pages that are one behind another there are read at once.
 #[derive(Clone, Copy)]
 pub struct PagesByNumber<'a, P: PageFile> {
     outline: &'a Guest,
@@ -33,41 +33,6 @@ fn pages_at(place: u64) -> u32
     if place == 0 { 0 } else { 1 }
 }
 
-/// How many pages a page that is held is.
-fn one_page(page: &[u8; 4096]) -> u32
-    ensures size { length page.now ≡ 4096 * result }
-    ensures one { result ≡ 1 }
-{
-    (page.len() / 4096) as u32
-}
-
-/// How many pages come with a page that may be held: 1 or 0.
-fn pages_held(page: Option<&[u8; 4096]>) -> u32
-    ensures size { length (unwrap_or (option_copied page.entry) []) ≡ 4096 * result }
-    ensures few { result ≤ 1 }
-{
-    match page {
-        Some(bytes) => one_page(bytes),
-        None => 0,
-    }
-}
-
-/// Puts a page that is held to the front of the buffer; answers how many came: 1 or 0.
-fn put_held(buffer: &mut [u8], page: Option<&[u8; 4096]>) -> u32
-    requires room { 4096 ≤ length buffer.old }
-    ensures bytes { take (4096 * result) buffer.new ≡ unwrap_or (option_copied page.entry) [] }
-    ensures room { length buffer.new ≡ length buffer.old }
-    ensures few { result ≤ 1 }
-{
-    match page {
-        Some(bytes) => {
-            buffer[0..4096].copy_from_slice(bytes);
-            1
-        }
-        None => 0,
-    }
-}
-
 /// Puts zeros to the front of the buffer, where a page stands at a place that is counted from 1; answers how many came.
 fn put_zeros(buffer: &mut [u8], place: u64) -> u32
     requires room { 4096 ≤ length buffer.old }
@@ -78,7 +43,7 @@ fn put_zeros(buffer: &mut [u8], place: u64) -> u32
     if place == 0 {
         return 0;
     }
-    put_held(buffer, Some(&[0; 4096]))
+    put_page(buffer, Some(&[0; 4096]))
 }
 
 /// Reads the page that stands at a place, which is counted from 1, to the front of the buffer; answers how many came.
@@ -129,9 +94,32 @@ impl<P: PageFile> PagesByNumber<'_, P> {
             return pages_at(cell.pfn);
         }
         match cell.kind.table_level() {
-            Some(_) => pages_held(self.outline.page(pfn)),
+            Some(_) => pages_with(self.outline.page(pfn)),
             None => pages_at(cell.pfn),
         }
+    }
+
+    /// How many of the frames from this number on are neither marked nor tables, at most so many.
+    fn count_plain(&self, place: u64, most: u32) -> u32
+        ensures most { result ≤ most }
+        ensures plain { AreInFile self.now.marks.now.values self.now.outline.now.frames self.now.places.now place result }
+    {
+        let mut count = 0;
+        let mut from = place;
+        while count < most {
+            let Some((pfn, cell)) = self.places.next(from) else {
+                return count;
+            };
+            if self.marks.get(pfn).is_some() {
+                return count;
+            }
+            if cell.kind.table_level().is_some() {
+                return count;
+            }
+            count += 1;
+            from = pfn + 1;
+        }
+        count
     }
 
     /// Puts the page of a frame, of which its cell says this, to the front of the buffer; answers how many came.
@@ -146,7 +134,7 @@ impl<P: PageFile> PagesByNumber<'_, P> {
             return Ok(put_zeros(buffer, cell.pfn));
         }
         match cell.kind.table_level() {
-            Some(_) => Ok(put_held(buffer, self.outline.page(pfn))),
+            Some(_) => Ok(put_page(buffer, self.outline.page(pfn))),
             None => put_placed(self.file, buffer, cell.pfn),
         }
     }
@@ -189,8 +177,15 @@ impl<P: PageFile> FrameSequence for PagesByNumber<'_, P> {
         &self,
         buffer: &mut [u8],
         place: u64,
-        _most: u32,
+        most: u32,
     ) -> Result<(u64, u32, u32), Failed> {
+        let plain = self.count_plain(place, most);
+        if plain > 1 {
+            return match PlacedFrames::new(self.places, self.file).pages_from(buffer, place, plain) {
+                Ok(read) => Ok(read),
+                Err(failed) => Err(failed),
+            };
+        }
         let Some((pfn, cell)) = self.places.next(place) else {
             return Ok((place, 0, 0));
         };

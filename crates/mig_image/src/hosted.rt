@@ -11,14 +11,11 @@ ghost use Rattle.mig_image.specs.PagesHeld.{AreFrames, HoldsPages};
 ghost use Rattle.mig_image.specs.declared.version.GuestImageVersion.TheVariants.{Two};
 ghost use Rattle.mig_records_pages.specs.Copied.{Copies, CopyHasCause};
 
-use crate::write::{head_bytes, no_bytes, put_frame, write_behind};
+use crate::write::{GATHERED, head_bytes, no_bytes, put_frame, write_behind};
 use mig_bytes::{Sink, put_all};
 use mig_guest::Guest;
 use mig_headers::Kind;
 use mig_records_pages::{CopyFailed, FrameSequence, page_buffer};
-
-/// The most frames of one write, of which the pages fit into their buffer.
-const GATHERED: u64 = 4;
 
 /// One more than the greatest of the frame numbers; 0 where there is no frame.
 fn width_for<F: FrameSequence>(frames: &F) -> u64
@@ -62,7 +59,7 @@ fn fill_hosted<F: FrameSequence>(
 ) -> usize
     requires space { 4112 * count ≤ length buffer.old }
     requires room { 4096 * count ≤ length pages.now }
-    requires most { count ≤ 4 }
+    requires most { count ≤ 32 }
     requires has { count ≤ length (F.frames_from frames.now start) }
     ensures bytes { HoldsPages pages.now (take count (F.frames_from frames.now start)) → machine + count ≤ 2 ^ 64
         → take result buffer.new ≡ flat_map (frame_text Two) (take count (with_machines_from machine (F.frames_from frames.now start))) }

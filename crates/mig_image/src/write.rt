@@ -81,11 +81,11 @@ fn part_head(key: PartKey, len: u32) -> [u8; 16]
 }
 
 /// The most frames of one write.
-const GATHERED: u64 = 4;
+pub(crate) const GATHERED: u64 = 32;
 
 /// Room for the frames of one write, with their pages.
-pub(crate) fn no_bytes() -> [u8; 16448] {
-    [0; 16448]
+pub(crate) fn no_bytes() -> [u8; 131584] {
+    [0; 131584]
 }
 
 /// Puts these bytes at a place of the buffer. All others stay.
@@ -126,7 +126,7 @@ pub(crate) fn put_frame(
 /// they take.
 fn fill_frames(buffer: &mut [u8], host: &Host, start: u64, count: u64) -> (u64, usize)
     requires space { 4112 * count ≤ length buffer.old }
-    requires most { count ≤ 4 }
+    requires most { count ≤ 32 }
     requires has { count ≤ length (entries_from start (maps.entries host.now.host.frames)) }
     ensures bytes { take result.1 buffer.new ≡ flat_map (frame_text Two) (take count (entries_from start (maps.entries host.now.host.frames))) }
     ensures next { entries_from result.0 (maps.entries host.now.host.frames) ≡ drop count (entries_from start (maps.entries host.now.host.frames)) }
@@ -147,7 +147,7 @@ fn fill_frames(buffer: &mut [u8], host: &Host, start: u64, count: u64) -> (u64, 
     (from, used)
 }
 
-/// Appends all frames, four at a time.
+/// Appends all frames, some at a time.
 fn write_frames<K: Sink>(sink: &mut K, host: &Host) -> Result<(), WriteFailed>
     ensures bytes { Puts (flat_map (frame_text Two) (maps.entries host.now.host.frames)) (K.written sink.old) (K.written sink.new) result }
     ensures cause { FaultHasCause (K.faults sink.old) (K.faults sink.new) result }

@@ -104,7 +104,7 @@ spelled_kept _ _ all (one_more bytes records r text before f) =
     is_kept records (spelled_kept bytes records (bytes_front bytes text all) before) r text f.is f.fits f.one_image (bytes_back bytes text all)
 
 -- a PV guest has no emulators where the stream ends
-alone : (bytes : List ℕ) (records : List LibxlRecord) (image : ImageOf) → Spells FollowsLibxl bytes records → is_libxl_ended records ≡ true → image_among records ≡ Some image → image.opening.kind ≡ Pv → has_emulator records ≡ false
+pub alone : (bytes : List ℕ) (records : List LibxlRecord) (image : ImageOf) → Spells FollowsLibxl bytes records → is_libxl_ended records ≡ true → image_among records ≡ Some image → image.opening.kind ≡ Pv → has_emulator records ≡ false
 alone _ _ image no_part ended there pv = let no : false ≡ true = ended in cc
 alone _ _ image (one_more bytes records r text before f) ended there pv =
     let zero : r.type ≡ 0 = eqb-true r.type 0 (sym (ended_more records r f.not_ended) ∙ ended) in

@@ -6,6 +6,7 @@ pub mod Begun
 pub mod Common
 pub mod Among
 pub mod AcceptedWhole
+pub mod Alone
 pub mod Bodies
 pub mod Forms
 pub mod Laws

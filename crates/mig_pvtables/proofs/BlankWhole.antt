@@ -1,74 +1,16 @@
 -- The blank form of a whole guest is whole.
-use Rattle.mig_pvtables.proofs.Common.{◌≡◌, ℕ, ◌%◌, ◌^◌, ◌<◌, ◌≤◌, Bool, true, false, cond, List, length, Option, Some, None, IsSome, refl, sym, ap, subst, ◌∙◌, arith, ◌==◌, nat_le, length-replicate, option_map, nat_cmp_total, nat_cmp-IsAntisymmetric, eqb-true, eq-eqb, Pv, Hvm, level_of, PartKey, Frame, IsFormed, IsGuestFrame, IsPart, width_of, gdt_ents, FrameOf, FrameMap, GuestOf, p2m_key, vcpu_key, shared_key, EachEntry, IsWithin, blanked_table, length_longs, part_total, part_exact, blanked_page, blanked_frame, blanked_part, blank_of, blank, place_of, type_at, fits_field, field_value, frame_of_field, is_used, blanked_context, blanked_shared, IsWhole, pfn_limit, Kind, PartCode, VcpuBasic, SharedInfo, IsContent, IsFrame, row_of, code_number, of_part, AreP2mFrames, FieldsFit, IsCompletePv, most_gdt_entries, most_policy_entries, HasNoEmulators, changed_part}
-use Rattle.mig_pvtables.specs.Blank.{zero_page}
+use Rattle.mig_pvtables.proofs.Common.{◌≡◌, ℕ, ◌^◌, ◌<◌, ◌≤◌, true, false, cond, List, Some, None, IsSome, refl, sym, ap, subst, ◌∙◌, arith, nat_le, option_map, nat_cmp_total, nat_cmp-IsAntisymmetric, Pv, Hvm, PartKey, Frame, IsFormed, width_of, gdt_ents, FrameOf, FrameMap, GuestOf, p2m_key, vcpu_key, shared_key, EachEntry, part_total, part_exact, blanked_frame, blanked_part, blank_of, blank, place_of, type_at, fits_field, field_value, frame_of_field, is_used, blanked_context, IsWhole, pfn_limit, Kind, VcpuBasic, of_part, AreP2mFrames, FieldsFit, IsCompletePv, most_gdt_entries, HasNoEmulators}
+use Rattle.mig_pvtables.proofs.BlankFormed.{blank_formed}
 use Rattle.mig_pvtables.proofs.BlankSays.{same_used, same_said, said_fits, blanked_ents, blanked_field}
 use Rattle.mig_pvtables.proofs.BlankShape.{table_unlisted, entries_there, type_there, frame_there, part_there, listed_there, context_back}
-use Rattle.mig_pvtables.proofs.EachValue.{from_each, len_each, count_each}
+use Rattle.mig_pvtables.proofs.EachValue.{from_each, len_each}
 use Rattle.mig_pvtables.proofs.PvGuests.{pv_complete, pv_faultless}
-use Rattle.mig_pvtables.proofs.SameShape.{repaged_is_frame, kept_p2m}
+use Rattle.mig_pvtables.proofs.SameShape.{kept_p2m}
 use Rattle.std.specs.FinMap as maps
 
--- ---- frames
-
-zero_size : length zero_page ≡ 4096
-unfolding zero_page
-zero_size = length-replicate {A = ℕ} 4096 0
-
-blanked_is_frame : (place level : Option ℕ) (x : FrameOf) → IsFrame x → IsFrame (record { type = x.type; page = blanked_page place level x.page })
-blanked_is_frame (Some k) level x is = repaged_is_frame x (λ _. zero_page) (λ _. zero_size) is
-blanked_is_frame None (Some level) x is = repaged_is_frame x (blanked_table level) (λ _. length_longs 512 _) is
-blanked_is_frame None None x is = is
+-- ---- its P2M frames
 
 module _ (g : GuestOf) where
-  blanked_is_guest_frame : AreP2mFrames g.frames g.parts → (pfn : ℕ) (x : FrameOf) → maps.get g.frames pfn ≡ Some x → IsGuestFrame g.kind g.top pfn x → IsGuestFrame g.kind g.top pfn (blanked_frame g.parts pfn x)
-  blanked_is_guest_frame p2m pfn x found is = record {
-    small = is.small;
-    inside = is.inside;
-    is = blanked_is_frame (place_of g.parts pfn) (level_of x.type) x is.is;
-    type = is.type;
-    entries = entries_there (place_of g.parts pfn) x (table_unlisted g.frames g.parts p2m pfn x found) (IsWithin g.top) is.entries;
-  }
-
--- ---- parts
-
-module _ (kind : Kind) (width : ℕ) (key : PartKey) (part : List ℕ) (is : IsPart kind width key part) where
-  -- a part whose bytes are what they have to be
-  resized : (code : PartCode) (changed : List ℕ) → key.code ≡ code_number code → (row_of code).allows width (length changed) ≡ true → IsContent code changed → IsPart kind width key changed
-  resized code changed number len content = changed_part width code changed number len is content
-
-  -- no more descriptors than before
-  few_ents : (n : ℕ) → gdt_ents part ≤ most_gdt_entries → n ≡ gdt_ents part % 2 ^ 64 → n ≤ most_gdt_entries
-  few_ents n few e = omega (arith, few, e)
-
-  -- by whether it is a context, and whether it is the shared page
-  blanked_case : (a b : Bool) → (key.code == 4) ≡ a → (key.code == 7) ≡ b → IsPart kind width key (cond a (blanked_context part) (cond b (blanked_shared part) part))
-  blanked_case true b four seven =
-      let code = eqb-true key.code 4 four in let one = of_part VcpuBasic kind width (key, part) is code in
-      resized VcpuBasic (blanked_context part) code (eq-eqb (length (blanked_context part)) 5168 (length_longs 646 _)) (few_ents (gdt_ents (blanked_context part)) one.content (blanked_ents part))
-  blanked_case false true four seven =
-      resized SharedInfo (blanked_shared part) (eqb-true key.code 7 seven) (eq-eqb (length (blanked_shared part)) 4096 (length_longs 512 _)) tt
-  blanked_case false false four seven = is
-
-  blanked_is_part : IsPart kind width key (blanked_part key part)
-  blanked_is_part = blanked_case (key.code == 4) (key.code == 7) refl refl
-
--- ---- the blank form of a PV guest is formed
-
-module _ (g : GuestOf) where
-  blank_formed : IsFormed g → AreP2mFrames g.frames g.parts → IsFormed (blank_of Pv g)
-  blank_formed formed p2m = record {
-    top = formed.top;
-    frames = λ pfn y is.
-        let (x, found, same) = from_each nat_cmp_total nat_cmp-IsAntisymmetric (blanked_frame g.parts) g.frames pfn y is in
-        subst (IsGuestFrame g.kind g.top pfn) same (blanked_is_guest_frame g p2m pfn x found (formed.frames pfn x found));
-    parts = λ key part is.
-        let (x, found, same) = from_each part_total part_exact blanked_part g.parts key part is in
-        subst (IsPart g.kind (width_of g) key) same (blanked_is_part g.kind (width_of g) key x (formed.parts key x found));
-    policies = λ code policy. subst (λ n. n ≤ most_policy_entries) (sym (count_each part_total part_exact blanked_part (λ (k : PartKey). k.code == code) g.parts)) (formed.policies code policy);
-  }
-
-  -- ---- and complete
-
   still_p2m : AreP2mFrames g.frames g.parts → AreP2mFrames (blank_of Pv g).frames (blank_of Pv g).parts
   still_p2m = kept_p2m g.frames (blank_of Pv g).frames g.parts (blank_of Pv g).parts (type_there g) (listed_there g)
 
@@ -152,7 +94,7 @@ module _ (g : GuestOf) where
   whole_case Hvm kind whole = whole
   whole_case Pv kind whole =
       let complete = pv_complete g kind whole.faultless in
-      record { formed = blank_formed g whole.formed complete.p2m; faultless = pv_faultless (blank_of Pv g) kind (blank_complete g whole.formed complete) }
+      record { formed = blank_formed g whole.formed; faultless = pv_faultless (blank_of Pv g) kind (blank_complete g whole.formed complete) }
 
   pub whole_blank : IsWhole g → IsWhole (blank g)
   whole_blank whole = whole_case g.kind refl whole

@@ -18,6 +18,7 @@ pub mod Moduli
 pub mod BlankAgain
 pub mod BlankSays
 pub mod BlankShape
+pub mod BlankFormed
 pub mod BlankWhole
 pub mod BlankBytesKept
 pub mod BlankBack

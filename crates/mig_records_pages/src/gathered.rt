@@ -7,11 +7,11 @@ pub(crate) fn no_words() -> [u8; 8192] {
     [0; 8192]
 }
 
-/// Room for the pages of one write, where they are gathered from memory.
-pub fn page_buffer() -> [u8; 16384]
+/// Room for the pages of one write or read: 32 of them.
+pub fn page_buffer() -> [u8; 131072]
     ensures { IsPageBuffer result }
 {
-    [0; 16384]
+    [0; 131072]
 }
 
 /// How many pages a page is.
@@ -23,7 +23,7 @@ fn one_page(page: &[u8; 4096]) -> u32
 }
 
 /// How many pages come with a frame: 1 or 0.
-pub(crate) fn pages_with(page: Option<&[u8; 4096]>) -> u32
+pub fn pages_with(page: Option<&[u8; 4096]>) -> u32
     ensures len { length (unwrap_or (option_copied page.entry) []) ≡ 4096 * result }
     ensures most { result ≤ 1 }
 {
@@ -34,7 +34,7 @@ pub(crate) fn pages_with(page: Option<&[u8; 4096]>) -> u32
 }
 
 /// Puts the page, if there is one, to the front of the buffer; answers how many came: 1 or 0.
-pub(crate) fn put_page(buffer: &mut [u8], page: Option<&[u8; 4096]>) -> u32
+pub fn put_page(buffer: &mut [u8], page: Option<&[u8; 4096]>) -> u32
     requires room { 4096 ≤ length buffer.old }
     ensures bytes { take (4096 * result) buffer.new ≡ unwrap_or (option_copied page.entry) [] }
     ensures room { length buffer.new ≡ length buffer.old }

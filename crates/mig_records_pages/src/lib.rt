@@ -24,7 +24,7 @@ mod stream;
 
 pub use batch::Batch;
 pub use copy_failed::CopyFailed;
-pub use gathered::page_buffer;
+pub use gathered::{page_buffer, pages_with, put_page};
 pub use held_frame::HeldFrame;
 pub use law::{records_stand_behind_records, sent_entries_are_little_behind};
 pub use pages::{MOST_ENTRIES, write_batch, write_page_data};

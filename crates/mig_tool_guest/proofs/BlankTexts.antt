@@ -7,7 +7,7 @@ use Rattle.mig_headers.specs.declared.kind.Kind.TheVariants.{Pv}
 use Rattle.mig_libxl_form.proofs.EmulatorGuests.{none_set}
 use Rattle.mig_libxl_form.specs.Emulators.{no_emulators, with_emulators}
 use Rattle.mig_pvtables.specs.Blank.{blank}
-use Rattle.mig_tool_guest.proofs.Alone.{pv_alone}
+use Rattle.mig_libxl_form.proofs.Alone.{pv_alone}
 use Rattle.mig_tool_guest.proofs.Placed.{FindsAll, Found}
 use Rattle.mig_tool_report.specs.declared.outcome.Outcome.TheVariants as outcomes
 use Rattle.std.specs.FinMap as maps

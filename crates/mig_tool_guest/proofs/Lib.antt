@@ -11,5 +11,4 @@ pub mod Showing
 pub mod Tallied
 pub mod Placed
 pub mod PlacedImages
-pub mod Alone
 pub mod BlankTexts

@@ -1,6 +1,6 @@
 use Rattle.mig_pvtables.proofs.Common.{IsFormed, subst, sym}
 use Rattle.mig_pvtables.proofs.BlankGuests.{all_blanked, page_on_way}
-use Rattle.mig_blanked.proofs.Formed.{blank_is_formed}
+use Rattle.mig_pvtables.proofs.BlankFormed.{blank_is_formed}
 use Rattle.mig_blanked.proofs.blanking.blank_formed.Goals as goal
 
 pub blank_shared_info-requires : goal.blank_shared_info-requires

@@ -8,4 +8,4 @@ returns-then-place-eq0-clause-bytes c = λ file. zeros_none file c.args.place c.
 
 pub returns-clause-bytes : goal.returns-clause-bytes
 unfolding zero_page
-returns-clause-bytes c = λ file. c.put_held.ensures.bytes ∙ sym (zeros_for file c.args.place (omega (arith, c.if-place-eq0.false)))
+returns-clause-bytes c = λ file. c.put_page.ensures.bytes ∙ sym (zeros_for file c.args.place (omega (arith, c.if-place-eq0.false)))

@@ -7,8 +7,8 @@ invariant-loop-done g l = record {
   bytes : g.F.FrameSequence.told l.frames ≡ true → AreFrames (g.F.FrameSequence.frames_from l.frames 0) → l.base + length (g.F.FrameSequence.frames_from l.frames 0) ≤ 2 ^ 64
       → Appends (g.K.Sink.written l.fn.sink) (g.K.Sink.written l.sink) (flat_map (frame_text Two) (take l.done (with_machines_from l.base (g.F.FrameSequence.frames_from l.frames 0))));
   within : l.done ≤ l.total;
-  pages : length l.pages ≡ 16384;
-  room : length l.buffer ≡ 16448;
+  pages : length l.pages ≡ 131072;
+  room : length l.buffer ≡ 131584;
   quiet : g.K.Sink.faults l.sink ≡ g.K.Sink.faults l.fn.sink;
 }
 

@@ -7,7 +7,7 @@ invariant-loop-done g l = record {
   at : entries_from l.from (maps.entries l.host.host.frames) ≡ drop l.done (maps.entries l.host.host.frames);
   bytes : Appends (g.K.Sink.written l.fn.sink) (g.K.Sink.written l.sink) (flat_map (frame_text Two) (take l.done (maps.entries l.host.host.frames)));
   within : l.done ≤ l.total;
-  room : length l.buffer ≡ 16448;
+  room : length l.buffer ≡ 131584;
   quiet : g.K.Sink.faults l.sink ≡ g.K.Sink.faults l.fn.sink;
 }
 

@@ -81,9 +81,8 @@ module _ (kind : Kind) (width : ℕ) (key : PartKey) (part : List ℕ) (is : IsP
 -- ---- the guest
 
 module _ (g : GuestOf) (formed : IsFormed g) where
-  by_kind : (kind : Kind) → IsFormed (blank_of kind g)
-  by_kind Hvm = formed
-  by_kind Pv = record {
+  pub blank_formed : IsFormed (blank_of Pv g)
+  blank_formed = record {
     top = formed.top;
     frames = λ pfn y is.
         let (x, found, same) = from_each nat_cmp_total nat_cmp-IsAntisymmetric (blanked_frame g.parts) g.frames pfn y is in
@@ -93,6 +92,10 @@ module _ (g : GuestOf) (formed : IsFormed g) where
         subst (IsPart g.kind (width_of g) key) same (blanked_is_part g.kind (width_of g) key x (formed.parts key x found));
     policies = λ code policy. subst (λ n. n ≤ most_policy_entries) (sym (count_each part_total part_exact blanked_part (λ (k : PartKey). k.code == code) g.parts)) (formed.policies code policy);
   }
+
+  by_kind : (kind : Kind) → IsFormed (blank_of kind g)
+  by_kind Hvm = formed
+  by_kind Pv = blank_formed
 
   pub blank_is_formed : IsFormed (blank g)
   blank_is_formed = by_kind g.kind

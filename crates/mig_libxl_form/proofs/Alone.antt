@@ -1,7 +1,8 @@
 -- The stream of a PV guest has no emulators.
-use Rattle.mig_tool_guest.proofs.Common.{emulators_in}
-use Rattle.mig_libxl_form.proofs.Common.{◌≡◌, ℕ, true, false, List, [], ◌∷◌, nat_eq, Some, refl, sym, ap, ◌∙◌, ◌||◌, eqb-true, or_parts, same_Some, Spells, no_part, one_more, Pv, ImageOf, LibxlRecord, LibxlContent, EmulatorsOf, no_emulators, put_libxl_content, has_emulator, image_among, is_libxl_ended, FollowsLibxl, HasLibxlContent, IsLibxlRecord, IsStream, optional, ends, pairs, context, StreamOf, image_of_stream, Bare, Wrapped}
-use Rattle.mig_libxl_form.proofs.Among.{among_more, emulator_more, emulators_more, ended_more}
+use Rattle.mig_libxl_form.proofs.Common.{◌≡◌, ℕ, true, false, List, nat_eq, Some, refl, sym, ◌∙◌, ◌||◌, or_parts, Spells, no_part, one_more, Pv, ImageOf, LibxlRecord, LibxlContent, EmulatorsOf, no_emulators, put_libxl_content, has_emulator, FollowsLibxl, HasLibxlContent, IsLibxlRecord, IsStream, optional, ends, pairs, context, StreamOf, image_of_stream, Bare, Wrapped}
+use Rattle.mig_libxl_form.specs.Stream.{emulators_in}
+use Rattle.mig_libxl_form.proofs.AcceptedWhole.{alone}
+use Rattle.mig_libxl_form.proofs.Among.{emulator_more, emulators_more}
 use Rattle.mig_libxl_form.specs.Spelled.IsLibxlRecord.{image as an_image, body as a_body}
 use Rattle.mig_libxl_form.specs.Emulators.{emulators_of}
 
@@ -23,17 +24,6 @@ none_of _ _ (one_more bytes records r text before f) none =
     let both = or_parts (has_emulator records) (nat_eq r.type 2 || nat_eq r.type 3) (sym (emulator_more records r) ∙ none) in
     emulators_more records r ∙ other_record (emulators_of records) r text f.is both.1 ∙ none_of bytes records before both.0
 
--- what END asks
-none_at_end : (bytes : List ℕ) (records : List LibxlRecord) (image : ImageOf) → Spells FollowsLibxl bytes records → is_libxl_ended records ≡ true → image_among records ≡ Some image → image.opening.kind ≡ Pv → has_emulator records ≡ false
-none_at_end _ _ image no_part ended there pv = let no : false ≡ true = ended in cc
-none_at_end _ _ image (one_more bytes records r text before f) ended there pv =
-    let zero : r.type ≡ 0 = eqb-true r.type 0 (sym (ended_more records r f.not_ended) ∙ ended) in
-    let c = f.complete zero in
-    let same : c.image ≡ image = same_Some c.image image (sym (among_more records (r ∷ []) c.image c.there) ∙ there) in
-    emulator_more records r
-    ∙ ap (λ b. b || (nat_eq r.type 2 || nat_eq r.type 3)) (c.emulators (ap (λ (i : ImageOf). i.opening.kind) same ∙ pv))
-    ∙ ap (λ n. nat_eq n 2 || nat_eq n 3) zero
-
 pub pv_alone : (input : List ℕ) (s : StreamOf) (rest : List ℕ) (image : ImageOf) → IsStream input s rest → image_of_stream s ≡ Some image → image.opening.kind ≡ Pv → emulators_in s ≡ no_emulators
 pv_alone input (Bare other) rest image is there pv = refl
-pv_alone input (Wrapped records) rest image is there pv = none_of is.bytes records is.spelled (none_at_end is.bytes records image is.spelled is.ended there pv)
+pv_alone input (Wrapped records) rest image is there pv = none_of is.bytes records is.spelled (alone is.bytes records image is.spelled is.ended there pv)
