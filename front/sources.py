@@ -368,6 +368,12 @@ class Piped:
             os.close(self.fd)
 
 
+def unpack_to(source: 'Any', folder: 'Optional[str]') -> None:
+    """Unpacks a source that is packed whole into a file of a folder, where one is named."""
+    if source.packed and folder is not None:
+        source.unpack_into(folder)
+
+
 def unpacked(fd: int, status: os.stat_result, kind: 'Type[Plain]') -> 'Union[Plain, Packed]':
     """The source of a regular file, of this kind where it isn't packed."""
     plain = kind(fd, status)

@@ -7,7 +7,7 @@ import sys
 from front import errors, forms, places, program, sources, verdict
 from front.progress import LINE
 from front.text import put_lines, tell
-from front.words import INPUT, in_json, verb
+from front.words import INPUT, in_json, unpacks, verb
 
 TYPE_CHECKING = False                                # a checker of types takes it for true; typing itself is slow to load
 if TYPE_CHECKING:
@@ -25,13 +25,14 @@ LIBXL_RECORDS = {0: 'END', places.LIBXC_CONTEXT: 'LIBXC_CONTEXT', 2: 'EMULATOR_X
 class Side:
     """One of the two saves: the program at work on it, and what it has written so far."""
 
-    def __init__(self, name: str, path: str) -> None:
+    def __init__(self, name: str, path: str, folder: 'Optional[str]') -> None:
         self.name, self.place = name, 0
         self.work = None  # type: Any              # the program, where it takes this form
         self.source = sources.source_of(name)
         self.form = forms.form_of(self.source)
         self.found = verdict.without_program(name, self.form)
         if not self.found:
+            sources.unpack_to(self.source, folder)
             self.command = 'convert' if self.form.kind == forms.LEGACY else 'normalise'
             self.work = program.Work(path, [self.command], self.source, self.form.begins, program.PIPE)
 
@@ -169,7 +170,7 @@ def compare(words: 'Any') -> int:
     LINE.files = 1                                   # both are read at once
     try:
         for name in words.one, words.two:
-            sides.append(Side(name, path))
+            sides.append(Side(name, path, words.unpack_to))
     except errors.Unreadable as unreadable:
         tell_ends(sides, words.json)
         tell_refused(verdict.fault(name, str(unreadable)), words.json)
@@ -193,4 +194,5 @@ def offer(verbs: 'Any') -> None:
                   errors.NOT_COMPARED: 'a file was refused, so nothing was compared'})
     words.add_argument('one', metavar='A')
     words.add_argument('two', metavar='B')
+    unpacks(words)
     in_json(words, 'print one JSON object, or one for each save that was refused')

@@ -9,7 +9,7 @@ from front import errors, files, forms, many, program, sources, text, verdict
 from front.sharing import Memory
 from front.text import put_lines, shown
 from front.write import put
-from front.words import CHOICE, at_once, in_json, takes_files, verb
+from front.words import CHOICE, at_once, in_json, takes_files, unpacks, verb
 
 TYPE_CHECKING = False                                # a checker of types takes it for true; typing itself is slow to load
 if TYPE_CHECKING:
@@ -28,18 +28,20 @@ ESCAPED = {b'\\': b'\\\\', b'\n': b'\\n', b'\r': b'\\r'}  # as sha256sum does, w
 UNESCAPED = {escaped: letter for letter, escaped in ESCAPED.items()}
 
 
-def judge_of(path: str, at_once: int) -> 'Callable[[str], verdict.Verdict]':
-    """A function that answers of a file what the program at a path says of it; so many run at once."""
-    memory = Memory(at_once)
-    return lambda name: memory.given(name, lambda: verdict.of_file(name, lambda name, source: judged(name, path, source)), name != '-')
+def judge_of(path: str, words: 'Any') -> 'Callable[[str], verdict.Verdict]':
+    """A function that answers of a file what the program at a path says of it; as many run at once as the words say."""
+    memory = Memory(words.jobs)
+    return lambda name: memory.given(name, lambda: verdict.of_file(name, lambda name, source: judged(name, path, source, words.unpack_to)), name != '-')
 
 
-def judged(name: str, path: str, source: 'Any') -> verdict.Verdict:
-    """What `normalise`, or for an old save `convert`, says of a source, and the digest of what it writes."""
+def judged(name: str, path: str, source: 'Any', folder: 'Optional[str]') -> verdict.Verdict:
+    """What `normalise`, or for an old save `convert`, says of a source, and the digest of what it writes. What is packed is unpacked into
+    a folder, where one is named."""
     form = forms.form_of(source)
     early = verdict.without_program(name, form)
     if early:
         return early
+    sources.unpack_to(source, folder)
     command = 'convert' if form.kind == forms.LEGACY else 'normalise'
     made = hashlib.sha256()
     with program.Work(path, [command], source, form.begins, program.PIPE) as work:
@@ -68,7 +70,7 @@ def listed(line: bytes) -> 'Optional[Tuple[str, str]]':
 def written(words: 'Any') -> int:
     """Writes the digest of each file; the status."""
     names, statuses = files.chosen(words), set()  # type: Iterator[str], Set[int]
-    for found in many.verdicts(names, words.jobs, judge_of(program.find(), words.jobs), 'reading'):
+    for found in many.verdicts(names, words.jobs, judge_of(program.find(), words), 'reading'):
         tell(words, found)
         statuses.add(found.status)
     return many.status_of(statuses)
@@ -99,7 +101,7 @@ def compared(words: 'Any', name: str, path: str) -> int:
     if not lines:
         text.tell('%s: it has no line' % shown(name))
     names = (sources.Found(file) for file, _ in wanted)
-    for found, (_, digest) in zip(many.verdicts(names, words.jobs, judge_of(path, words.jobs)), wanted):
+    for found, (_, digest) in zip(many.verdicts(names, words.jobs, judge_of(path, words)), wanted):
         tell_compared(words, found, digest)
         statuses.add(found.status or errors.REFUSED * (found.digest != digest))
     return many.status_of(statuses)
@@ -135,6 +137,7 @@ def offer(verbs: 'Any') -> None:
     words = verb(verbs, 'digest', "print the digest of each guest's canonical stream, or check a list of them", digest, DIGEST + '\n\n' + CHOICE)
     takes_files(words)
     at_once(words)
+    unpacks(words)
     in_json(words, 'print one JSON object for each file')
     words.add_argument('--check', action='store_true', help='each PATH is a list of digests: say of each digest whether it is that of its file')
     words.add_argument('-q', dest='quiet', action='store_true', help='with --check: print nothing of what is well')

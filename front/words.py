@@ -133,6 +133,12 @@ def writes_over(words: Words) -> None:
     words.add_argument('--force', action='store_true', help='write over OUT where it is there')
 
 
+def unpacks(words: 'Any') -> None:
+    """The word of a verb that may unpack into a folder."""
+    words.add_argument('--unpack-to', metavar='DIR',
+                       help='unpack a packed file whole into DIR first, where no name stands for it, so that no page is kept in memory')
+
+
 def takes_header(words: Words, says: str, then: str = '') -> None:
     """The words of a verb that passes the header of a toolstack on; with a command of each, what that is good for."""
     one_of = words.add_mutually_exclusive_group()

@@ -8,7 +8,7 @@ from front import errors, files, forms, headers, program, sources, text, verdict
 from front.holes import Sparse
 from front.progress import LINE
 from front.text import put_lines, shown, tell
-from front.words import CHOICE, INPUT, INTO, OUT, in_json, takes_files, takes_header, verb, writes_over
+from front.words import CHOICE, INPUT, INTO, OUT, in_json, takes_files, takes_header, unpacks, verb, writes_over
 
 TYPE_CHECKING = False                                # a checker of types takes it for true; typing itself is slow to load
 if TYPE_CHECKING:
@@ -218,8 +218,7 @@ def written(words: 'Any', path: str, name: str, source: 'Any', output: Output) -
         return early
     if words.toolstack:
         configuration(source, form, words.toolstack)
-    if source.packed and words.unpack_to is not None:
-        source.unpack_into(words.unpack_to)
+    sources.unpack_to(source, words.unpack_to)
     said = answer(words, path, command_of(words), source, form, output)
     if said.status == errors.USAGE:
         raise errors.BadWords(errors.USAGE, '--base has to be from 1 to 1099494850560')
@@ -267,8 +266,7 @@ def offer(verbs: 'Any', name: str, says: str, with_toolstacks: bool = True) -> '
     words.add_argument('-t', '--target-directory', dest='directory', metavar='DIR', help='write one result for each PATH in DIR')
     words.add_argument('--skip-existing', action='store_true', help='with -t: pass over what has its result in DIR')
     writes_over(words)
-    words.add_argument('--unpack-to', metavar='DIR',
-                       help='unpack a packed file whole into DIR first, where no name stands for it, so that no page is kept in memory')
+    unpacks(words)
     words.add_argument('--holes', action='store_true', default=True, help='leave out blocks of zeros, which take no room on the disk then (so it is)')
     words.add_argument('--no-holes', dest='holes', action='store_false', help='write all zeros to the disk')
     in_json(words, 'print one JSON object, or with -t one for each file and no count')
