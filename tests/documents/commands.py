@@ -3,9 +3,9 @@ from build.words import COMMANDS
 
 
 def table():
-    lines = ["", "| command | with status 0, standard output gets | and standard error | done by |", "|---|---|---|---|"]
-    for command in COMMANDS:
-        lines.append("| `%s` | %s | %s | %s |" % command)
+    lines = ["", "| command | done by |", "|---|---|"]
+    for command, _, _, done_by in COMMANDS:
+        lines.append(f"| `{command}` | {done_by} |")
     return "\n".join([*lines, "", ""])
 
 

@@ -6,7 +6,8 @@ import textwrap
 
 TOP = pathlib.Path(__file__).resolve().parents[2]
 PICTURE_WIDTH = 120
-PASSED_ON = re.compile(r"^pub use (mig_\w+)::(?:(\w+)|\{([^}]*)\});", re.M)
+ASIDE = re.compile(r" \([^()]*\)")
+LEAST_WORDS = 6  # of a duty that ends before its first colon
 
 
 def rooms_below():
@@ -25,31 +26,20 @@ def source_of(room):
 
 
 def duty_of(room):
-    """The first paragraph of what a crate says of itself."""
+    """The first paragraph of what a crate says of itself, without what stands in brackets, nor behind a colon that follows words
+    enough."""
     lines = []
     for line in source_of(room).splitlines():
         if not line.startswith("//! "):
             break
         lines.append(line[len("//! "):])
-    return " ".join(lines).rstrip(".")
-
-
-def passed_on_by(room):
-    """What a crate passes on of others: `name, name` (crate)."""
-    found = []
-    for crate, one, several in PASSED_ON.findall(source_of(room)):
-        names = [one] if one else sorted(it.strip() for it in several.split(",") if it.strip())
-        found.append(", ".join(f"`{it}`" for it in names) + f" ({crate})")
-    return "; ".join(found)
+    duty = ASIDE.sub("", " ".join(lines).rstrip("."))
+    front = duty.partition(": ")[0]
+    return front if len(front.split()) >= LEAST_WORDS else duty
 
 
 def all_below(room, below):
     return set(below[room]).union(*(all_below(it, below) for it in below[room]))
-
-
-def nearest(room, below):
-    """On which rooms a room stands, without those that it reaches by another of them."""
-    return [it for it in sorted(below[room]) if not any(it in all_below(other, below) for other in below[room])]
 
 
 def height_of(room, below):
@@ -69,7 +59,7 @@ def picture(below):
 
 def made(_):
     below = rooms_below()
-    lines = ["", *picture(below), "", "| room | stands on | answers for | passes on |", "|---|---|---|---|"]
+    lines = ["", *picture(below), "", "| room | answers for |", "|---|---|"]
     for room in sorted(below, key=lambda it: (height_of(it, below), it)):
-        lines.append(f"| {room} | {', '.join(nearest(room, below))} | {duty_of(room)} | {passed_on_by(room)} |")
+        lines.append(f"| {room} | {duty_of(room)} |")
     return "\n".join([*lines, "", ""])
