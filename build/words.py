@@ -1,5 +1,5 @@
-"""The commands of the programs: their words, for where there is no program to ask yet, and what each writes, which docs/design.md has
-from here (tests/documents/commands.py). The usage line and the tests' lines are made of them too."""
+"""The commands of the programs: their words, for where there is no program to ask yet, what each writes, and which functions do it,
+which docs/design.md has from here (tests/documents/commands.py). The usage line and the tests' lines are made of them too."""
 import re
 from collections import namedtuple
 
