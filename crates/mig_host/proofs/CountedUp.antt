@@ -1,7 +1,8 @@
--- The frames of the host that an HVM guest becomes: their machine frames are counted up in the order of the frames.
-use Rattle.mig_host.proofs.Common.{◌≡◌, ℕ, ◌+◌, ◌<◌, List, [], ◌∷◌, ◌++◌, T, length, map, refl, sym, ap, ◌∙◌, arith, append_assoc, AllByRecursion, is_lt, nat_cmp, is_sorted, entries_sorted, below_all, both_of, subst, FrameOf, GuestOf, Hvm, with_machine, with_machines, with_machines_from, hosted, hosted_width, least_width, localised_of, mfn_in, rank_in}
+-- The frames of the host that a guest becomes: their machine frames are counted up in the order of the frames.
+use Rattle.mig_host.proofs.Common.{◌≡◌, ℕ, ◌+◌, ◌<◌, List, [], ◌∷◌, ◌++◌, T, length, map, refl, sym, ap, ◌∙◌, arith, append_assoc, AllByRecursion, is_lt, nat_cmp, is_sorted, entries_sorted, below_all, both_of, subst, FrameOf, FrameMap, GuestOf, Kind, Hvm, Pv, with_machine, with_machines, with_machines_from, hosted, hosted_width, least_width, localised, localised_frame, localised_of, mfn_in, nat_cmp_total, nat_cmp-IsAntisymmetric, nat_lt, rank_in}
 use Rattle.std.proofs.Common.{drop, length-append, suc, zero}
 use Rattle.std.specs.FinMap as maps
+use Rattle.mig_pvtables.proofs.EachValue.{count_each}
 use Rattle.mig_host.proofs.HostMaps.{entries_with_machines}
 use Rattle.mig_host.proofs.InOrder.{nat_rises}
 use Rattle.mig_host.proofs.Ranks.{below, below_next, counts}
@@ -43,15 +44,33 @@ ranked base all front (e ∷ es) is sorted =
     let others = ranked base all (front ++ e ∷ []) es (is ∙ sym joined) (subst (λ (l : List (ℕ × FrameOf)). T (is_sorted nat_cmp l)) (sym joined) sorted) ∙ ap (λ n. with_machines_from n es) size in
     λ i. (e.0, with_machine e.1 (here i)) ∷ others i
 
+-- ---- the host that a guest becomes
+
+module _ (g : GuestOf) (base : ℕ) where
+  -- the guest as it stands there
+  abbrev there : Kind → FrameMap
+  there k = (localised_of k (mfn_in g.frames base) g).frames
+
+  -- as many of its frames lie below a number
+  as_many : (k : Kind) (p : ℕ) → rank_in g.frames p ≡ rank_in (there k) p
+  as_many Hvm p = refl
+  as_many Pv p = sym (count_each nat_cmp_total nat_cmp-IsAntisymmetric (localised_frame g.parts (mfn_in g.frames base)) (λ q. nat_lt q p) g.frames)
+
+  frames_there : (k : Kind) → maps.entries (with_machines (there k) (λ pfn. base + rank_in g.frames pfn)) ≡ with_machines_from base (maps.entries (there k))
+  frames_there k =
+      entries_with_machines (there k) (λ pfn. base + rank_in g.frames pfn)
+      ∙ (λ i. map (λ (e : ℕ × FrameOf). (e.0, with_machine e.1 (base + as_many k e.0 i))) (maps.entries (there k)))
+      ∙ ranked base (maps.entries (there k)) [] (maps.entries (there k)) refl (entries_sorted (there k))
+      ∙ ap (λ n. with_machines_from n (maps.entries (there k))) (let e : base + length {A = ℕ × FrameOf} [] ≡ base = omega arith in e)
+
+  pub frames_hosted : maps.entries (hosted g base).frames ≡ with_machines_from base (maps.entries (localised (mfn_in g.frames base) g).frames)
+  frames_hosted = frames_there g.kind
+
 -- ---- the host that an HVM guest becomes
 
 module _ (g : GuestOf) (base : ℕ) (hvm : g.kind ≡ Hvm) where
   pub hosted_frames : maps.entries (hosted g base).frames ≡ with_machines_from base (maps.entries g.frames)
-  hosted_frames =
-      ap (λ k. maps.entries (with_machines (localised_of k (mfn_in g.frames base) g).frames (λ pfn. base + rank_in g.frames pfn))) hvm
-      ∙ entries_with_machines g.frames (λ pfn. base + rank_in g.frames pfn)
-      ∙ ranked base (maps.entries g.frames) [] (maps.entries g.frames) refl (entries_sorted g.frames)
-      ∙ ap (λ n. with_machines_from n (maps.entries g.frames)) (let e : base + length {A = ℕ × FrameOf} [] ≡ base = omega arith in e)
+  hosted_frames = frames_hosted g base ∙ ap (λ k. with_machines_from base (maps.entries (localised_of k (mfn_in g.frames base) g).frames)) hvm
 
   pub hosted_parts : (hosted g base).parts ≡ g.parts
   hosted_parts = ap (λ k. (localised_of k (mfn_in g.frames base) g).parts) hvm

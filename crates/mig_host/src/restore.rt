@@ -26,7 +26,7 @@ pub enum HostAnswer {
 }
 
 /// Whether the machine frames of so many frames, counted up from the base, don't lie from 1 to 2^40 - 1.
-fn is_outside(base: u64, frames: u64) -> bool
+pub fn is_outside(base: u64, frames: u64) -> bool
     ensures yes { result ≡ true → (base ≡ 0) ⊎ (machine_limit < base + frames) }
     ensures no { result ≡ false → (0 < base) × (base + frames ≤ machine_limit) }
 {

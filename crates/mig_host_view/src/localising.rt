@@ -1,6 +1,7 @@
 ghost use Rattle.std.specs.Prelude.{◌≡◌, ◌<◌, ◌^◌};
 ghost use Rattle.mig_pvtables.specs.P2mPages.{p2m_page as page_of};
-ghost use Rattle.mig_host_view.specs.Common.{renamed_table, IsWhole};
+ghost use Rattle.mig_guest.specs.Formed.{IsFormed};
+ghost use Rattle.mig_host_view.specs.Common.{renamed_table};
 ghost use Rattle.mig_host_view.specs.Localised.{localised};
 
 use crate::renaming::Renaming;
@@ -35,10 +36,10 @@ impl<F: Frames> P2mStep for Localising<'_, F> {
     }
 }
 
-/// Brings a whole guest to the form in which it stands in a machine: tables and contexts of vCPUs name machine frames, and
-/// each P2M frame holds those of its range. An HVM guest stays. Takes no memory.
+/// Brings a guest to the form in which it stands in a machine: tables and contexts of vCPUs name machine frames, and each P2M
+/// frame that has a page holds those of its range. An HVM guest stays. Takes no memory.
 pub fn localise_guest<F: Frames>(guest: &mut Guest, frames: &F)
-    requires { IsWhole guest.old }
+    requires { IsFormed guest.old }
     ensures { guest.new ≡ localised (F.mfns frames.now) guest.old }
 {
     match guest.kind() {
