@@ -1,4 +1,5 @@
--- The causes of a legacy stream in the words of the format (Xen's xg_save_restore.h), a line for each: where one stands in a part.
+-- The causes of a legacy stream in the words of the format (Xen's xg_save_restore.h): where one stands in a part. Four are not
+-- here: BadPageType and WordHigh, of a batch's words, and BadContext are in Legacy.antt, and Truncated is that a part is cut.
 use Rattle.std.specs.Prelude.{◌≡◌, ◌↔◌, ◌≢◌, ℕ, ◌-◌, ◌^◌, ◌<◌, ◌≤◌, List, length, codes}
 use Rattle.std.specs.FinMap as maps
 use Rattle.mig_refusals.specs.Common.{be64, le32, sent, Hvm, EmulatorsOf, spelled_with, HasIn, LegacyCause, ChunkKind, number_causes}
@@ -8,7 +9,7 @@ use Rattle.mig_legacy.specs.Legacy.{LegacyChunk, has_value, image_records, store
 use Rattle.mig_legacy.specs.LegacyForm.{length_causes, max_causes, pairs_of_toolstack, place_causes, signature_causes, start_causes, toolstack_causes}
 use Rattle.mig_refusals.specs.LegacyToolstack.{FieldWrong}
 
--- the first 8 bytes are those of an image or of a libxl stream, or the width has an upper half
+-- the first 8 bytes are the marker of an image, the ident of a libxl stream, or a width of 2^32 and more
 pub data LegacyStartHas (bytes : List ℕ) : LegacyCause → Type 0 where
   image_marker : be64 bytes 0 ≡ 2 ^ 64 - 1 → LegacyStartHas bytes causes.Modern
   libxl_ident : be64 bytes 0 ≡ 0x4C6962786C466D74 → LegacyStartHas bytes causes.Modern
