@@ -10,7 +10,7 @@ pub use Rattle.mig_guest.specs.Hosts.{HostFrame, HostOf, IsValid, most_saved_wid
 pub use Rattle.mig_guest.specs.MachineCalls.{LogTaken}
 pub use Rattle.mig_guest.specs.MachineStates.{MachineState, Ran}
 pub use Rattle.mig_guest.specs.Pfns.{Pfns, all_below, joined, members, no_pfns, pfns_of_words, size}
-pub use Rattle.mig_machine.specs.Exact.{AllCounted, AreExact, IsExactBy, IsExactFrom, IsLaterMachine, RunsOn, RunsTillPaused, StandRoundPause, asked_before, asked_in}
+pub use Rattle.mig_machine.specs.Exact.{AreExact, HasRoomToCount, IsExactBy, IsExactFrom, IsLaterMachine, RunsOn, RunsTillPaused, StandAroundPause, asked_before, asked_in}
 pub use Rattle.mig_machine.specs.Forgetful.{ForgetfulSeen, TakesMore, forgetful_state, forgetting, forgotten, log_forgotten, without_pfns}
 pub use Rattle.mig_machine.specs.Histories.{AsksOn, IsLaterHistory}
 pub use Rattle.mig_machine.specs.MachineFields.{machine_seen}

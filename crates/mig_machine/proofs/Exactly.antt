@@ -1,5 +1,5 @@
 -- A machine that is exact stays so, call by call.
-use Rattle.mig_machine.proofs.Common.{◌≡◌, ℕ, ◌+◌, ◌-◌, ◌^◌, ◌≤◌, ◌<◌, min, Bool, true, false, cond, List, [], ◌∷◌, length, Option, Some, None, is_some, refl, sym, ap, subst, ◌∙◌, arith, option_map, HostOf, History, LogTook, Since, and_call, after_log, Pfns, pfns_of_words, no_pfns, LineOf, ran, after, logged_after, touched, MachineSeen, HistoryNoted, calls_of, is_paused, log_of, history_of, history_told, course_of, asked_before, AreExact, StandRoundPause, IsExactFrom, IsLaterMachine, RunsOn, unwrap_or, one_more, no_history, ran_between, after_between, touched_on, touched_same, asked_in, AllCounted, IsExactBy, AsksOn, IsLaterHistory}
+use Rattle.mig_machine.proofs.Common.{◌≡◌, ℕ, ◌+◌, ◌-◌, ◌^◌, ◌≤◌, ◌<◌, min, Bool, true, false, cond, List, [], ◌∷◌, length, Option, Some, None, is_some, refl, sym, ap, subst, ◌∙◌, arith, option_map, HostOf, History, LogTook, Since, and_call, after_log, Pfns, pfns_of_words, no_pfns, LineOf, ran, after, logged_after, touched, MachineSeen, HistoryNoted, calls_of, is_paused, log_of, history_of, history_told, course_of, asked_before, AreExact, StandAroundPause, IsExactFrom, IsLaterMachine, RunsOn, unwrap_or, one_more, no_history, ran_between, after_between, touched_on, touched_same, asked_in, HasRoomToCount, IsExactBy, AsksOn, IsLaterHistory}
 use Rattle.mig_machine_script.specs.Courses.{IsLaterCourse}
 use Rattle.mig_machine.proofs.Laters.{asks_call, history_asked, history_logged, runs_till}
 
@@ -26,10 +26,10 @@ record Ready (h : HostOf) (b : MachineSeen) (k : History) : Type 0 where
   pub runs : b.runs ≤ asked_in k + 1
   pub behind : is_paused b ≡ true → b.runs ≤ asked_in k
   pub fits : b.runs ≤ 2 ^ 64 - 1
-  pub counted : AllCounted (asked_in k + 1) → calls_of b ≡ asked_in k + 1
+  pub counted : HasRoomToCount (asked_in k + 1) → calls_of b ≡ asked_in k + 1
   pub live : is_paused b ≡ false → k.live ≡ length k.taken
   pub most : k.live ≤ length k.taken
-  pub stopped : is_paused b ≡ true → AllCounted (asked_before k.taken) → StandRoundPause b.runs k.live k.taken
+  pub stopped : is_paused b ≡ true → HasRoomToCount (asked_before k.taken) → StandAroundPause b.runs k.live k.taken
 
 -- earlier logs don't see later lines
 still_exact : (t : ℕ → ℕ → Pfns) (l : List LogTook) (a b : ℕ) → ((x : ℕ) → x ≤ asked_before l → min x a ≡ min x b) → AreExact t a l → AreExact t b l
@@ -98,7 +98,7 @@ ready_at h a b k (Some n) o e r =
       counted = λ few. let were = e.counted (omega (arith, few)) in omega (arith, few, were, calls_then, calls, now);
       live = λ f. absurd (let no : true ≡ false = sym (ap is_some some) ∙ f in cc);
       most = e.most;
-      stopped = λ _ few. subst (λ (n : ℕ). StandRoundPause n k.live k.taken) (sym now) (e.stopped paused few);
+      stopped = λ _ few. subst (λ (n : ℕ). StandAroundPause n k.live k.taken) (sym now) (e.stopped paused few);
     }
 
 ready : (h : HostOf) (a b : MachineSeen) → IsExactFrom h a → RunsOn a b → Ready h b (history_of a)
@@ -133,7 +133,7 @@ later_by_call a b n s r on one told =
     }
 
 -- logs that were all taken before the pause
-all_live : (l : List LogTook) (runs live : ℕ) → length l ≤ live → asked_before l < runs → StandRoundPause runs live l
+all_live : (l : List LogTook) (runs live : ℕ) → length l ≤ live → asked_before l < runs → StandAroundPause runs live l
 all_live [] runs live few less = tt
 all_live (last ∷ before) runs live few less = (all_live before runs live (omega arith) (omega (arith, less)), (λ _. less, λ le. absurd (omega (arith, few, le))))
 
@@ -151,7 +151,7 @@ paused_so h b n k o is r = record {
   stopped = λ _ few. stands o is few;
 }
   where
-    stands : (o : Option ℕ) → b.behind ≡ o → AllCounted (asked_before k.taken) → StandRoundPause b.runs k.live k.taken
+    stands : (o : Option ℕ) → b.behind ≡ o → HasRoomToCount (asked_before k.taken) → StandAroundPause b.runs k.live k.taken
     stands None is few = let live = ap is_some is in all_live k.taken b.runs k.live (omega (arith, r.live live)) (omega (arith, r.running live, few))
     stands (Some n) is few = r.stopped (ap is_some is) few
 
@@ -190,7 +190,7 @@ took_log h b w n k none r =
       counted = λ few. let were = r.counted (omega (arith, few)) in omega (arith, were, few);
       live = λ f. took_one (is_paused b) k.live (length k.taken) f (r.live f) ∙ longer;
       most = omega (arith, at_most_one (is_paused b) k.live (length k.taken) r.most, longer);
-      stopped = λ t few. subst (λ (x : ℕ). StandRoundPause b.runs x (record { asked = and_call k.since; log = log_of b } ∷ k.taken)) (sym (ap (λ p. cond p k.live (k.live + 1)) t))
+      stopped = λ t few. subst (λ (x : ℕ). StandAroundPause b.runs x (record { asked = and_call k.since; log = log_of b } ∷ k.taken)) (sym (ap (λ p. cond p k.live (k.live + 1)) t))
           (r.stopped t (omega (arith, few)), (λ less. absurd (omega (arith, less, r.most)), λ _. omega (arith, r.behind t, few)));
     }
   where
@@ -225,7 +225,7 @@ exact_first m none empty k logs since live =
       counted = λ _. omega (arith, none, no_logs, since);
       live = λ _. live ∙ sym no_length;
       most = omega (arith, live);
-      stopped = λ _ _. subst (λ (l : List LogTook). StandRoundPause m.runs k.live l) (sym logs) tt;
+      stopped = λ _ _. subst (λ (l : List LogTook). StandAroundPause m.runs k.live l) (sym logs) tt;
     }
 
 pub exact_from : (first now : MachineSeen) → calls_of first ≡ 0 → log_of first ≡ no_pfns → history_of first ≡ no_history → IsLaterMachine first now → IsExactFrom first.host now

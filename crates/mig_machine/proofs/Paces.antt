@@ -1,5 +1,5 @@
 -- From rounds and exact logs to paces.
-use Rattle.mig_machine.proofs.Common.{arith, ◌≡◌, ℕ, zero, suc, ◌+◌, ◌-◌, ◌^◌, min, ◌≤◌, ◌<◌, Bool, true, false, cond, List, [], ◌∷◌, ◌++◌, length, refl, sym, ap, subst, ◌∙◌, HostOf, most_saved_width, LineOf, Pfns, no_pfns, LogTook, History, touched, MachineSeen, is_paused, history_of, asked_before, AreExact, StandRoundPause, IsExactFrom, ◌*◌, ◌⊎◌, nat_lt, length-append, append-nil, inl, inr, filter, range_with_len, cases_lt, lt-ltb, joined, all_below, size, members}
+use Rattle.mig_machine.proofs.Common.{arith, ◌≡◌, ℕ, zero, suc, ◌+◌, ◌-◌, ◌^◌, min, ◌≤◌, ◌<◌, Bool, true, false, cond, List, [], ◌∷◌, ◌++◌, length, refl, sym, ap, subst, ◌∙◌, HostOf, most_saved_width, LineOf, Pfns, no_pfns, LogTook, History, touched, MachineSeen, is_paused, history_of, asked_before, AreExact, StandAroundPause, IsExactFrom, ◌*◌, ◌⊎◌, nat_lt, length-append, append-nil, inl, inr, filter, range_with_len, cases_lt, lt-ltb, joined, all_below, size, members}
 use Rattle.mig_guest.proofs.Sizes.{size-le}
 use Rattle.mig_headers.specs.declared.kind.Kind.{Kind}
 use Rattle.mig_headers.specs.declared.kind.Kind.TheVariants.{Pv, Hvm}
@@ -63,16 +63,16 @@ few_asked kind width (last ∷ before) wide calls =
     let now = few_calls kind (size width last.asked.read) last.asked.calls (omega (arith, wide, size-le last.asked.read width)) calls.1 in
     omega (arith, earlier, now)
 
-before_pause : (runs live : ℕ) (l : List LogTook) → length l ≡ live → 1 ≤ length l → StandRoundPause runs live l → asked_before l < runs
+before_pause : (runs live : ℕ) (l : List LogTook) → length l ≡ live → 1 ≤ length l → StandAroundPause runs live l → asked_before l < runs
 before_pause runs live [] is some stands = absurd (omega (arith, some))
 before_pause runs live (last ∷ before) is some stands = stands.1.0 (omega (arith, is))
 
-paused_at : (kind : Kind) (width runs : ℕ) (k : History) (r : Rounds kind width k) → width ≤ 2 ^ 28 → (asked_before k.taken < 2 ^ 64 - 1 → StandRoundPause runs k.live k.taken) → runs ≡ asked_before r.live + 1
+paused_at : (kind : Kind) (width runs : ℕ) (k : History) (r : Rounds kind width k) → width ≤ 2 ^ 28 → (asked_before k.taken < 2 ^ 64 - 1 → StandAroundPause runs k.live k.taken) → runs ≡ asked_before r.live + 1
 paused_at kind width runs k r wide stopped =
     let two = r.stopped.1 in let most = r.number.1 in
     let all : asked_before k.taken ≡ asked_before r.live + r.last.asked.calls = ap asked_before r.logs in
     let few = few_asked kind width r.live wide r.calls in
-    let stands = subst (λ (l : List LogTook). StandRoundPause runs k.live l) r.logs (stopped (omega (arith, all, two, few, most))) in
+    let stands = subst (λ (l : List LogTook). StandAroundPause runs k.live l) r.logs (stopped (omega (arith, all, two, few, most))) in
     let above = before_pause runs k.live r.live r.before_pause r.number.0 stands.0 in
     let below = stands.1.1 (omega (arith, r.before_pause)) in
     omega (arith, above, below, two)

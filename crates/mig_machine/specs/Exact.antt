@@ -15,8 +15,8 @@ abbrev pub asked_in : History → ℕ
 asked_in k = asked_before k.taken + k.since.calls
 
 -- no number of calls is at the last value of a counter of 64 bits
-abbrev pub AllCounted : ℕ → Type 0
-AllCounted calls = calls < 2 ^ 64 - 1
+abbrev pub HasRoomToCount : ℕ → Type 0
+HasRoomToCount calls = calls < 2 ^ 64 - 1
 
 -- Each of these logs is what was touched since the log before it, up to and with the call that took it. The calls beyond the
 -- first `runs` run no lines.
@@ -24,8 +24,8 @@ abbrev pub AreExact : (ℕ → ℕ → Pfns) → ℕ → List LogTook → Type 0
 AreExact touched runs logs = OfEachLog (λ before log. log.log ≡ touched (min (asked_before before) runs) (min (asked_before before + log.asked.calls) runs)) logs
 
 -- where call number `runs` is the pause, the first `live` logs were taken before it, and each other one behind it
-abbrev pub StandRoundPause : ℕ → ℕ → List LogTook → Type 0
-StandRoundPause runs live logs =
+abbrev pub StandAroundPause : ℕ → ℕ → List LogTook → Type 0
+StandAroundPause runs live logs =
     OfEachLog (λ before log. (length before < live → asked_before before + log.asked.calls < runs) × (live ≤ length before → runs < asked_before before + log.asked.calls)) logs
 
 -- The machine came from this host, of which nothing was asked, by calls that its history k tells: its host, its log, and each
@@ -39,11 +39,11 @@ pub record IsExactBy (h : HostOf) (m : MachineSeen) (k : History) : Type 0 where
   pub runs : m.runs ≤ asked_in k
   pub fits : m.runs ≤ 2 ^ 64 - 1
   -- each call is counted once
-  pub counted : AllCounted (asked_in k) → calls_of m ≡ asked_in k
+  pub counted : HasRoomToCount (asked_in k) → calls_of m ≡ asked_in k
   -- which logs were taken before the pause
   pub live : is_paused m ≡ false → k.live ≡ length k.taken
   pub most : k.live ≤ length k.taken
-  pub stopped : is_paused m ≡ true → AllCounted (asked_before k.taken) → StandRoundPause m.runs k.live k.taken
+  pub stopped : is_paused m ≡ true → HasRoomToCount (asked_before k.taken) → StandAroundPause m.runs k.live k.taken
 
 abbrev pub IsExactFrom : HostOf → MachineSeen → Type 0
 IsExactFrom h m = IsExactBy h m (history_of m)
