@@ -67,9 +67,10 @@ fn few_bytes_are_kept_of_a_thousand_words(rt: HostRuntime) -> Result<(), Fail> {
     let bytes = thousand_words(rt.alloc(), 48, 1)?;
     let mut src = source(rt.alloc(), bytes, 4096, NEVER)?;
     let mut out = sink(rt.alloc(), NEVER)?;
+    let fresh = Relay::new(rt.alloc());
+    assert_eq!(rt; fresh.kept(), 512);
     let (most, steps) = most_kept(rt.alloc(), &mut src, &mut out);
-    assert!(rt; most <= 12800, "{most}");
-    assert!(rt; most >= 8192, "{most}");
+    assert_eq!(rt; most, 8 * 1024 + 512);
     assert_eq!(rt; steps, 13);
     assert_eq!(rt; out.bytes().len(), 104 + 16 + 8192 + 4096);
     Ok(())
