@@ -2,7 +2,7 @@
 use Rattle.mig_tool_guest.proofs.Common.{◌≡◌, ◌⊎◌, ℕ, List, Option, Some, None, sym, subst, arith, line_reported, says_of, CarriedOut, Effects, HasOpenRefusal, InputRises, relay_promise, inl, inr, Appends, AppendsPart, Passes, Cause, Place, StreamOf, status_of, Outcome, Status, ◌++◌, Ok, Err, refl, ap, ◌∙◌, PutsLineOrFault, PutsSome, Consumes, Rose, ◌≤◌, ◌≢◌, line_of, Reports, relayed_line, write_fault_line, Refusal, FrontRelayed, OutputStopped, ReportStopped, PassableFront, PassedOn, SaysRelayed, counts_of}
 use Rattle.mig_tool_guest.proofs.Says.{RelayComes, RelaySays}
 use Rattle.mig_relay.specs.Streams.{open_stream_at, IsOpenRefused}
-use Rattle.mig_relay.specs.Relaying.{PassedWhole, IsRelayed, RisesOnAnswer}
+use Rattle.mig_relay.specs.Relaying.{PassedWhole, IsCutPart, IsWrittenPart, IsRelayed, RisesOnAnswer, WritesOnReadFault}
 use Rattle.mig_relay.specs.declared.answer.RelayAnswer.{RelayAnswer}
 use Rattle.mig_relay.specs.declared.answer.Relayed.{Relayed}
 use Rattle.mig_tool_report.specs.declared.outcome.RelaySummary.{RelaySummary}
@@ -42,9 +42,9 @@ passed_says None e relayed status r done part answers = tt
 passed_says (Some input) e relayed status r done part (inl is) = subst (RelaySays (Some input) e) (sym is) (relayed_front (Appends e.report.old e.report.new) input e.input.left e.out.old e.out.new relayed r.is (done is))
 passed_says (Some input) e relayed status r done part (inr is) = subst (RelaySays (Some input) e) (sym is) (inr (relayed_front (AppendsPart e.report.old e.report.new) input e.input.left e.out.old e.out.new relayed r.is (part is)))
 
-pub passed_relayed : (told left old new : Option (List ℕ)) (relayed : Relayed) (status : Status) → IsRelayed told left old new (Ok relayed) → (status ≡ statuses.Done) ⊎ (status ≡ statuses.WriteFault) → SaysRelayed status told left old new
-passed_relayed told left old new relayed status r (inl is) = subst (λ s. SaysRelayed s told left old new) (sym is) (summary_of_relay relayed, r.is)
-passed_relayed told left old new relayed status r (inr is) = subst (λ s. SaysRelayed s told left old new) (sym is) (inr (summary_of_relay relayed, r.is))
+pub passed_relayed : (e : Effects) (relayed : Relayed) (status : Status) → IsRelayed e.input.told e.input.left e.out.old e.out.new (Ok relayed) → (status ≡ statuses.Done) ⊎ (status ≡ statuses.WriteFault) → SaysRelayed status e
+passed_relayed e relayed status r (inl is) = subst (λ s. SaysRelayed s e) (sym is) (summary_of_relay relayed, r.is)
+passed_relayed e relayed status r (inr is) = subst (λ s. SaysRelayed s e) (sym is) (inr (summary_of_relay relayed, r.is))
 
 -- ---- what wasn't
 
@@ -55,11 +55,19 @@ unpassed (Some input) e answers.ReadFault r = tt
 unpassed (Some input) e answers.WriteFault r = inl r.is
 unpassed (Some input) e answers.Memory r = tt
 
-unpassed_says : (told left old new : Option (List ℕ)) (answer : RelayAnswer) → IsRelayed told left old new (Err answer) → SaysRelayed (status_of (outcome_of_relay answer)) told left old new
-unpassed_says told left old new (answers.Refused place cause) r = (place, cause, r.is)
-unpassed_says told left old new answers.ReadFault r = r.is
-unpassed_says told left old new answers.WriteFault r = inl r.is
-unpassed_says told left old new answers.Memory r = r.is
+-- where a read failed, all that was passed on was written, or a write of the output failed too
+abbrev AnswerWrites : Effects → RelayAnswer → Type 0
+AnswerWrites e answer = WritesOnReadFault {X = Relayed} e.input.told e.input.left e.out.old e.out.new e.out.failed e.out.failed_now (Err answer)
+
+read_says : (e : Effects) → IsCutPart e.input.told e.input.left e.out.old e.out.new → IsWrittenPart e.input.told e.input.left e.out.old e.out.new ⊎ Rose e.out.failed e.out.failed_now → SaysRelayed statuses.ReadFault e
+read_says e part (inl whole) = inl whole
+read_says e part (inr rose) = inr (part, rose)
+
+unpassed_says : (e : Effects) (answer : RelayAnswer) → IsRelayed e.input.told e.input.left e.out.old e.out.new (Err answer) → AnswerWrites e answer → SaysRelayed (status_of (outcome_of_relay answer)) e
+unpassed_says e (answers.Refused place cause) r wrote = (place, cause, r.is)
+unpassed_says e answers.ReadFault r wrote = read_says e r.is wrote
+unpassed_says e answers.WriteFault r wrote = inl r.is
+unpassed_says e answers.Memory r wrote = r.is
 
 -- the counts of the input and the output rose as the answer says
 abbrev AnswerRises : Effects → RelayAnswer → Type 0
@@ -87,8 +95,8 @@ answered e answers.Memory r rises line = record { known = λ u. cc; undone = λ 
 
 -- what came of a stream that wasn't passed on to its end: the line of its outcome is put
 unpassed_status : (e : Effects) (answer : RelayAnswer) → IsRelayed e.input.told e.input.left e.out.old e.out.new (Err answer) → RisesOnAnswer {X = Relayed} e.input.failed e.input.failed_now e.out.failed e.out.failed_now (Err answer)
-    → Reports (line_of (outcome_of_relay answer)) e.report.old e.report.new e.report.failed e.report.failed_now → e.report.failed ≤ e.report.failed_now → CarriedOut relay_promise e (status_of (outcome_of_relay answer))
-unpassed_status e answer r rises line later =
+    → AnswerWrites e answer → Reports (line_of (outcome_of_relay answer)) e.report.old e.report.new e.report.failed e.report.failed_now → e.report.failed ≤ e.report.failed_now → CarriedOut relay_promise e (status_of (outcome_of_relay answer))
+unpassed_status e answer r rises wrote line later =
     let a = answered e answer r rises line in
     record {
       said = says_of (λ input. relay_promise.Done input e) (λ input. relay_promise.DonePart input e) HasOpenRefusal e.input.told e.input.left (outcome_of_relay answer) _ refl (unpassed e.input.told e answer r);
@@ -100,13 +108,14 @@ unpassed_status e answer r rises line later =
       own_line = a.own;
       out_faults = record { later = a.out; done = λ d. absurd (a.undone d) };
       report_faults = record { later = later; done = λ d. absurd (a.undone d) };
-      besides = record { says = unpassed_says e.input.told e.input.left e.out.old e.out.new answer r; broke = λ failed. inl (a.stopped failed) };
+      besides = record { says = unpassed_says e answer r wrote; broke = λ failed. inl (a.stopped failed) };
     }
 
 pub unpassed_carried : (e : Effects) (answer : RelayAnswer) (outcome : Outcome) (status : Status) → outcome ≡ outcome_of_relay answer → status ≡ status_of outcome → IsRelayed e.input.told e.input.left e.out.old e.out.new (Err answer)
-    → RisesOnAnswer {X = Relayed} e.input.failed e.input.failed_now e.out.failed e.out.failed_now (Err answer) → Reports (line_of outcome) e.report.old e.report.new e.report.failed e.report.failed_now → e.report.failed ≤ e.report.failed_now → CarriedOut relay_promise e status
-unpassed_carried e answer outcome status is stood r rises line later =
-    subst (CarriedOut relay_promise e) (sym (stood ∙ ap status_of is)) (unpassed_status e answer r rises (subst (λ o. Reports (line_of o) e.report.old e.report.new e.report.failed e.report.failed_now) is line) later)
+    → RisesOnAnswer {X = Relayed} e.input.failed e.input.failed_now e.out.failed e.out.failed_now (Err answer)
+    → WritesOnReadFault {X = Relayed} e.input.told e.input.left e.out.old e.out.new e.out.failed e.out.failed_now (Err answer) → Reports (line_of outcome) e.report.old e.report.new e.report.failed e.report.failed_now → e.report.failed ≤ e.report.failed_now → CarriedOut relay_promise e status
+unpassed_carried e answer outcome status is stood r rises wrote line later =
+    subst (CarriedOut relay_promise e) (sym (stood ∙ ap status_of is)) (unpassed_status e answer r rises wrote (subst (λ o. Reports (line_of o) e.report.old e.report.new e.report.failed e.report.failed_now) is line) later)
 
 -- ---- a front that may pass isn't refused
 

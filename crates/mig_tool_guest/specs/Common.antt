@@ -14,7 +14,7 @@ pub use Rattle.mig_host_view.specs.View.{view}
 pub use Rattle.mig_image.specs.GuestImageForm.{host_at}
 pub use Rattle.mig_libxl_form.specs.Spelled.{AcceptedStream}
 pub use Rattle.mig_libxl_form.specs.Stream.{IsStreamRefused, StreamOf, stream_at}
-pub use Rattle.mig_relay.specs.Relaying.{IsCutPart, IsWrittenPart, PassedPart, PassedWhole, RefusedPart}
+pub use Rattle.mig_relay.specs.Relaying.{IsCutPart, IsWrittenPart, PassedWhole, RefusedPart}
 pub use Rattle.mig_relay.specs.Streams.{IsOpenRefused, open_stream_at}
 pub use Rattle.mig_relay.specs.declared.answer.Relayed.{Relayed}
 pub use Rattle.mig_tool_report.specs.Outcome.{IsUnwritten, line_of, status_of}

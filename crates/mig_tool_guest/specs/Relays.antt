@@ -1,6 +1,6 @@
 -- A stream that is passed on: what was taken, and what was written of it.
-use Rattle.std.specs.Prelude.{◌≡◌, ◌⊎◌, ℕ, List, Option, Some}
-use Rattle.mig_tool_guest.specs.Common.{AppendsPart, Rose, Passes, Cause, Place, StreamOf, open_stream_at, PassedWhole, PassedPart, RefusedPart, IsCutPart, IsWrittenPart, Relayed, Reports, relayed_line, write_fault_line, RelaySummary, Status, Effects}
+use Rattle.std.specs.Prelude.{◌≡◌, ◌⊎◌, ⊥, ℕ, List, Option, Some}
+use Rattle.mig_tool_guest.specs.Common.{AppendsPart, Rose, Passes, Cause, Place, StreamOf, open_stream_at, PassedWhole, RefusedPart, IsCutPart, IsWrittenPart, Relayed, Reports, relayed_line, write_fault_line, RelaySummary, Status, Effects}
 use Rattle.mig_tool_report.specs.declared.status.Status.TheVariants as statuses
 
 -- a front of the input may pass, and rest follows it
@@ -26,17 +26,19 @@ pub record FrontRelayed (Reported : List ℕ → Type 0) (input : List ℕ) (lef
   pub passed : PassedOn (Some input) left old new summary
   pub reported : Reported (relayed_line summary)
 
--- What was written is a front of what was taken, whatever the status: the whole of it, and that may pass, with status 0; with
--- status 1 all that was passed on in front of the refused part, or inside it where it is a body; with status 3, 4 and 5 it
--- ends inside a part, without a cause, unless status 4 is the report's alone, and then it is as with status 0; and with
--- status 5 it is all that was passed on. Where it isn't the whole, no front of it is an accepted stream.
-abbrev pub SaysRelayed : Status → Option (List ℕ) → Option (List ℕ) → Option (List ℕ) → Option (List ℕ) → Type 0
-SaysRelayed statuses.Done told left old new = (summary : RelaySummary) × PassedOn told left old new summary
-SaysRelayed statuses.WriteFault told left old new = IsCutPart told left old new ⊎ ((summary : RelaySummary) × PassedOn told left old new summary)
-SaysRelayed statuses.Refused told left old new = (place : Place) × (cause : Cause) × RefusedPart told left old new place cause
-SaysRelayed statuses.ReadFault told left old new = IsCutPart told left old new
-SaysRelayed statuses.Memory told left old new = IsWrittenPart told left old new
-SaysRelayed statuses.Usage told left old new = PassedPart told left old new
+-- What was written is some first bytes of what was taken, whatever the status.
+-- With status 0 it is the whole of it, and that may pass.
+-- With status 1 it is all that was passed on: in front of the refused part, or inside it where that is a body.
+-- With status 3, 4 and 5 it ends inside a part, without a cause. Where status 4 is the report's alone, it is as with status 0.
+-- With status 5 it is all that was passed on; with status 3 too, or a write of the output failed besides.
+-- Where it isn't the whole, no front of it is an accepted stream. A relay never tells the usage.
+abbrev pub SaysRelayed : Status → Effects → Type 0
+SaysRelayed statuses.Done e = (summary : RelaySummary) × PassedOn e.input.told e.input.left e.out.old e.out.new summary
+SaysRelayed statuses.WriteFault e = IsCutPart e.input.told e.input.left e.out.old e.out.new ⊎ ((summary : RelaySummary) × PassedOn e.input.told e.input.left e.out.old e.out.new summary)
+SaysRelayed statuses.Refused e = (place : Place) × (cause : Cause) × RefusedPart e.input.told e.input.left e.out.old e.out.new place cause
+SaysRelayed statuses.ReadFault e = IsWrittenPart e.input.told e.input.left e.out.old e.out.new ⊎ (IsCutPart e.input.told e.input.left e.out.old e.out.new × Rose e.out.failed e.out.failed_now)
+SaysRelayed statuses.Memory e = IsWrittenPart e.input.told e.input.left e.out.old e.out.new
+SaysRelayed statuses.Usage e = ⊥
 
 -- a write of the output failed, what was written ends inside a part, without a cause, and the report got the line of that
 pub record OutputStopped (e : Effects) : Type 0 where
@@ -58,5 +60,5 @@ RelayBreaksOff e = OutputStopped e ⊎ ReportStopped e
 
 -- what a relay came to, whatever its status; with status 4 it broke off
 pub record Relays (status : Status) (e : Effects) : Type 0 where
-  pub says : SaysRelayed status e.input.told e.input.left e.out.old e.out.new
+  pub says : SaysRelayed status e
   pub broke : status ≡ statuses.WriteFault → RelayBreaksOff e

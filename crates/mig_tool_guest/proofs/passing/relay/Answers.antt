@@ -18,11 +18,11 @@ returns-in-Ok g c =
       own_line = passed_line _ _ c.in-Ok.relayed c.told.result c.told.ensures.done c.told.ensures.part c.told.ensures.answers;
       out_faults = unchanged c.told.result _ _ counts.1;
       report_faults = record { later = c.told.ensures.later; done = c.told.ensures.quiet };
-      besides = record { says = passed_relayed (g.S.Source.left c.args.input.now) (g.S.Source.left c.relay.new.src) _ _ c.in-Ok.relayed c.told.result c.in-Ok.ensures.relayed c.told.ensures.answers; broke = λ failed. inr (breaks failed) };
+      besides = record { says = passed_relayed e c.in-Ok.relayed c.told.result c.in-Ok.ensures.relayed c.told.ensures.answers; broke = λ failed. inr (breaks failed) };
     }
 
 pub returns-in-Err : goal.returns-in-Err
 returns-in-Err g c =
     let e : Effects = effects (input_effect g.S.Source.left g.S.Source.faults c.args.input.now c.relay.new.src) (sink_effect g.K.Sink.written g.K.Sink.faults c.args.out.now c.relay.new.sink)
     (sink_effect g.R.Sink.written g.R.Sink.faults c.args.report.now c.finish.new.report) in
-    unpassed_carried e c.in-Err.answer c.unrelayed.result c.finish.result c.unrelayed.ensures c.finish.ensures.status c.in-Err.ensures.relayed c.in-Err.ensures.faults c.finish.ensures.line c.finish.ensures.later
+    unpassed_carried e c.in-Err.answer c.unrelayed.result c.finish.result c.unrelayed.ensures c.finish.ensures.status c.in-Err.ensures.relayed c.in-Err.ensures.faults c.in-Err.ensures.read c.finish.ensures.line c.finish.ensures.later
