@@ -55,7 +55,7 @@ pub use Rattle.mig_relay.specs.Images.{open_image_at, open_next}
 pub use Rattle.mig_relay.specs.Keeping.{HasNumber, HasRecords, IsBodied, IsOther, IsPages, Keeps, KeepsBody, KeepsFirst, KeepsGoing, KeepsHead, KeepsNext, KeepsOpen, KeepsOuter, KeepsRecords, KeepsWords, KeepsWrapper, Stands, fault_of_empty, top_with, with_one}
 pub use Rattle.mig_relay.specs.Parts.{AtBody, AtFront, AtHead, AtKind, AtMarker, AtPadding, AtPages, AtVersion, AtWords, BeginsWithPart, Next, entry_of_word, judged_next, padded, pages_behind, record_with, with_body, with_record, words_behind}
 pub use Rattle.mig_relay.specs.Relaying.{HasPassed, IsRelayed, RisesOnAnswer, Turned, WritesOnReadFault}
-pub use Rattle.mig_relay.specs.Spots.{Alone, AtEnd, AtLibxlBody, AtLibxlHead, AtLibxlHeader, AtLibxlPadding, AtStart, Behind, InImage, Outer, Spot, begins_with_ident, carry, fault_of_first, held, image_record, is_ident, libxl_padded, spot}
+pub use Rattle.mig_relay.specs.Spots.{Alone, AtEnd, AtLibxlBody, AtLibxlHead, AtLibxlHeader, AtLibxlPadding, AtStart, Behind, InImage, Outer, Spot, begins_with_ident, carry, fault_of_first, held, image_record, is_ident, libxl_padded, most_of_part, spot}
 pub use Rattle.mig_relay.specs.Standing.{IsNotRefused}
 pub use Rattle.mig_relay.specs.Steps.{EndsInside, FrontsAreCut, IsStep, IsUnfinished, KeepsWordsInHand, MovedBy, PassedPiece, Refuses, RisesOnFault, StepMoved, Stops, WritesSome, answer_of, counted, is_judged_first}
 pub use Rattle.mig_relay.specs.Streams.{IsOpenRefused, IsPassable, open_bare, open_body, open_content, open_inner, open_pairs_at}

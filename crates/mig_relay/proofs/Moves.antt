@@ -1,5 +1,5 @@
 -- What a step over one part does, whatever the part is.
-use Rattle.mig_relay.proofs.Common.{◌≡◌, ℕ, ◌+◌, ◌<◌, ◌≤◌, List, [], ◌++◌, length, take, drop, Bool, true, false, cond, nat_lt, Option, Some, None, Result, Ok, Err, refl, sym, ap, subst, ◌∙◌, arith, append_assoc, append-nil, length-append, length-take-le, length-drop, take-append-drop, lt-ltb, ltb-true, Consumes, Appends, AppendsPart, TakesFew, Judged, ◌>>=◌, part, tried, placed, AgreesWithJudging, Passes, Faulty, Stop, part_passes, part_whole, same_faulty, Cause, Truncated, Place, StreamOf, ComesNext, place_of_spot, Keeps, BeginsWithPart, Spot, spot, held, is_judged_first, counted, FrontsAreCut, PassedPiece, IsUnfinished, Refuses, Stops, StepMoved, MovedBy, answer_of, RelayAnswer, Refused, WriteFault, Memory, Step, Relay, unless_faulty, IsStep, KeepsWordsInHand, true≢false}
+use Rattle.mig_relay.proofs.Common.{◌≡◌, ℕ, ◌+◌, ◌<◌, ◌≤◌, List, [], ◌++◌, length, take, drop, min, Bool, true, false, cond, nat_lt, Option, Some, None, Result, Ok, Err, refl, sym, ap, subst, ◌∙◌, arith, append_assoc, append-nil, length-append, length-take-le, length-drop, take-append-drop, lt-ltb, ltb-true, Consumes, Appends, AppendsPart, TakesFew, Judged, ◌>>=◌, part, tried, placed, AgreesWithJudging, Passes, Faulty, Stop, part_passes, part_whole, same_faulty, Cause, Truncated, Place, StreamOf, ComesNext, place_of_spot, Keeps, BeginsWithPart, Spot, spot, held, most_of_part, is_judged_first, counted, FrontsAreCut, PassedPiece, IsUnfinished, Refuses, Stops, StepMoved, MovedBy, answer_of, RelayAnswer, Refused, WriteFault, Memory, Step, Relay, unless_faulty, IsStep, KeepsWordsInHand, true≢false}
 use Rattle.std.proofs.KnownBytes.{Appends-nil}
 use Rattle.mig_bytes.specs.declared.stop.Stop.TheVariants as stops
 
@@ -40,15 +40,15 @@ module _ (here : Spot) (place : Place) (size : ℕ) (fault : List ℕ → Option
       is.judged (bytes ++ rest) ∙ ap (λ (j : Judged Cause (List ℕ)). placed place (j >>= λ b. tried (fault b.0) b.1 >>= λ _. Passes b.0 b.1) >>= λ b. follows b.0 b.1) (part_whole Truncated size bytes rest whole)
       ∙ ap (λ (g : Option Cause). placed place (tried g rest >>= λ _. Passes bytes rest) >>= λ b. follows b.0 b.1) fine
 
-  module _ (begun : List ℕ) (r t : Relay) (old new before now : Option (List ℕ)) where
+  module _ (sized : size ≤ most_of_part here) (begun : List ℕ) (r t : Relay) (old new before now : Option (List ℕ)) where
     -- fewer bytes than so many of the part
     fronts_cut : (bytes : List ℕ) → length begun + length bytes ≤ size → FrontsAreCut here begun bytes
     fronts_cut bytes room front more split some = (place, cut (begun ++ front) (omega (arith, length-append begun front, ap length split, length-append front more, some, room)))
 
     -- nothing more was written
-    stops_here : (m : ℕ) → m ≤ held here → length begun < size → TakesFew m old new → Appends before now [] → Stops here begun old new before now
-    stops_here m small less gone written =
-        ([], record { others = gone.taken; few = omega (arith, gone.few, small); taken = gone.gone; written = written }, (place, cut (begun ++ []) (omega (arith, length-append begun [], less))), fronts_cut [] (omega (arith, less)))
+    stops_here : (m : ℕ) → m ≤ held here → length begun + m ≤ size → length begun < size → TakesFew m old new → Appends before now [] → Stops here begun old new before now
+    stops_here m small room less gone written =
+        ([], record { others = gone.taken; few = omega (arith, gone.few, small); inside = omega (arith, gone.few, room, sized); taken = gone.gone; written = written }, (place, cut (begun ++ []) (omega (arith, length-append begun [], less))), fronts_cut [] (omega (arith, less)))
 
     truncated : (buf : List ℕ) (c : Cause) (o : Option (List ℕ)) → length begun + length buf ≤ size → AgreesWithJudging (Buffered buf) o new (part Truncated (length buf)) (Err (stops.Refused c)) → Refuses here begun o new place c
     truncated buf c None rest_of h = tt
@@ -72,15 +72,15 @@ module _ (here : Spot) (place : Place) (size : ℕ) (fault : List ℕ → Option
           truncated buf c old room h,
           (
             [],
-            record { others = gone.taken; few = omega (arith, gone.few, small); taken = gone.gone; written = written },
+            record { others = gone.taken; few = omega (arith, gone.few, small); inside = omega (arith, gone.few, room, sized); taken = gone.gone; written = written },
             λ _. refl,
             ((place, Truncated), [], cut (begun ++ []) (omega (arith, length-append begun [], less))),
             fronts_cut [] (omega (arith, less)),
             at,
           ),
         )
-        by stops.ReadFault h = stops_here (length buf) small less gone written
-        by stops.Memory h = stops_here (length buf) small less gone written
+        by stops.ReadFault h = stops_here (length buf) small room less gone written
+        by stops.Memory h = stops_here (length buf) small room less gone written
 
     refuses : (buf : List ℕ) (u : Unit {0}) (c : Cause) (o : Option (List ℕ)) → length (begun ++ buf) ≡ size → fault (begun ++ buf) ≡ Some c → AgreesWithJudging (Buffered buf) o new (part Truncated (length buf)) (Ok u) → Refuses here begun o new place c
     refuses buf u c None whole stands h = tt
@@ -92,7 +92,7 @@ module _ (here : Spot) (place : Place) (size : ℕ) (fault : List ℕ → Option
         → (is_judged_first here ≡ true → wrote ≡ []) → IsUnfinished (spot here (begun ++ wrote)) → place_of_spot here ≡ Some place → StepMoved here begun r t old new before now (Err answer)
     refused buf wrote others u c answer is_answer whole stands h split small written first unfinished at =
         subst (λ (a : RelayAnswer). StepMoved here begun r t old new before now (Err a)) (sym is_answer)
-        (record { is = (refuses buf u c old whole stands h, (wrote, record { others = others; few = omega (arith, small, ap length split, length-append wrote others); taken = subst (Consumes old new) split (consumed (length buf) buf u old new h); written = written }, first, unfinished, fronts_cut wrote (omega (arith, whole, length-append begun buf, ap length split, length-append wrote others)), at)) })
+        (record { is = (refuses buf u c old whole stands h, (wrote, record { others = others; few = omega (arith, small, ap length split, length-append wrote others); inside = omega (arith, sized, whole, length-append begun buf, ap length split, length-append wrote others); taken = subst (Consumes old new) split (consumed (length buf) buf u old new h); written = written }, first, unfinished, fronts_cut wrote (omega (arith, whole, length-append begun buf, ap length split, length-append wrote others)), at)) })
 
     -- the last piece of a body was written, and a cause stands in the whole body
     pub refused_behind : (buf : List ℕ) (u : Unit {0}) (c : Cause) (answer : RelayAnswer) → answer ≡ Refused place c → length (begun ++ buf) ≡ size → fault (begun ++ buf) ≡ Some c → AgreesWithJudging (Buffered buf) old new (part Truncated (length buf)) (Ok u) → length buf ≤ held here → Appends before now buf → is_judged_first here ≡ false → place_of_spot here ≡ Some place
@@ -107,7 +107,7 @@ module _ (here : Spot) (place : Place) (size : ℕ) (fault : List ℕ → Option
         record {
           is = (
             take k buf,
-            record { others = drop k buf; few = omega (arith, length-drop k buf, length-take-le k buf (omega (arith, less)), less, small); taken = subst (Consumes old new) (sym (take-append-drop k buf)) (consumed (length buf) buf u old new h); written = written },
+            record { others = drop k buf; few = omega (arith, length-drop k buf, length-take-le k buf (omega (arith, less)), less, small); inside = omega (arith, sized, room, length-drop k buf, length-take-le k buf (omega (arith, less)), less); taken = subst (Consumes old new) (sym (take-append-drop k buf)) (consumed (length buf) buf u old new h); written = written },
             (place, cut (begun ++ take k buf) (omega (arith, length-append begun (take k buf), room, less, length-take-le k buf (omega (arith, less))))),
             fronts_cut (take k buf) (omega (arith, room, less, length-take-le k buf (omega (arith, less)))),
           );
@@ -117,33 +117,33 @@ module _ (here : Spot) (place : Place) (size : ℕ) (fault : List ℕ → Option
     pub goes_on : (buf : List ℕ) (u : Unit {0}) (next : Spot) (front : List ℕ) (step : Step) → length begun + length buf ≤ size → length buf ≤ held here → 0 < length buf → AgreesWithJudging (Buffered buf) old new (part Truncated (length buf)) (Ok u) → Appends before now buf
         → ((more : List ℕ) → spot here (begun ++ (buf ++ more)) ≡ spot next (front ++ more)) → Keeps t next front → t.passed ≡ counted r.passed (length buf) → IsStep here buf t step → KeepsWordsInHand r t step → ComesNext here begun buf next front → PassedPiece here begun step r t old new before now
     goes_on buf u next front step room small some h written same keeps count is_step words follow =
-        record { piece = buf; next = next; front = front; some = some; taken = consumed (length buf) buf u old new h; written = written; same = same; keeps = keeps; small = small; cuts = fronts_cut buf room; follows = follow; count = count; is = is_step; words = words }
+        record { piece = buf; next = next; front = front; some = some; taken = consumed (length buf) buf u old new h; written = written; same = same; keeps = keeps; small = small; inside = omega (arith, room, sized); cuts = fronts_cut buf room; follows = follow; count = count; is = is_step; words = words }
 
 -- ---- a part that is taken at once
 
-module _ {here : Spot} {place : Place} {size : ℕ} {fault : List ℕ → Option Cause} {follows : List ℕ → List ℕ → Judged (Place × Cause) StreamOf} (is : BeginsWithPart (spot here) place size fault follows) (r t : Relay) (old new before now : Option (List ℕ)) (buf : List ℕ) (whole : length buf ≡ size) (small : length buf ≤ held here) where
+module _ {here : Spot} {place : Place} {size : ℕ} {fault : List ℕ → Option Cause} {follows : List ℕ → List ℕ → Judged (Place × Cause) StreamOf} (is : BeginsWithPart (spot here) place size fault follows) (r t : Relay) (old new before now : Option (List ℕ)) (buf : List ℕ) (whole : length buf ≡ size) (most : length buf ≤ min (held here) (most_of_part here)) where
   pub not_taken : (e : Stop Cause) (answer : RelayAnswer) → answer ≡ answer_of place e → before ≡ now → AgreesWithJudging (Buffered buf) old new (part Truncated (length buf)) (Err e) → TakesFew (length buf) old new → place_of_spot here ≡ Some place → StepMoved here [] r t old new before now (Err answer)
-  not_taken e answer is_answer kept h gone at = stopped here place size fault follows is [] r t old new before now buf e answer is_answer (omega (arith, whole)) (omega (arith, whole, is.some)) kept h small gone at
+  not_taken e answer is_answer kept h gone at = stopped here place size fault follows is (omega (arith, most, whole)) [] r t old new before now buf e answer is_answer (omega (arith, whole)) (omega (arith, whole, is.some)) kept h (omega (arith, most)) gone at
 
   pub not_allowed : (u : Unit {0}) (c : Cause) (answer : RelayAnswer) → answer ≡ Refused place c → Some c ≡ fault buf → before ≡ now → AgreesWithJudging (Buffered buf) old new (part Truncated (length buf)) (Ok u) → place_of_spot here ≡ Some place → StepMoved here [] r t old new before now (Err answer)
   not_allowed u c answer is_answer stands kept h at =
-      refused here place size fault follows is [] r t old new before now buf [] buf u c answer is_answer whole (sym stands) h refl small (subst (λ o. Appends before o []) kept (Appends-nil before)) (λ _. refl)
+      refused here place size fault follows is (omega (arith, most, whole)) [] r t old new before now buf [] buf u c answer is_answer whole (sym stands) h refl (omega (arith, most)) (subst (λ o. Appends before o []) kept (Appends-nil before)) (λ _. refl)
       ((place, Truncated), [], cut here place size fault follows is [] is.some) at
 
   pub not_written : (u : Unit {0}) → AgreesWithJudging (Buffered buf) old new (part Truncated (length buf)) (Ok u) → AppendsPart before now buf → StepMoved here [] r t old new before now (Err WriteFault)
-  not_written u h part_of = unwritten here place size fault follows is [] r t old new before now buf u small (omega (arith, whole)) h part_of
+  not_written u h part_of = unwritten here place size fault follows is (omega (arith, most, whole)) [] r t old new before now buf u (omega (arith, most)) (omega (arith, whole)) h part_of
 
   -- the part was taken and isn't written
   pub gave_up : (u : Unit {0}) → before ≡ now → AgreesWithJudging (Buffered buf) old new (part Truncated (length buf)) (Ok u) → StepMoved here [] r t old new before now (Err Memory)
   gave_up u kept h = record {
     is =
-        ([], record { others = buf; few = omega (arith, small); taken = consumed (length buf) buf u old new h; written = subst (λ o. Appends before o []) kept (Appends-nil before) }, (place, cut here place size fault follows is [] is.some), fronts_cut here place size fault follows is [] r t old new before now [] (omega (arith, is.some)));
+        ([], record { others = buf; few = omega (arith, most); inside = omega (arith, whole, most); taken = consumed (length buf) buf u old new h; written = subst (λ o. Appends before o []) kept (Appends-nil before) }, (place, cut here place size fault follows is [] is.some), fronts_cut here place size fault follows is (omega (arith, most, whole)) [] r t old new before now [] (omega (arith, is.some)));
   }
 
   pub went : (u : Unit {0}) (next : Spot) (front : List ℕ) (step : Step) → None ≡ fault buf → AgreesWithJudging (Buffered buf) old new (part Truncated (length buf)) (Ok u) → Appends before now buf → ((more : List ℕ) → follows buf more ≡ spot next (front ++ more)) → Keeps t next front
       → t.passed ≡ counted r.passed (length buf) → IsStep here buf t step → KeepsWordsInHand r t step → ComesNext here [] buf next front → PassedPiece here [] step r t old new before now
   went u next front step fine h written same keeps count is_step words follow =
-      goes_on here place size fault follows is [] r t old new before now buf u next front step (omega (arith, whole)) small (omega (arith, whole, is.some)) h written (λ more. passes here place size fault follows is buf more whole (sym fine) ∙ same more) keeps count is_step words follow
+      goes_on here place size fault follows is (omega (arith, most, whole)) [] r t old new before now buf u next front step (omega (arith, whole)) (omega (arith, most)) (omega (arith, whole, is.some)) h written (λ more. passes here place size fault follows is buf more whole (sym fine) ∙ same more) keeps count is_step words follow
 
 -- ---- what a decoder answers
 

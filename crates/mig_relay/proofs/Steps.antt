@@ -1,5 +1,5 @@
 -- From what a relay keeps to the bytes that it stands for.
-use Rattle.mig_relay.proofs.Common.{◌≡◌, ◌≢◌, ℕ, ◌≤◌, Bool, true, false, List, [], ◌∷◌, ◌++◌, length, take, drop, min, ◌+◌, ◌-◌, ◌^◌, ◌<◌, Option, Some, None, Result, Ok, Err, refl, sym, ap, subst, ◌∙◌, arith, append_assoc, append-nil, length-append, length-drop, take-append-drop, Consumes, Appends, AppendsPart, Judged, Passes, passes_not, Cause, Truncated, Place, StreamOf, IsPassable, fault_of_record_body, record_content, bodies_are_parts, before, in_hand, place_of_spot, Keeps, KeepsNext, HasRecords, Next, AtMarker, AtVersion, AtKind, AtHead, AtBody, AtFront, AtWords, AtPages, AtPadding, BeginsWithPart, HasPassed, IsRelayed, Turned, RisesOnAnswer, WritesOnReadFault, Outer, Spot, AtStart, AtLibxlHeader, AtLibxlHead, AtLibxlBody, AtLibxlPadding, InImage, AtEnd, spot, held, carry, FrontsAreCut, PassedPiece, IsUnfinished, is_judged_first, Refuses, Stops, StepMoved, MovedBy, counted, Fits, RelayAnswer, Refused, WriteFault, Memory, Relayed, Step, Coming, Relay, is_some, Stands, RisesOnFault, EndsInside, WritesSome, may_wait, most_waiting, ReadFault, true≢false}
+use Rattle.mig_relay.proofs.Common.{◌≡◌, ◌≢◌, ℕ, ◌≤◌, Bool, true, false, List, [], ◌∷◌, ◌++◌, length, take, drop, min, ◌+◌, ◌-◌, ◌^◌, ◌<◌, Option, Some, None, Result, Ok, Err, refl, sym, ap, subst, ◌∙◌, arith, append_assoc, append-nil, length-append, length-drop, take-append-drop, Consumes, Appends, AppendsPart, Judged, Passes, passes_not, Cause, Truncated, Place, StreamOf, IsPassable, fault_of_record_body, record_content, bodies_are_parts, before, in_hand, place_of_spot, Keeps, KeepsNext, HasRecords, Next, AtMarker, AtVersion, AtKind, AtHead, AtBody, AtFront, AtWords, AtPages, AtPadding, BeginsWithPart, HasPassed, IsRelayed, Turned, RisesOnAnswer, WritesOnReadFault, Outer, Spot, AtStart, AtLibxlHeader, AtLibxlHead, AtLibxlBody, AtLibxlPadding, InImage, AtEnd, spot, held, most_of_part, carry, FrontsAreCut, PassedPiece, IsUnfinished, is_judged_first, Refuses, Stops, StepMoved, MovedBy, counted, Fits, RelayAnswer, Refused, WriteFault, Memory, Relayed, Step, Coming, Relay, is_some, Stands, RisesOnFault, EndsInside, WritesSome, may_wait, most_waiting, ReadFault, true≢false}
 use Rattle.std.proofs.KnownBytes.{Appends-nil, Appends-trans, Consumes-trans}
 use mathlib.Core.Logic.{inl, inr}
 use Rattle.std.specs.Io.KnownBytes.{Keeps as Stays}
@@ -31,20 +31,21 @@ none_cut : (here : Spot) {place : Place} {size : ℕ} {fault : List ℕ → Opti
 none_cut here is begun none = subst (λ l. EndsInside (spot here l)) (sym none) (still_cut here is [] is.some)
 
 -- What is so wherever a relay stands. What is judged there is cut, but for the end; what comes next tells whether a record is
--- in hand; of what is judged at once no byte was passed on; a body has bytes, and its head no fault; and no more than may
--- wait, and the part that comes next, is no more than may wait with it.
+-- in hand; of what is judged at once no byte was passed on; a body has bytes, and its head no fault; no more than may
+-- wait, and the part that comes next, is no more than may wait with it; and what was begun is no more than the part has.
 record IsAt (r : Relay) (here : Spot) (begun : List ℕ) : Type 0 where
   cut : is_at_end r.coming ≡ false → EndsInside (spot here begun)
   within : is_within r.coming ≡ is_some (in_hand here)
   unbegun : is_judged_first here ≡ true → begun ≡ []
   some : HasBytes here
   room : may_wait r.coming (length r.words.items) + held here ≤ most_waiting here
+  few : length begun ≤ most_of_part here
 
 module _ (r : Relay) where
   -- a part that is taken at once
   once : (here : Spot) (begun : List ℕ) (c : Coming) {place : Place} {size : ℕ} {fault : List ℕ → Option Cause} {follows : List ℕ → List ℕ → Judged (Place × Cause) StreamOf} → BeginsWithPart (spot here) place size fault follows → r.coming ≡ c → begun ≡ []
       → is_within c ≡ is_some (in_hand here) → HasBytes here → may_wait c (length r.words.items) + held here ≤ most_waiting here → IsAt r here begun
-  once here begun c is comes none within some room = record { cut = λ _. none_cut here is begun none; within = ap is_within comes ∙ within; unbegun = λ _. none; some = some; room = rw comes room }
+  once here begun c is comes none within some room = record { cut = λ _. none_cut here is begun none; within = ap is_within comes ∙ within; unbegun = λ _. none; some = some; room = rw comes room; few = omega (arith, ap length none) }
 
   is_at_next : (outer : Outer) (next : Next) (begun : List ℕ) → KeepsNext r next begun → IsAt r (InImage outer next) begun
   is_at_next outer AtMarker begun (is, none) = once (InImage outer AtMarker) begun comes.Marker (lifted (carry outer) marker_is) is none refl tt (omega arith)
@@ -59,6 +60,7 @@ module _ (r : Relay) where
     unbegun = λ judged. absurd (true≢false (sym judged));
     some = (omega (arith, body.less), other.fine);
     room = rw is (omega arith);
+    few = omega (arith, body.less);
   }
   is_at_next outer (AtFront o records head) begun (is, kept, pages, none) = once (InImage outer (AtFront o records head)) begun (comes.Front head) (front_is outer o records head) is none refl tt (omega arith)
   is_at_next outer (AtWords o records head n) begun (is, kept, pages, count, none) = once (InImage outer (AtWords o records head n)) begun (comes.Words head n) (words_is outer o records head n count.0) is none refl tt (omega arith)
@@ -71,10 +73,10 @@ module _ (r : Relay) where
   is_at AtLibxlHeader begun (is, kept, none) = once AtLibxlHeader begun comes.LibxlHeader header_is is none refl tt (omega arith)
   is_at (AtLibxlHead records) begun (is, kept, none) = once (AtLibxlHead records) begun comes.LibxlHead (libxl_head_is records kept.1) is none refl tt (omega arith)
   is_at (AtLibxlBody records head) begun (is, kept, bodied, body) =
-      record { cut = λ _. still_cut (AtLibxlBody records head) (libxl_body_is records head (omega (arith, body.less))) begun body.less; within = ap is_within is; unbegun = λ judged. absurd (true≢false (sym judged)); some = omega (arith, body.less); room = rw is (omega arith) }
+      record { cut = λ _. still_cut (AtLibxlBody records head) (libxl_body_is records head (omega (arith, body.less))) begun body.less; within = ap is_within is; unbegun = λ judged. absurd (true≢false (sym judged)); some = omega (arith, body.less); room = rw is (omega arith); few = omega (arith, body.less) }
   is_at (AtLibxlPadding records head content) begun (is, kept, bodied, image, some, none) = once (AtLibxlPadding records head content) begun (comes.LibxlPadding head) (libxl_padding_is records head content some) is none refl tt (omega arith)
   is_at (InImage outer next) begun (around, k) = is_at_next outer next begun k
-  is_at (AtEnd s) begun (is, has, none) = record { cut = λ going. absurd (true≢false (sym (ap is_at_end is) ∙ going)); within = ap is_within is; unbegun = λ _. none; some = tt; room = rw is (omega arith) }
+  is_at (AtEnd s) begun (is, has, none) = record { cut = λ going. absurd (true≢false (sym (ap is_at_end is) ∙ going)); within = ap is_within is; unbegun = λ _. none; some = tt; room = rw is (omega arith); few = omega (arith, ap length none) }
 
 -- a record in hand is known by what comes next
 pub within : (r : Relay) (here : Spot) (begun : List ℕ) → Keeps r here begun → is_within r.coming ≡ is_some (in_hand here)
@@ -169,14 +171,14 @@ module _ {r : Relay} {bytes : List ℕ} (s : StandsForBytes r bytes) where
 -- ---- the clauses of a step, for each list that the relay stands for
 
 module _ (r t : Relay) (old new before now : Option (List ℕ)) (result : Result Step RelayAnswer) (moved : (here : Spot) (begun : List ℕ) → Keeps r here begun → StepMoved here begun r t old new before now result) (bytes : List ℕ) (s : StandsForBytes r bytes) where
-  stops : Stops s.here s.begun old new before now → StopsInside s.here bytes old new before now
+  stops : Stops s.here s.begun old new before now → StopsInside s.here s.begun bytes old new before now
   stops (wrote, w, (place, is), cuts) = (wrote, w, (place, s.same wrote ∙ is))
 
   refused : (place : Place) (cause : Cause) (o : Option (List ℕ)) → Refuses s.here s.begun o new place cause → IsRefusedBehind bytes o new place cause
   refused place cause None f = tt
   refused place cause (Some left) f = (f.0, s.same left ∙ f.1, f.2)
 
-  writes : (place : Place) → WritesSome s.here s.begun old new before now place → WritesSomeBehind s.here bytes old new before now place
+  writes : (place : Place) → WritesSome s.here s.begun old new before now place → WritesSomeBehind s.here s.begun bytes old new before now place
   writes place (wrote, w, first, (fault, rest, is), cuts, at) = (wrote, w, first, (fault, rest, s.same wrote ∙ is), at)
 
   by_result : (q : Result Step RelayAnswer) → MovedBy s.here s.begun r t old new before now q → StepSays s.here s.begun bytes r t old new before now q
@@ -263,7 +265,7 @@ pub record Gathered (waiting : List ℕ) (old new before now : Option (List ℕ)
   pub leads : LeadsTo (wrote ++ waiting) here begun
   pub same : (more : List ℕ) → open_stream_at ((wrote ++ waiting) ++ more) ≡ spot here (begun ++ more)
   pub some : HasBytes here
-  pub inside : is_judged_first here ≡ true → length begun + length rest ≤ held here
+  pub inside : length begun + length rest ≤ most_of_part here
   pub cuts : FrontsAreCut AtStart [] (wrote ++ waiting)
   pub taken : Consumes old new ((wrote ++ waiting) ++ rest)
   pub written : Appends before now wrote
@@ -448,15 +450,15 @@ module _ (r t : Relay) (waiting waits : List ℕ) (old mid new before now : Opti
   cuts_on piece is cuts = subst (FrontsAreCut AtStart []) (longer piece is) (fronts_on (h.wrote ++ waiting) piece s.here s.begun s.same h.cuts cuts)
 
   -- a piece was passed on, and the rest taken
-  gather : (piece rest : List ℕ) → waits ≡ waiting ++ piece → length piece + length rest ≤ held s.here → FrontsAreCut s.here s.begun piece → Consumes mid new (piece ++ rest) → Gathered waits old new before now
-  gather piece rest is few cuts taken = record {
+  gather : (piece rest : List ℕ) → waits ≡ waiting ++ piece → length piece + length rest ≤ held s.here → length s.begun + (length piece + length rest) ≤ most_of_part s.here → FrontsAreCut s.here s.begun piece → Consumes mid new (piece ++ rest) → Gathered waits old new before now
+  gather piece rest is few sized cuts taken = record {
     wrote = h.wrote;
     rest = rest;
     here = s.here;
     begun = s.begun ++ piece;
     leads = subst (λ l. LeadsTo l s.here (s.begun ++ piece)) (longer piece is) (begins_part (h.wrote ++ waiting) piece s.here s.begun s.leads);
     some = (is_at r s.here s.begun s.keeps).some;
-    inside = λ judged. omega (arith, few, length-append s.begun piece, ap length ((is_at r s.here s.begun s.keeps).unbegun judged));
+    inside = omega (arith, sized, length-append s.begun piece);
     same = λ more. ap (λ l. open_stream_at (l ++ more)) (sym (longer piece is)) ∙ ap open_stream_at (append_assoc (h.wrote ++ waiting) piece more) ∙ s.same (piece ++ more) ∙ ap (spot s.here) (sym (append_assoc s.begun piece more));
     cuts = cuts_on piece is cuts;
     taken = subst (Consumes old new) (sym (append_assoc (h.wrote ++ waiting) piece rest) ∙ ap (λ l. l ++ rest) (longer piece is)) (Consumes-trans old mid new (h.wrote ++ waiting) (piece ++ rest) h.taken taken);
@@ -469,7 +471,7 @@ module _ (r t : Relay) (waiting waits : List ℕ) (old mid new before now : Opti
   cut_here : Stops s.here s.begun mid new (Some waiting) (Some waits) → Cut waits old new before now
   unfolding gather
   cut_here (wrote, w, (place, is), cuts) = record {
-    g = gather wrote w.others w.written w.few cuts w.taken;
+    g = gather wrote w.others w.written w.few w.inside cuts w.taken;
     cut = (place, ap open_stream_at (sym (longer wrote w.written)) ∙ s.same wrote ∙ is);
   }
 
@@ -485,7 +487,7 @@ module _ (r t : Relay) (waiting waits : List ℕ) (old mid new before now : Opti
   refused_here : (place : Place) (cause : Cause) → Refuses s.here s.begun mid new place cause → WritesSome s.here s.begun mid new (Some waiting) (Some waits) place → Refusal waits old new before now place cause
   unfolding gather
   refused_here place cause f (wrote, w, first, (fault, rest, is), cuts, at) = record {
-    g = gather wrote w.others w.written w.few cuts w.taken;
+    g = gather wrote w.others w.written w.few w.inside cuts w.taken;
     refused = refused_on old place cause h.taken f;
     unfinished = (fault, rest, ap open_stream_at (sym (longer wrote w.written)) ∙ s.same wrote ∙ is);
     at = at;
@@ -501,11 +503,11 @@ module _ (r t : Relay) (waiting waits : List ℕ) (old mid new before now : Opti
   ends_on Memory m = cut_here m.is
 
   more_gathered : (step : Step) → PassedPiece s.here s.begun step r t mid new (Some waiting) (Some waits) → Gathered waits old new before now
-  more_gathered step g = gather g.piece [] g.written (omega (arith, g.small)) g.cuts (subst (Consumes mid new) (sym (append-nil g.piece)) g.taken)
+  more_gathered step g = gather g.piece [] g.written (omega (arith, g.small)) (omega (arith, g.inside)) g.cuts (subst (Consumes mid new) (sym (append-nil g.piece)) g.taken)
 
   -- what waits behind a step, whatever it answered
   pub gathers : (result : Result Step RelayAnswer) → StepMoved s.here s.begun r t mid new (Some waiting) (Some waits) result → Gathered waits old new before now
-  gathers (Ok steps.Done) m = gather [] [] (m.is.3 ∙ sym (append-nil waiting)) (omega arith) (none_shorter s.here s.begun) (left_alone mid new m.is.2)
+  gathers (Ok steps.Done) m = gather [] [] (m.is.3 ∙ sym (append-nil waiting)) (omega arith) (omega (arith, (is_at r s.here s.begun s.keeps).few)) (none_shorter s.here s.begun) (left_alone mid new m.is.2)
   gathers (Ok step) m = more_gathered step m.is
   gathers (Err answer) m = of_ends waits old new before now answer (ends_on answer m)
 
@@ -627,7 +629,7 @@ turn_over {t} {waits} {old} {new} {before} {now} relayed step is turn records by
 
 -- what waits where no step more is taken
 at_rest : (r : Relay) (waiting : List ℕ) (old new before now : Option (List ℕ)) → HasPassed r waiting old new before now → Fits r waiting → Gathered waiting old new before now
-at_rest r waiting old new before now h fits = gather r r waiting waiting old new new before now h fits [] [] (sym (append-nil waiting)) (omega arith) (none_shorter h.stands.here h.stands.begun) (left_alone new new (stays new))
+at_rest r waiting old new before now h fits = gather r r waiting waiting old new new before now h fits [] [] (sym (append-nil waiting)) (omega arith) (omega (arith, (is_at r h.stands.here h.stands.begun h.stands.keeps).few)) (none_shorter h.stands.here h.stands.begun) (left_alone new new (stays new))
 
 -- it couldn't be written
 pub rest_broke_off : (r : Relay) (waiting : List ℕ) (old new before now later : Option (List ℕ)) → HasPassed r waiting old new before now → Fits r waiting → AppendsPart now later waiting → IsRelayed old new before later (Err WriteFault)

@@ -5,7 +5,7 @@ use Rattle.mig_relay.specs.Streams.{open_stream_at}
 use Rattle.mig_relay.specs.Following.{LeadsTo, pages_to_come, place_of_spot}
 use Rattle.mig_relay.specs.Keeping.{HasRecords}
 use Rattle.mig_relay.specs.Parts.{AtBody, AtPages}
-use Rattle.mig_relay.specs.Spots.{Spot, AtStart, AtLibxlBody, InImage, spot, held}
+use Rattle.mig_relay.specs.Spots.{Spot, AtStart, AtLibxlBody, InImage, spot, held, most_of_part}
 use Rattle.mig_relay.specs.Standing.{StandsForBytes, IsRefusedBehind, is_at_end}
 use Rattle.mig_relay.specs.Steps.{FrontsAreCut, EndsInside, is_judged_first}
 use Rattle.mig_relay.specs.Waiting.{Fits, most_waiting}
@@ -26,18 +26,18 @@ pub record PassedWhole (old new : Option (List ℕ)) (before now : Option (List 
   pub bytes : relayed.bytes ≡ min (length front) (2 ^ 64 - 1)
   pub records : HasRecords relayed.records s
 
--- What comes next has bytes: a body, and nothing is wrong with the head of an image's record in front of it; and of pages
--- there is one.
+-- A body that comes next has one byte at least, and of an image's record the head in front of it has no fault. Where pages
+-- come next, there is one at least.
 abbrev pub HasBytes : Spot → Type 0
 HasBytes (AtLibxlBody records head) = 0 < head.len
 HasBytes (InImage outer (AtBody o records head)) = (0 < head.len) × (fault_of_fields (before o records) head.kind head.len ≡ None)
 HasBytes (InImage outer (AtPages o records head coming stood)) = 0 < pages_to_come coming
 HasBytes _ = ⊤
 
--- Of the bytes that were taken, these others aren't written. The first of them were passed on and wait. What was passed on
--- leads to a part, of which it has the bytes begun, and the rest was taken of that part: together no more than it has, where
--- it is no body. The others are at most 8 for each word of the part's PAGE_DATA, and 4608; and the rest alone is no more
--- than the part has, and of a body than 4096.
+-- Of the bytes that were taken, these others aren't written. Some first bytes of the others were passed on and wait. All that
+-- was passed on leads to a part, and its last bytes, those begun, are first bytes of that part. The rest was taken of the same
+-- part. Those begun and the rest together are no more than the part has. The others are at most 4608, and 8 more for each word
+-- of the part's PAGE_DATA. Of a body the rest is at most 4096 bytes.
 pub record AreHeld (wrote others : List ℕ) : Type 0 where
   pub waiting : List ℕ
   pub rest : List ℕ
@@ -47,7 +47,7 @@ pub record AreHeld (wrote others : List ℕ) : Type 0 where
   pub leads : LeadsTo (wrote ++ waiting) here begun
   pub same : (more : List ℕ) → open_stream_at ((wrote ++ waiting) ++ more) ≡ spot here (begun ++ more)
   pub some : HasBytes here
-  pub inside : is_judged_first here ≡ true → length begun + length rest ≤ held here
+  pub inside : length begun + length rest ≤ most_of_part here
   pub few : length others ≤ most_waiting here
   pub rest_few : length rest ≤ held here
 

@@ -66,8 +66,8 @@ number_of_words (InImage outer (AtWords o records head n)) = n
 number_of_words (InImage outer (AtPages o records head coming stood)) = length stood + length coming
 number_of_words _ = 0
 
--- How many bytes of the part that comes next may have been taken and not written: all that it has, which are at most 8 of a
--- padding, and of a body a piece of 4096.
+-- How many bytes of the part that comes next may have been taken and not written. Of a body it is a piece of 4096 bytes. Of
+-- every other part it is all that the part has, and a padding has at most 8.
 abbrev pub held_of_next : Next → ℕ
 held_of_next AtVersion = 16
 held_of_next (AtKind version) = 16
@@ -81,3 +81,13 @@ held (AtLibxlBody records head) = 4096
 held (InImage outer next) = held_of_next next
 held (AtEnd s) = 0
 held _ = 8
+
+-- how many bytes the part that comes next has at most: a body its whole length
+abbrev pub most_of_next : Next → ℕ
+most_of_next (AtBody o records head) = head.len
+most_of_next next = held_of_next next
+
+abbrev pub most_of_part : Spot → ℕ
+most_of_part (AtLibxlBody records head) = head.len
+most_of_part (InImage outer next) = most_of_next next
+most_of_part here = held here

@@ -5,7 +5,7 @@ use Rattle.mig_relay.specs.Common.{Faulty, Cause, Place, StreamOf}
 use Rattle.mig_relay.specs.Streams.{open_stream_at, IsPassable}
 use Rattle.mig_relay.specs.Following.{ComesNext, LeadsTo, place_of_spot}
 use Rattle.mig_relay.specs.Keeping.{Keeps, HasRecords}
-use Rattle.mig_relay.specs.Spots.{Spot, spot, held}
+use Rattle.mig_relay.specs.Spots.{Spot, spot}
 use Rattle.mig_relay.specs.Steps.{IsStep, EndsInside, IsUnfinished, WritesFront, is_judged_first}
 use Rattle.mig_relay.specs.declared.answer.RelayAnswer.{RelayAnswer}
 use Rattle.mig_relay.specs.declared.answer.RelayAnswer.TheVariants.{Refused, ReadFault, WriteFault, Memory}
@@ -79,23 +79,24 @@ IsRefusedBehind bytes (Some left) new place cause = (rest : List ℕ) × (open_s
 
 -- some first bytes of what was taken were written, none of a part that is judged first, and no stream stands whole in them;
 -- and the place of the part is this one
-abbrev pub WritesSomeBehind : Spot → List ℕ → Option (List ℕ) → Option (List ℕ) → Option (List ℕ) → Option (List ℕ) → Place → Type 0
-WritesSomeBehind here bytes old new before now place = (wrote : List ℕ) × WritesFront (held here) old new before now wrote × (is_judged_first here ≡ true → wrote ≡ []) × IsUnfinished (open_stream_at (bytes ++ wrote)) × (place_of_spot here ≡ Some place)
+abbrev pub WritesSomeBehind : Spot → List ℕ → List ℕ → Option (List ℕ) → Option (List ℕ) → Option (List ℕ) → Option (List ℕ) → Place → Type 0
+WritesSomeBehind here begun bytes old new before now place = (wrote : List ℕ) × WritesFront here begun old new before now wrote × (is_judged_first here ≡ true → wrote ≡ []) × IsUnfinished (open_stream_at (bytes ++ wrote)) × (place_of_spot here ≡ Some place)
 
 -- it stopped in a part, before that was written whole
-abbrev pub StopsInside : Spot → List ℕ → Option (List ℕ) → Option (List ℕ) → Option (List ℕ) → Option (List ℕ) → Type 0
-StopsInside here bytes old new before now = (wrote : List ℕ) × WritesFront (held here) old new before now wrote × EndsInside (open_stream_at (bytes ++ wrote))
+abbrev pub StopsInside : Spot → List ℕ → List ℕ → Option (List ℕ) → Option (List ℕ) → Option (List ℕ) → Option (List ℕ) → Type 0
+StopsInside here begun bytes old new before now = (wrote : List ℕ) × WritesFront here begun old new before now wrote × EndsInside (open_stream_at (bytes ++ wrote))
 
--- What a step does, for bytes that the relay stands for, of which the last were begun of what comes next. Done: they are passable. Another
--- value: a piece more was passed on. An error: the bytes with those left are refused, or the source, the sink or memory
--- failed inside the part.
+-- What a step does, for bytes that the relay stands for. The last of them were begun of the part that comes next.
+-- Done: the bytes are passable.
+-- Another value: a piece more was passed on.
+-- An error: the bytes with those left are refused; or the source, the sink or memory failed inside the part.
 abbrev pub StepSays : Spot → List ℕ → List ℕ → Relay → Relay → Option (List ℕ) → Option (List ℕ) → Option (List ℕ) → Option (List ℕ) → Result Step RelayAnswer → Type 0
 StepSays here begun bytes r t old new before now (Ok Done) = (s : StreamOf) × IsPassable bytes s × Stays old new × Stays before now × HasRecords r.seen.records s
 StepSays here begun bytes r t old new before now (Ok step) = PassesOn here begun bytes step r t old new before now
-StepSays here begun bytes r t old new before now (Err (Refused place cause)) = IsRefusedBehind bytes old new place cause × WritesSomeBehind here bytes old new before now place
-StepSays here begun bytes r t old new before now (Err ReadFault) = StopsInside here bytes old new before now
-StepSays here begun bytes r t old new before now (Err WriteFault) = StopsInside here bytes old new before now
-StepSays here begun bytes r t old new before now (Err Memory) = StopsInside here bytes old new before now
+StepSays here begun bytes r t old new before now (Err (Refused place cause)) = IsRefusedBehind bytes old new place cause × WritesSomeBehind here begun bytes old new before now place
+StepSays here begun bytes r t old new before now (Err ReadFault) = StopsInside here begun bytes old new before now
+StepSays here begun bytes r t old new before now (Err WriteFault) = StopsInside here begun bytes old new before now
+StepSays here begun bytes r t old new before now (Err Memory) = StopsInside here begun bytes old new before now
 
 -- whether a step's answer leaves a relay that goes on
 abbrev pub goes_on : Result Step RelayAnswer → Bool

@@ -8,7 +8,7 @@ use Rattle.mig_records.specs.Words.{words as words_in}
 use Rattle.mig_relay.specs.Following.{ComesNext, place_of_spot}
 use Rattle.mig_relay.specs.Keeping.{Keeps, HasRecords, words_in_hand}
 use Rattle.mig_relay.specs.Parts.{AtMarker, AtVersion, AtKind, AtHead, AtBody, AtFront, AtWords, AtPages, AtPadding}
-use Rattle.mig_relay.specs.Spots.{Spot, AtStart, AtLibxlHeader, AtLibxlHead, AtLibxlBody, AtLibxlPadding, InImage, spot, held}
+use Rattle.mig_relay.specs.Spots.{Spot, AtStart, AtLibxlHeader, AtLibxlHead, AtLibxlBody, AtLibxlPadding, InImage, spot, held, most_of_part}
 use Rattle.mig_relay.specs.declared.answer.RelayAnswer.{RelayAnswer}
 use Rattle.mig_relay.specs.declared.answer.RelayAnswer.TheVariants.{Refused, ReadFault, WriteFault, Memory}
 use Rattle.mig_relay.specs.declared.answer.Step.{Step}
@@ -90,16 +90,19 @@ pub record PassedPiece (here : Spot) (begun : List ℕ) (step : Step) (r t : Rel
   pub same : (more : List ℕ) → spot here (begun ++ (piece ++ more)) ≡ spot next (front ++ more)
   pub keeps : Keeps t next front
   pub small : length piece ≤ held here
+  pub inside : length begun + length piece ≤ most_of_part here
   pub cuts : FrontsAreCut here begun piece
   pub follows : ComesNext here begun piece next front
   pub count : t.passed ≡ counted r.passed (length piece)
   pub is : IsStep here piece t step
   pub words : KeepsWordsInHand r t step
 
--- at most so many bytes were taken, and the first of them written
-pub record WritesFront (most : ℕ) (old new : Option (List ℕ)) (before now : Option (List ℕ)) (wrote : List ℕ) : Type 0 where
+-- Of the bytes that were taken the first were written. They are no more than may be held of the part that comes next. With
+-- those begun before they are no more than it has.
+pub record WritesFront (here : Spot) (begun : List ℕ) (old new : Option (List ℕ)) (before now : Option (List ℕ)) (wrote : List ℕ) : Type 0 where
   pub others : List ℕ
-  pub few : length wrote + length others ≤ most
+  pub few : length wrote + length others ≤ held here
+  pub inside : length begun + (length wrote + length others) ≤ most_of_part here
   pub taken : Consumes old new (wrote ++ others)
   pub written : Appends before now wrote
 
@@ -115,7 +118,7 @@ is_judged_first _ = true
 
 -- some first bytes of what was taken were written, and none of a part that is judged first; and its place is this one
 abbrev pub WritesSome : Spot → List ℕ → Option (List ℕ) → Option (List ℕ) → Option (List ℕ) → Option (List ℕ) → Place → Type 0
-WritesSome here begun old new before now place = (wrote : List ℕ) × WritesFront (held here) old new before now wrote × (is_judged_first here ≡ true → wrote ≡ []) × IsUnfinished (spot here (begun ++ wrote)) × FrontsAreCut here begun wrote × (place_of_spot here ≡ Some place)
+WritesSome here begun old new before now place = (wrote : List ℕ) × WritesFront here begun old new before now wrote × (is_judged_first here ≡ true → wrote ≡ []) × IsUnfinished (spot here (begun ++ wrote)) × FrontsAreCut here begun wrote × (place_of_spot here ≡ Some place)
 
 -- the bytes that are left are refused, and all up to the end of the faulty part was taken
 abbrev pub Refuses : Spot → List ℕ → Option (List ℕ) → Option (List ℕ) → Place → Cause → Type 0
@@ -124,7 +127,7 @@ Refuses here begun (Some left) new place cause = (rest : List ℕ) × (spot here
 
 -- the relay stopped in a part, before it was written whole
 abbrev pub Stops : Spot → List ℕ → Option (List ℕ) → Option (List ℕ) → Option (List ℕ) → Option (List ℕ) → Type 0
-Stops here begun old new before now = (wrote : List ℕ) × WritesFront (held here) old new before now wrote × EndsInside (spot here (begun ++ wrote)) × FrontsAreCut here begun wrote
+Stops here begun old new before now = (wrote : List ℕ) × WritesFront here begun old new before now wrote × EndsInside (spot here (begun ++ wrote)) × FrontsAreCut here begun wrote
 
 abbrev pub MovedBy : Spot → List ℕ → Relay → Relay → Option (List ℕ) → Option (List ℕ) → Option (List ℕ) → Option (List ℕ) → Result Step RelayAnswer → Type 0
 MovedBy here begun r t old new before now (Ok Done) = (s : StreamOf) × ((more : List ℕ) → spot here (begun ++ more) ≡ Passes s more) × Stays old new × Stays before now × HasRecords r.seen.records s

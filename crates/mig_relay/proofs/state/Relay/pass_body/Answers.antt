@@ -7,13 +7,13 @@ use Rattle.mig_relay.proofs.state.Relay.pass_body.Goals as goal
 pub returns-in-Err-clause-moved : goal.returns-in-Err-clause-moved
 returns-in-Err-clause-moved g c outer o records begun around kept other first body =
     let size : length c.take_part.new.buf ≡ c.next_piece-count.result = c.take_part.auto.buf ∙ grind (arith, common_steps, c.next_piece-count.ensures.most) in
-    stopped _ _ _ _ _ (body_part outer o records c.args.head other (omega (arith, body.less))) begun _ _ _ _ _ _ c.take_part.new.buf c.in-Err.stop _ (c.answer.ensures ∙ ap (λ n. answer_of (Record n) c.in-Err.stop) (c.from.ensures ∙ this_number _ o records _ kept.seen))
+    stopped _ _ _ _ _ (body_part outer o records c.args.head other (omega (arith, body.less))) (omega arith) begun _ _ _ _ _ _ c.take_part.new.buf c.in-Err.stop _ (c.answer.ensures ∙ ap (λ n. answer_of (Record n) c.in-Err.stop) (c.from.ensures ∙ this_number _ o records _ kept.seen))
     (omega (arith, size, body.known.taken, c.next_piece-count.ensures.within, body.len)) (omega (arith, size, c.next_piece-count.ensures.some)) refl c.in-Err.ensures.read (omega (arith, size, c.next_piece-count.ensures.most)) c.in-Err.ensures.few refl
 
 pub returns-in-Err-put-clause-moved : goal.returns-in-Err-put-clause-moved
 returns-in-Err-put-clause-moved g c outer o records begun around kept other first body =
     let size : length c.take_part.new.buf ≡ c.next_piece-count.result = c.take_part.auto.buf ∙ grind (arith, common_steps, c.next_piece-count.ensures.most) in
-    unwritten _ _ _ _ _ (body_part outer o records c.args.head other (omega (arith, body.less))) begun _ _ _ _ _ _ c.take_part.new.buf _ (omega (arith, size, c.next_piece-count.ensures.most)) (omega (arith, size, body.known.taken, c.next_piece-count.ensures.within, body.len))
+    unwritten _ _ _ _ _ (body_part outer o records c.args.head other (omega (arith, body.less))) (omega arith) begun _ _ _ _ _ _ c.take_part.new.buf _ (omega (arith, size, c.next_piece-count.ensures.most)) (omega (arith, size, body.known.taken, c.next_piece-count.ensures.within, body.len))
     c.in_default.ensures.read c.in-Err-put.ensures.bytes
 
 pub returns-then-self-clause-moved : goal.returns-then-self-clause-moved
@@ -30,7 +30,7 @@ returns-then-self-clause-moved g c outer o records begun around kept other first
     (λ more. c.top_behind-self.ensures.later (omega (arith, begins, more)) ∙ ap (λ (r : Relay). r.top) same) in
     record {
       is =
-          goes_on _ _ _ _ _ (body_part outer o records c.args.head other (omega (arith, body.less))) begun c.args.self.now _ _ _ _ _ buf _ (InImage outer (AtBody o records c.args.head)) (begun ++ buf) Piece (omega (arith, size, body.known.taken, c.next_piece-count.ensures.within, body.len)) (omega (arith, size, c.next_piece-count.ensures.most)) some
+          goes_on _ _ _ _ _ (body_part outer o records c.args.head other (omega (arith, body.less))) (omega arith) begun c.args.self.now _ _ _ _ _ buf _ (InImage outer (AtBody o records c.args.head)) (begun ++ buf) Piece (omega (arith, size, body.known.taken, c.next_piece-count.ensures.within, body.len)) (omega (arith, size, c.next_piece-count.ensures.most)) some
           c.in_default.ensures.read c.in_default-put.ensures.bytes (λ more. ap (spot (InImage outer (AtBody o records c.args.head))) (sym (append_assoc begun buf more))) (
             outer_same c.args.self.now _ outer (ap (λ (r : Relay). r.wrapper) same) around,
             (
@@ -61,7 +61,7 @@ returns-in-Some-clause-moved g c outer o records begun around kept other first b
     let taken : c.pass.new.self.taken ≡ c.args.self.now.body.taken + length buf = c.pass.ensures.taken ∙ ap (λ (r : Relay). r.body.taken + length buf) same in
     let known = c.pass.ensures.begun (fault_of_record_body c.args.head.kind) begun (subst (λ (r : Relay). IsBegunBody r.body (fault_of_record_body c.args.head.kind) begun) (sym same) body.known) in
     let whole : length (begun ++ buf) ≡ c.args.head.len = omega (arith, length-append begun buf, size, len, taken, body.known.taken, body.len, c.next_piece-count.ensures.within, c.if-self.false) in
-    refused_behind _ _ _ _ _ (body_part outer o records c.args.head other (omega (arith, body.less))) begun _ _ _ _ _ _ buf _ c.in-Some.cause _ (ap (λ n. Refused (Record n) c.in-Some.cause) (c.from.ensures ∙ this_number _ o records _ kept.seen)) whole
+    refused_behind _ _ _ _ _ (body_part outer o records c.args.head other (omega (arith, body.less))) (omega arith) begun _ _ _ _ _ _ buf _ c.in-Some.cause _ (ap (λ n. Refused (Record n) c.in-Some.cause) (c.from.ensures ∙ this_number _ o records _ kept.seen)) whole
     (sym (c.fault.ensures (fault_of_record_body c.args.head.kind) (begun ++ buf) known) ∙ c.in-Some.is) c.in_default.ensures.read (omega (arith, size, c.next_piece-count.ensures.most)) c.in_default-put.ensures.bytes refl refl
 
 pub returns-clause-moved : goal.returns-clause-moved
@@ -86,7 +86,7 @@ returns-clause-moved g c outer o records begun around kept other first body =
     c.behind_body-self.ensures.padding c.behind_body-self.ensures.none in
     record {
       is =
-          goes_on _ _ _ _ _ is begun c.args.self.now _ _ _ _ _ buf _ b.next [] Piece (omega (arith, size, body.known.taken, c.next_piece-count.ensures.within, body.len)) (omega (arith, size, c.next_piece-count.ensures.most)) some c.in_default.ensures.read c.in_default-put.ensures.bytes
+          goes_on _ _ _ _ _ is (omega arith) begun c.args.self.now _ _ _ _ _ buf _ b.next [] Piece (omega (arith, size, body.known.taken, c.next_piece-count.ensures.within, body.len)) (omega (arith, size, c.next_piece-count.ensures.most)) some c.in_default.ensures.read c.in_default-put.ensures.bytes
           (λ more. ap (spot (InImage outer (AtBody o records c.args.head))) (sym (append_assoc begun buf more))
           ∙ passes (InImage outer (AtBody o records c.args.head)) _ _ _ _ is (begun ++ buf) more whole (sym (c.fault.ensures (fault_of_record_body c.args.head.kind) (begun ++ buf) known) ∙ c.in_default-fault.is) ∙ b.same more)
           b.keeps (ap (λ (r : Relay). r.passed) same) (refl, omega (arith, size, c.next_piece-count.ensures.most)) (λ _. ap (λ (r : Relay). r.words.items) same) (b.follows begun buf (omega (arith, whole, length-append begun buf)));

@@ -9,13 +9,13 @@ use Rattle.mig_relay.proofs.state.Relay.pass_libxl_body.Goals as goal
 pub returns-in-Err-clause-moved : goal.returns-in-Err-clause-moved
 returns-in-Err-clause-moved g c records begun kept bodied body =
     let size : length c.take_part.new.buf ≡ c.next_piece-count.result = c.take_part.auto.buf ∙ grind (arith, common_steps, c.next_piece-count.ensures.most) in
-    stopped _ _ _ _ _ (libxl_body_is records c.args.head (omega (arith, body.less))) begun _ _ _ _ _ _ c.take_part.new.buf c.in-Err.stop _ (c.answer.ensures ∙ ap (λ n. answer_of (AtRecord n) c.in-Err.stop) (c.from.ensures ∙ libxl_number c.args.self.now records c.in-Some.behind kept.0 c.in-Some.is))
+    stopped _ _ _ _ _ (libxl_body_is records c.args.head (omega (arith, body.less))) (omega arith) begun _ _ _ _ _ _ c.take_part.new.buf c.in-Err.stop _ (c.answer.ensures ∙ ap (λ n. answer_of (AtRecord n) c.in-Err.stop) (c.from.ensures ∙ libxl_number c.args.self.now records c.in-Some.behind kept.0 c.in-Some.is))
     (omega (arith, size, body.known.taken, c.next_piece-count.ensures.within, body.len)) (omega (arith, size, c.next_piece-count.ensures.some)) refl c.in-Err.ensures.read (omega (arith, size, c.next_piece-count.ensures.most)) c.in-Err.ensures.few refl
 
 pub returns-in-Err-put-clause-moved : goal.returns-in-Err-put-clause-moved
 returns-in-Err-put-clause-moved g c records begun kept bodied body =
     let size : length c.take_part.new.buf ≡ c.next_piece-count.result = c.take_part.auto.buf ∙ grind (arith, common_steps, c.next_piece-count.ensures.most) in
-    unwritten _ _ _ _ _ (libxl_body_is records c.args.head (omega (arith, body.less))) begun _ _ _ _ _ _ c.take_part.new.buf _ (omega (arith, size, c.next_piece-count.ensures.most)) (omega (arith, size, body.known.taken, c.next_piece-count.ensures.within, body.len))
+    unwritten _ _ _ _ _ (libxl_body_is records c.args.head (omega (arith, body.less))) (omega arith) begun _ _ _ _ _ _ c.take_part.new.buf _ (omega (arith, size, c.next_piece-count.ensures.most)) (omega (arith, size, body.known.taken, c.next_piece-count.ensures.within, body.len))
     c.in_default-take_part.ensures.read c.in-Err-put.ensures.bytes
 
 pub returns-then-self-clause-moved : goal.returns-then-self-clause-moved
@@ -26,7 +26,7 @@ returns-then-self-clause-moved g c records begun kept bodied body =
     let taken : c.pass.new.self.taken ≡ c.args.self.now.body.taken + length c.take_part.new.buf = c.pass.ensures.taken ∙ ap (λ (r : Relay). r.body.taken + length c.take_part.new.buf) same in
     record {
       is =
-          goes_on _ _ _ _ _ (libxl_body_is records c.args.head (omega (arith, body.less))) begun c.args.self.now _ _ _ _ _ c.take_part.new.buf _ (AtLibxlBody records c.args.head) (begun ++ c.take_part.new.buf) Piece (omega (arith, size, body.known.taken, c.next_piece-count.ensures.within, body.len)) (omega (arith, size, c.next_piece-count.ensures.most)) (omega (arith, size, c.next_piece-count.ensures.some))
+          goes_on _ _ _ _ _ (libxl_body_is records c.args.head (omega (arith, body.less))) (omega arith) begun c.args.self.now _ _ _ _ _ c.take_part.new.buf _ (AtLibxlBody records c.args.head) (begun ++ c.take_part.new.buf) Piece (omega (arith, size, body.known.taken, c.next_piece-count.ensures.within, body.len)) (omega (arith, size, c.next_piece-count.ensures.most)) (omega (arith, size, c.next_piece-count.ensures.some))
           c.in_default-take_part.ensures.read c.in_default-put.ensures.bytes (λ more. ap (spot (AtLibxlBody records c.args.head)) (sym (append_assoc begun c.take_part.new.buf more))) (
             ap (λ (r : Relay). r.coming) same ∙ c.requires.coming,
             (going_same c.args.self.now _ records (ap (λ (r : Relay). r.wrapper) same) (ap (λ (r : Relay). r.seen) same) kept.0, kept.1),
@@ -49,7 +49,7 @@ returns-in-Some-fault-clause-moved g c records begun kept bodied body =
     let taken : c.pass.new.self.taken ≡ c.args.self.now.body.taken + length c.take_part.new.buf = c.pass.ensures.taken ∙ ap (λ (r : Relay). r.body.taken + length c.take_part.new.buf) same in
     let known = c.pass.ensures.begun (fault_of_libxl_body c.args.head.kind) begun (subst (λ (r : Relay). IsBegunBody r.body (fault_of_libxl_body c.args.head.kind) begun) (sym same) body.known) in
     let whole : length (begun ++ c.take_part.new.buf) ≡ c.args.head.len = omega (arith, length-append begun c.take_part.new.buf, size, len, taken, body.known.taken, body.len, c.next_piece-count.ensures.within, c.if-self.false) in
-    refused_behind _ _ _ _ _ (libxl_body_is records c.args.head (omega (arith, body.less))) begun _ _ _ _ _ _ c.take_part.new.buf _ c.in-Some-fault.cause _
+    refused_behind _ _ _ _ _ (libxl_body_is records c.args.head (omega (arith, body.less))) (omega arith) begun _ _ _ _ _ _ c.take_part.new.buf _ c.in-Some-fault.cause _
     (ap (λ n. Refused (AtRecord n) c.in-Some-fault.cause) (c.from.ensures ∙ libxl_number c.args.self.now records c.in-Some.behind kept.0 c.in-Some.is)) whole
     (sym (c.fault.ensures (fault_of_libxl_body c.args.head.kind) (begun ++ c.take_part.new.buf) known) ∙ c.in-Some-fault.is) c.in_default-take_part.ensures.read (omega (arith, size, c.next_piece-count.ensures.most)) c.in_default-put.ensures.bytes refl refl
 
@@ -67,7 +67,7 @@ returns-clause-moved g c records begun kept bodied body =
     (ap (λ (r : Relay). r.wrapper) same) (ap (λ (r : Relay). r.seen) same) c.end_libxl_body.ensures.padding c.end_libxl_body.ensures.none in
     record {
       is =
-          goes_on _ _ _ _ _ is begun c.args.self.now _ _ _ _ _ c.take_part.new.buf _ b.next [] Piece (omega (arith, size, body.known.taken, c.next_piece-count.ensures.within, body.len)) (omega (arith, size, c.next_piece-count.ensures.most)) (omega (arith, size, c.next_piece-count.ensures.some)) c.in_default-take_part.ensures.read c.in_default-put.ensures.bytes
+          goes_on _ _ _ _ _ is (omega arith) begun c.args.self.now _ _ _ _ _ c.take_part.new.buf _ b.next [] Piece (omega (arith, size, body.known.taken, c.next_piece-count.ensures.within, body.len)) (omega (arith, size, c.next_piece-count.ensures.most)) (omega (arith, size, c.next_piece-count.ensures.some)) c.in_default-take_part.ensures.read c.in_default-put.ensures.bytes
           (λ more. ap (spot (AtLibxlBody records c.args.head)) (sym (append_assoc begun c.take_part.new.buf more))
           ∙ passes (AtLibxlBody records c.args.head) _ _ _ _ is (begun ++ c.take_part.new.buf) more whole (sym (c.fault.ensures (fault_of_libxl_body c.args.head.kind) (begun ++ c.take_part.new.buf) known) ∙ c.in_default-fault.is) ∙ b.same more)
           b.keeps (b.passed ∙ ap (λ (r : Relay). r.passed) same) (refl, omega (arith, size, c.next_piece-count.ensures.most)) (λ _. b.words ∙ ap (λ (r : Relay). r.words.items) same) (b.follows begun c.take_part.new.buf (omega (arith, whole, length-append begun c.take_part.new.buf)));
