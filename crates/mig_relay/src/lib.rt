@@ -27,7 +27,7 @@ mod passable_law;
 mod state;
 
 pub use answer::{RelayAnswer, Relayed, Step};
-pub use law::lists_are_fronts;
+pub use law::{lists_are_fronts, worked_waiting};
 pub use pass::relay;
 pub use passable_law::{
     accepted_passes, fronts_pass, left_out_is_not_told, no_prefix_passes, nothing_else_is_left_out,
