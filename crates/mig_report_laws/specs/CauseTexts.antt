@@ -54,7 +54,8 @@ abbrev pub unsound_texts : List (Unsound × List ℕ)
 unsound_texts =
     (unsound.Missing 7, codes "1 Missing 7") ∷ (unsound.P2mFrame 2, codes "2 P2mFrame 2") ∷ (unsound.Superpage 3 511, codes "3 Superpage 3 511") ∷ (unsound.NoFrame 4 9, codes "4 NoFrame 4 9")
     ∷ (unsound.GdtEnts 1 7169, codes "5 GdtEnts 1 7169") ∷ (unsound.VcpuFrame 0 17, codes "6 VcpuFrame 0 17") ∷ (unsound.BadContext NoEnd, codes "7 BadContext NoEnd")
-    ∷ (unsound.BadContext (ShortEntry 32), codes "7 BadContext ShortEntry 32") ∷ []
+    ∷ (unsound.BadContext (ShortEntry 32), codes "7 BadContext ShortEntry 32") ∷ (unsound.BadContext NoHeader, codes "7 BadContext NoHeader")
+    ∷ (unsound.BadContext (HeaderSize 23), codes "7 BadContext HeaderSize 23") ∷ []
 
 -- of an address that means no frame
 abbrev pub walk_end_texts : List (WalkEnd × List ℕ)

@@ -1,4 +1,4 @@
-ghost use Rattle.std.specs.Prelude.{◌<◌, ◌≤◌, ◌^◌, ℕ, List, [], ◌∷◌, codes, decimal};
+ghost use Rattle.std.specs.Prelude.{◌≡◌, ◌<◌, ◌≤◌, ◌^◌, ℕ, List, [], ◌∷◌, codes, decimal};
 ghost use Rattle.mig_report_laws.specs.Common.{exit_code, refusal_place, text_of_cause, text_of_image_cause, text_of_legacy_cause, text_of_unsound, text_of_walk_end};
 ghost use Rattle.mig_report_laws.specs.CauseTexts.{cause_texts, image_cause_texts, legacy_cause_texts, unsound_texts, walk_end_texts};
 ghost use Rattle.mig_report_laws.specs.OtherTexts.{exit_codes, place_texts, record_names, name_of_type};
@@ -53,8 +53,8 @@ pub fn worked_exit_codes()
     ensures { Answers exit_code exit_codes }
 {}
 
-/// `exercise` takes a seed of 64 bits and from 8 to 65536 frames, and no other number of them.
+/// `exercise` takes a seed of 64 bits and from 8 to 65536 frames, both in decimal digits, and no other words name it.
 pub fn worked_exercise_words()
     ensures taken { (seed frames : ℕ) → seed < 2 ^ 64 → 8 ≤ frames → frames ≤ 65536 → Names (codes "exercise" ∷ decimal seed ∷ decimal frames ∷ []) (Exercise seed frames) }
-    ensures alone { (words : List (List ℕ)) (seed frames : ℕ) → Names words (Exercise seed frames) → (8 ≤ frames) × (frames ≤ 65536) }
+    ensures alone { (words : List (List ℕ)) (seed frames : ℕ) → Names words (Exercise seed frames) → (words ≡ codes "exercise" ∷ decimal seed ∷ decimal frames ∷ []) × (seed < 2 ^ 64) × (8 ≤ frames) × (frames ≤ 65536) }
 {}
