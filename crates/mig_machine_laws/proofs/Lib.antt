@@ -7,6 +7,7 @@ pub mod NamedFrames
 pub mod LinesApply
 pub mod LinesNamed
 pub mod WorkedExercise
+pub mod WorkedHeaders
 pub mod Batches
 pub mod LinesLeave
 pub mod CanonOrder

@@ -21,11 +21,12 @@ pub fn p2m_slots_say_machine_frames()
     ensures none { (mfn_of : ℕ → Option ℕ) (k slot : ℕ) → slot < 512 → mfn_of (512 * k + slot) ≡ None → long_at (p2m_page mfn_of k) slot ≡ 2 ^ 64 - 1 }
 {}
 
-/// rdx and the GDT's frames, fields 0 to 16, may name frames of type 0 alone; ctrlreg[3] and ctrlreg[1], fields 17 and 18, those
-/// of type 4 and 12, which are level 4 tables, not pinned and pinned; and no field may name a frame that isn't there.
-#[tactic(auto, using(crate::proofs::FieldTypes::none))]
+/// rdx and the GDT's frames, fields 0 to 16, may each name frames of type 0 alone. The fields behind them, ctrlreg[3] and
+/// ctrlreg[1], may name those of types 4 and 12 alone, which are level 4 tables, not pinned and pinned. No field may name a frame
+/// that isn't there.
+#[tactic(auto, using(crate::proofs::FieldTypes::data, crate::proofs::FieldTypes::roots, crate::proofs::FieldTypes::none))]
 pub fn worked_field_types()
-    ensures data { (types_for 0 ≡ data_types) × (types_for 1 ≡ data_types) × (types_for 16 ≡ data_types) }
-    ensures roots { (types_for 17 ≡ root_types) × (types_for 18 ≡ root_types) }
+    ensures data { (field : ℕ) → field ≤ 16 → types_for field ≡ data_types }
+    ensures roots { (field : ℕ) → 16 < field → types_for field ≡ root_types }
     ensures none { (field : ℕ) → fits_field field None ≡ false }
 {}
