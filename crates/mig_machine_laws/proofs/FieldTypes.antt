@@ -10,11 +10,11 @@ use Rattle.mig_machine_laws.specs.FieldTypes.{data_types, root_types, types_for}
 abbrev types_by : Bool → List ℕ
 types_by low = filter (λ n. cond low (is_notab (type_of n)) (is_root (type_of n))) (range_with_len 0 16)
 
-pub data : (field : ℕ) → field ≤ 16 → types_for field ≡ data_types
-data field few = ap types_by (le-leb field 16 few)
+pub for_data : (field : ℕ) → field ≤ 16 → types_for field ≡ data_types
+for_data field few = ap types_by (le-leb field 16 few)
 
-pub roots : (field : ℕ) → 16 < field → types_for field ≡ root_types
-roots field more = ap types_by (lt-leb field 16 more)
+pub for_roots : (field : ℕ) → 16 < field → types_for field ≡ root_types
+for_roots field more = ap types_by (lt-leb field 16 more)
 
 either : (low : Bool) → cond low false false ≡ false
 either true = refl

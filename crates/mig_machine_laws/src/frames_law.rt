@@ -24,7 +24,7 @@ pub fn p2m_slots_say_machine_frames()
 /// rdx and the GDT's frames, fields 0 to 16, may each name frames of type 0 alone. The fields behind them, ctrlreg[3] and
 /// ctrlreg[1], may name those of types 4 and 12 alone, which are level 4 tables, not pinned and pinned. No field may name a frame
 /// that isn't there.
-#[tactic(auto, using(crate::proofs::FieldTypes::data, crate::proofs::FieldTypes::roots, crate::proofs::FieldTypes::none))]
+#[tactic(auto, using(crate::proofs::FieldTypes::for_data, crate::proofs::FieldTypes::for_roots, crate::proofs::FieldTypes::none))]
 pub fn worked_field_types()
     ensures data { (field : ℕ) → field ≤ 16 → types_for field ≡ data_types }
     ensures roots { (field : ℕ) → 16 < field → types_for field ≡ root_types }
