@@ -14,7 +14,7 @@ Prints a row for each document, and one for all of them:
 Man pages aren't counted. With documents it prints their sentences of more than 40 words instead, as DOCUMENT:LINE: WORDS SENTENCE, where
 the line is that of the sentence's first word; `in a table:` stands before one of a cell.
 
-A sentence ends at a full stop, a question mark or an exclamation mark before a space and the beginning of another sentence, and where its
+A sentence ends at a full stop, a question mark or an exclamation mark before a space, but for "e.g." and its like, and where its
 paragraph, item or cell ends. A name in backquotes counts as the words that it has, and a link as the words of its text.
 """
 import pathlib
@@ -35,7 +35,7 @@ CELLS_APART = re.compile(r"(?<!\\)\|")
 RULE = re.compile(r"\|[\s|:-]*$")
 CODE = re.compile(r"(`+)(.+?)\1", re.S)
 LINK = re.compile(r"\]\([^)\s]*\)")
-END = re.compile(r"""(?<!\be\.g)(?<!\bi\.e)(?<!\bcf)(?<!\bvs)[.!?]["')\]*]*\s+(?=["'(\[*]*[A-Z0-9`])""")
+END = re.compile(r"""(?<!\be\.g)(?<!\bi\.e)(?<!\bcf)(?<!\bvs)(?<!\.)[.!?]["')\]*]*\s+(?=\S)""")
 WORD = re.compile(r"\S*\w\S*")
 
 
