@@ -2,23 +2,36 @@
 them there. The word is that of a table there: `STREAM` for the rows, `STREAM.1` for the list of a man page."""
 from front import causes
 
-HEADINGS = "number, name, arguments", "where", "meaning", "what can be done"
+HEADINGS = "number, name, arguments", "meaning", "what can be done"
 ESCAPES = ("\\", "\\e"), ("-", "\\-"), ("^", "\\(ha")
 
 
-def rows(table):
-    """The table of a page; without the column of places where all causes have one."""
-    has_places = any(cause.where for cause in table)
-    yield HEADINGS if has_places else HEADINGS[:1] + HEADINGS[2:]
+def spans(numbers):
+    """Numbers in few words: 2 to 4, 7."""
+    runs = []
+    for number in numbers:
+        if runs and number == runs[-1][1] + 1:
+            runs[-1][1] = number
+        else:
+            runs.append([number, number])
+    return ", ".join("%d to %d" % (first, last) if last > first + 1 else ", ".join(map(str, range(first, last + 1))) for first, last in runs)
+
+
+def places(table):
+    """A line that says where each cause comes; none where it is the same place for all."""
+    numbers = {}
     for cause in table:
-        words = "%d `%s`" % (cause.number, " ".join(filter(None, (cause.name, cause.arguments))))
-        yield (words, cause.where, cause.meaning, cause.remedy) if has_places else (words, cause.meaning, cause.remedy)
+        numbers.setdefault(cause.where, []).append(cause.number)
+    return "" if "" in numbers else "Places by cause: %s." % "; ".join("%s %s" % (spans(found), where) for where, found in numbers.items())
 
 
 def markdown(table):
-    heading, *others = rows(table)
-    lines = ["| %s |" % " | ".join(cells) for cells in others]
-    return "\n".join(["", "| %s |" % " | ".join(heading), "|" + "---|" * len(heading), *lines, "", ""])
+    rows = [("%d `%s`" % (cause.number, " ".join(filter(None, (cause.name, cause.arguments)))), cause.meaning,
+             "" if cause.remedy in causes.USUAL else cause.remedy) for cause in table]
+    lines = ["| %s |" % " | ".join(cells) for cells in [HEADINGS, ("---",) * len(HEADINGS), *rows]]
+    lines[1] = lines[1].replace(" ", "")
+    sentence = places(table)
+    return "\n".join(["", *lines, "", *([sentence, ""] if sentence else [])]) + "\n"
 
 
 def escaped(text):
@@ -37,5 +50,5 @@ def roff(table):
 
 def made(what):
     name, _, section = what.partition(".")
-    table = getattr(causes, name).values()
+    table = list(getattr(causes, name).values())
     return roff(table) if section else markdown(table)
