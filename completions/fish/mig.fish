@@ -40,7 +40,7 @@ complete -c mig -n '__fish_seen_subcommand_from compare' -l json -d 'print one J
 complete -c mig -n '__fish_seen_subcommand_from convert normalise restore' -s t -l target-directory -x -a '(__fish_complete_directories)' -d 'write one result for each PATH in DIR'
 complete -c mig -n '__fish_seen_subcommand_from convert normalise restore' -l skip-existing -d 'with -t: pass over what has its result in DIR'
 complete -c mig -n '__fish_seen_subcommand_from convert normalise relay restore save view' -l force -d 'write over OUT where it is there'
-complete -c mig -n '__fish_seen_subcommand_from convert normalise restore' -l holes -d 'leave out blocks of zeros, which take no room on the disk then (so it is)'
+complete -c mig -n '__fish_seen_subcommand_from convert normalise restore' -l holes -d 'leave out blocks of zeros, which take no room on the disk then (the default)'
 complete -c mig -n '__fish_seen_subcommand_from convert normalise restore' -l no-holes -d 'write all zeros to the disk'
 complete -c mig -n '__fish_seen_subcommand_from convert normalise restore' -l json -d 'print one JSON object, or with -t one for each file and no count'
 complete -c mig -n '__fish_seen_subcommand_from convert normalise' -l xl -d 'put xl\'s header back in front, so that `xl restore` takes OUT'
