@@ -267,7 +267,8 @@ def offer(verbs: 'Any', name: str, says: str, with_toolstacks: bool = True) -> '
     words.add_argument('--skip-existing', action='store_true', help='with -t: pass over what has its result in DIR')
     writes_over(words)
     unpacks(words)
-    words.add_argument('--holes', action='store_true', default=True, help='leave out blocks of zeros, which take no room on the disk then (the default)')
+    words.add_argument('--holes', action='store_true', default=True,
+                       help='leave out blocks of zeros, which take no room on the disk then (the default)')
     words.add_argument('--no-holes', dest='holes', action='store_false', help='write all zeros to the disk')
     in_json(words, 'print one JSON object, or with -t one for each file and no count')
     if with_toolstacks:

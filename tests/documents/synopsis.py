@@ -8,31 +8,35 @@ def escaped(text):
     return text.replace("-", "\\-")
 
 
+def bold(text):
+    return "\\fB%s\\fR" % escaped(text)
+
+
+def italic(text):
+    return "\\fI%s\\fR" % text
+
+
 def option(action):
     """An option as a page has it, with what follows it."""
-    names = " | ".join(escaped(name) for name in action.option_strings)
-    if action.nargs == 0:
-        return [".RB [ %s ]" % names]
-    return [".RB [ %s" % names, ".IR %s ]" % action.metavar]
+    names = "|".join(map(bold, action.option_strings))
+    return "[%s]" % (names if action.nargs == 0 else names + " " + italic(action.metavar))
 
 
 def positional(action):
-    if action.nargs == "*":
-        return [".RI [ %s ...]" % action.metavar]
-    return [".RI [ %s ]" % action.metavar if action.nargs == "?" else ".I " + action.metavar]
+    many = italic(action.metavar) + " ..." * (action.nargs == "*")
+    return "[%s]" % many if action.nargs in ("*", "?") else many
 
 
 def of_verb(words):
     lines, last = [".B " + escaped(words.prog)], []
     for action in words._actions:
         if not isinstance(action, argparse._HelpAction):
-            lines += option(action) if action.option_strings else []
-            last += [] if action.option_strings else positional(action)
-    return lines + ['.RI [ "IN OUT" ]'] * ("IN OUT" in words.format_usage()) + last
+            (lines if action.option_strings else last).append(option(action) if action.option_strings else positional(action))
+    return lines + ["[%s]" % italic("IN OUT")] * ("IN OUT" in words.format_usage()) + last
 
 
 def made(_):
     offered = next(action for action in main.parser(main.verbs())._actions if isinstance(action, argparse._SubParsersAction))
     verbs = [of_verb(words) for words in offered.choices.values()]
-    others = [".B mig help", ".RI [ VERB ]"], [".B mig \\-\\-version"]
+    others = [".B mig help", "[%s]" % italic("VERB")], [".B mig \\-\\-version"]
     return "\n.br\n".join("\n".join(lines) for lines in (*verbs, *others)) + "\n"

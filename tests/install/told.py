@@ -113,7 +113,7 @@ def section(text, name):
 
 
 def unescaped(text):
-    for letters, meant in ('\\-', '-'), ('\\(aq', "'"), ('\\(ha', '^'), ('\\fR', ''), ('\\fI', ''), ('\\e', '\\'):
+    for letters, meant in ('\\-', '-'), ('\\(aq', "'"), ('\\(ha', '^'), ('\\fR', ''), ('\\fI', ''), ('\\fB', ''), ('\\e', '\\'):
         text = text.replace(letters, meant)
     return text
 
