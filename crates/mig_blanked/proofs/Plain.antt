@@ -46,7 +46,7 @@ module _ (marks : ValueMap) (kept : FrameMap) (cells : ValueMap) where
       let l = frames_after file cells place in
       ap (take (count + 1)) (behind_changed file place)
       ∙ more_alike changed count l (e.0, frame_told file e.1) (frames_after file cells (e.0 + 1)) (ap (take count) (sym (behind_changed file place)) ∙ plain file)
-        (sym (at file) ∙ first_placed file cells from e first) (λ i. (e.0, plain_frame marks kept e.0 (frame_told file e.1) marked level i))
+      (sym (at file) ∙ first_placed file cells from e first) (λ i. (e.0, plain_frame marks kept e.0 (frame_told file e.1) marked level i))
 
   pub next_plain : (place count from : ℕ) (e : ℕ × FrameWord) → ((file : Option (List ℕ)) → frames_after file cells from ≡ drop count (frames_after file cells place)) → IsFirstCell cells from e
       → (file : Option (List ℕ)) → frames_after file cells (e.0 + 1) ≡ drop (count + 1) (frames_after file cells place)

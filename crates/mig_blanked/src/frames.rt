@@ -181,7 +181,9 @@ impl<P: PageFile> FrameSequence for PagesByNumber<'_, P> {
     ) -> Result<(u64, u32, u32), Failed> {
         let plain = self.count_plain(place, most);
         if plain > 1 {
-            return match PlacedFrames::new(self.places, self.file).pages_from(buffer, place, plain) {
+            return match PlacedFrames::new(self.places, self.file).pages_from(
+                buffer, place, plain,
+            ) {
                 Ok(read) => Ok(read),
                 Err(failed) => Err(failed),
             };
