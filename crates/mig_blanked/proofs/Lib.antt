@@ -1,4 +1,3 @@
-pub mod Plain
 pub mod Behind
 pub mod Marks
 pub mod Outlines

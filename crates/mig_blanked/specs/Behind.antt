@@ -1,5 +1,5 @@
 -- What an outline in its blank form stands for, with the frames of its guest as they stand in a file.
-use Rattle.std.specs.Prelude.{◌≡◌, ℕ, Bool, true, false, List, take, Option, Some, None, IsSome, is_some, option_and_then}
+use Rattle.std.specs.Prelude.{◌≡◌, ℕ, Bool, true, false, List, Option, Some, None, IsSome, is_some, option_and_then}
 use Rattle.std.specs.FinMap as maps
 use Rattle.std.specs.Option.{option_map}
 use Rattle.mig_guest.specs.Frames.{FrameMap, FrameOf, entries_from}
@@ -8,7 +8,6 @@ use Rattle.mig_guest.specs.Parts.{PartMap}
 use Rattle.mig_pagestore_index.specs.Indexed.{ValueMap}
 use Rattle.mig_pagetypes.specs.PageTypes.{level_of}
 use Rattle.mig_placed.specs.InFile.{frames_in_file}
-use Rattle.mig_placed.specs.Runs.{frames_after}
 use Rattle.mig_pvtables.specs.Blank.{each_value, zero_page}
 use Rattle.mig_pvtables.specs.P2mFrames.{place_of}
 use Rattle.mig_records_pages.specs.PageData.{Frame}
@@ -40,7 +39,3 @@ guest_behind outline marks frames = record outline { frames = frames_behind mark
 -- its frames from a number on, where the frames stand in a file
 abbrev pub behind_after : ValueMap → FrameMap → Option (List ℕ) → ValueMap → ℕ → List Frame
 behind_after marks kept file cells from = entries_from from (maps.entries (frames_behind marks kept (frames_in_file file cells)))
-
--- of its frames from a number on so many are as they stand in the file
-abbrev pub AreInFile : ValueMap → FrameMap → ValueMap → ℕ → ℕ → Type 0
-AreInFile marks kept cells from n = (file : Option (List ℕ)) → take n (behind_after marks kept file cells from) ≡ take n (frames_after file cells from)

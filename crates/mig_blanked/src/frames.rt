@@ -5,18 +5,18 @@ ghost use Rattle.std.specs.Option.{option_map, unwrap_or};
 ghost use Rattle.mig_pagetypes.specs.PageTypes.{level_of};
 ghost use Rattle.mig_placed.specs.InFile.{page_in_file};
 ghost use Rattle.mig_pvtables.specs.Blank.{zero_page};
-ghost use Rattle.mig_blanked.specs.Behind.{AreInFile, kept_page, page_behind};
+ghost use Rattle.mig_blanked.specs.Behind.{kept_page, page_behind};
 
 use mig_bytes::Failed;
 use mig_file::PageFile;
 use mig_guest::Guest;
 use mig_pagestore_index::Index;
 use mig_pagetypes::FrameWord;
-use mig_placed::{PlacedFrames, Places};
+use mig_placed::Places;
 use mig_records_pages::{FrameSequence, pages_with, put_page};
 
-/// The frames of a PV guest in its blank form: of a P2M frame the page is zeros, of a page table the one in the outline, and of
-/// any other frame the one at its place in the file. Pages that are one behind another there are read at once.
+/// The frames of a PV guest in its blank form, one by one: of a P2M frame the page is zeros, of a page table the one in the
+/// outline, and of any other frame the one at its place in the file.
 #[derive(Clone, Copy)]
 pub struct PagesByNumber<'a, P: PageFile> {
     outline: &'a Guest,
@@ -99,29 +99,6 @@ impl<P: PageFile> PagesByNumber<'_, P> {
         }
     }
 
-    /// How many of the frames from this number on are neither marked nor tables, at most so many.
-    fn count_plain(&self, place: u64, most: u32) -> u32
-        ensures most { result ≤ most }
-        ensures plain { AreInFile self.now.marks.now.values self.now.outline.now.frames self.now.places.now place result }
-    {
-        let mut count = 0;
-        let mut from = place;
-        while count < most {
-            let Some((pfn, cell)) = self.places.next(from) else {
-                return count;
-            };
-            if self.marks.get(pfn).is_some() {
-                return count;
-            }
-            if cell.kind.table_level().is_some() {
-                return count;
-            }
-            count += 1;
-            from = pfn + 1;
-        }
-        count
-    }
-
     /// Puts the page of a frame, of which its cell says this, to the front of the buffer; answers how many came.
     fn put_page(&self, buffer: &mut [u8], pfn: u64, cell: FrameWord) -> Result<u32, Failed>
         requires room { 4096 ≤ length buffer.old }
@@ -177,17 +154,8 @@ impl<P: PageFile> FrameSequence for PagesByNumber<'_, P> {
         &self,
         buffer: &mut [u8],
         place: u64,
-        most: u32,
+        _most: u32,
     ) -> Result<(u64, u32, u32), Failed> {
-        let plain = self.count_plain(place, most);
-        if plain > 1 {
-            return match PlacedFrames::new(self.places, self.file).pages_from(
-                buffer, place, plain,
-            ) {
-                Ok(read) => Ok(read),
-                Err(failed) => Err(failed),
-            };
-        }
         let Some((pfn, cell)) = self.places.next(place) else {
             return Ok((place, 0, 0));
         };
