@@ -1,5 +1,5 @@
 -- A stream that is passed on: what was taken, and what was written of it.
-use Rattle.std.specs.Prelude.{◌≡◌, ◌⊎◌, ⊥, ℕ, List, Option, Some}
+use Rattle.std.specs.Prelude.{◌≡◌, ◌⊎◌, ℕ, List, Option, Some}
 use Rattle.mig_tool_guest.specs.Common.{AppendsPart, Rose, Passes, Cause, Place, StreamOf, open_stream_at, PassedWhole, RefusedPart, IsCutPart, IsWrittenPart, Relayed, Reports, relayed_line, write_fault_line, RelaySummary, Status, Effects}
 use Rattle.mig_tool_report.specs.declared.status.Status.TheVariants as statuses
 
