@@ -31,7 +31,8 @@ UNESCAPED = {escaped: letter for letter, escaped in ESCAPED.items()}
 def judge_of(path: str, words: 'Any') -> 'Callable[[str], verdict.Verdict]':
     """A function that answers of a file what the program at a path says of it; as many run at once as the words say."""
     memory = Memory(words.jobs)
-    return lambda name: memory.given(name, lambda: verdict.of_file(name, lambda name, source: judged(name, path, source, words.unpack_to)), name != '-')
+    folder = words.unpack_to
+    return lambda name: memory.given(name, lambda: verdict.of_file(name, lambda name, source: judged(name, path, source, folder)), name != '-')
 
 
 def judged(name: str, path: str, source: 'Any', folder: 'Optional[str]') -> verdict.Verdict:
