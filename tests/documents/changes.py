@@ -14,11 +14,12 @@ by hand, or looked at. The five are
                       with a colon and a reason, are others
 
 Counted apart, as inputs: cases, images and other inputs of the tests that lie at the limit or hold the record or the command,
-and must-fail edits. Their names and bytes stay what they are, or follow from the change one by one. Cases name a line by a name
-of tests/lines.py, which stays where the wording changes; so does tests/examples/run. Not counted: the shipped program, CHANGELOG.md and this
-script; the parts of a document that are made, each of which names its script, and that tests/documents/run compares with what the
-script makes (tests/documents/made.py: `--write` makes them anew, so nobody has to look); and a file that spells the number or the line
-for something else (SOMETHING_ELSE).
+must-fail edits, and the worked laws of mig_report_laws, which say a number once more so that a mistake in it is seen. Their names
+and bytes stay what they are, or follow from the change one by one. Cases name a line by a name of tests/lines.py, which stays
+where the wording changes; so does tests/examples/run. Not counted: the shipped program, CHANGELOG.md and this script; the parts
+of a document that are made, each of which names its script, and that tests/documents/run compares with what the script makes
+(tests/documents/made.py: `--write` makes them anew, so nobody has to look); and a file that spells the number or the line for
+something else (SOMETHING_ELSE).
 
 Prints the table, and with --files the files.
 """
@@ -37,7 +38,7 @@ CHANGES = (
     ("a line's wording: `fault: read`", r"fault: read(?!:| ?\.\.)", 4),
 )
 INPUTS = re.compile(r"tests/examples/(?:cases|hosts|hosts\.rows|run$)|tests/edits/|crates/\w+/must-fail/|examples/|tests/hostile/mutations$"
-                    r"|tests/second_reader/\w*streams\.py$|tests/(?:first_command|real_xen|operators)/")
+                    r"|tests/second_reader/\w*streams\.py$|tests/(?:first_command|real_xen|operators)/|crates/mig_report_laws/")
 LEFT_OUT = re.compile(r"dist/|CHANGELOG\.md$|tests/documents/changes\.py$")
 # files that spell it for something else: sizes of memory in KiB; what bin/xl-stream says; the place of a refusal, which has its name
 SOMETHING_ELSE = {"7168": ("tests/hostile/memory.py",), "fault: read": ("tests/xl_stream/run",), "`walk": ("tests/lines.py",)}
