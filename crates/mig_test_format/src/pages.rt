@@ -62,16 +62,16 @@ fn writes_entries_in_batches(rt: HostRuntime) -> Result<(), Fail> {
     Ok(())
 }
 
-// The record of five entries with pages takes five writes: head, count, words, four pages and one. The last turn fails at none.
+// The record of 33 entries with pages takes five writes: head, count, words, 32 pages and one. The last turn fails at none.
 #[test]
 fn batches_fail_at_each_write(rt: HostRuntime) -> Result<(), Fail> {
     let mut want = Vec::new(rt.alloc());
-    put_words(&mut want, 5, 5, 5)?;
-    want.extend_from_slice(&vec![in rt.alloc(); 7; 20_480]?)?;
+    put_words(&mut want, 33, 33, 5)?;
+    want.extend_from_slice(&vec![in rt.alloc(); 7; 135_168]?)?;
     let mut batch = Batch::new(rt.alloc())?;
     for fails in 0..6 {
         let mut sink = MemSink::new(rt.alloc(), vec![in rt.alloc(); fails]?);
-        let sent = send_all(&mut sink, &mut batch, Some(PageType::Notab), 5);
+        let sent = send_all(&mut sink, &mut batch, Some(PageType::Notab), 33);
         assert_eq!(rt; sent.is_ok(), fails == 5, "{fails}");
         assert!(rt; want.as_slice().starts_with(sink.bytes()), "{fails}");
         assert_eq!(rt; sink.bytes().len() == want.len(), fails == 5, "{fails}");
