@@ -1,13 +1,23 @@
 //! Bytes: sources and sinks, taking and putting them whole, fields of fixed width, and judging an input part by part.
 //!
-//! Responsible for: the traits of the outside (`Source`, `Sink`) and what taking and putting may come to; the calls that
-//! take all bytes of a part or put all of a text; sources and sinks over memory, and over std's readers and writers; fields
-//! of fixed width in either byte order; and judging an input part by part. It knows nothing of streams, records or guests.
+//! Responsible for:
 //!
-//! What the layers above rely on: a field is the number that its bytes spell, and they spell it again; which bytes were
-//! taken or appended, also after a failure; and a failure is answered only where the count of that source or sink rose. The
-//! source and the sink in memory say exactly which call fails, and the sink for how many bytes it has room. The adapters
-//! over std are the trusted edge: no contract says what a file or a socket gives or takes.
+//! - the traits of the outside (`Source`, `Sink`) and what taking and putting may come to
+//! - the calls that take all bytes of a part or put all of a text
+//! - sources and sinks over memory, and over std's readers and writers
+//! - fields of fixed width in either byte order
+//! - judging an input part by part
+//!
+//! It knows nothing of streams, records or guests.
+//!
+//! What the layers above rely on:
+//!
+//! - A field is the number that its bytes spell, and they spell it again.
+//! - Which bytes were taken or appended, also after a failure.
+//! - A failure is answered only where the count of that source or sink rose.
+//!
+//! The source and the sink in memory say exactly which call fails, and the sink for how many bytes it has room. The
+//! adapters over std are the trusted edge: no contract says what a file or a socket gives or takes.
 #![tactic(auto)]
 
 mod answer;

@@ -1,13 +1,17 @@
 //! The host and the script with which the program tries itself.
 //!
-//! Responsible for: the host of the exercise, a PV guest with one tree of page tables whose other frames hold numbers, and
-//! its script, which writes into these frames; both follow from a seed and the number of frames; and the laws that this host
-//! stays one that can be seen as a guest, that the canonical stream of the guest has the length that the number of frames
-//! tells, and how many entries a save of it has at most. Left to others: what a host is (mig_host), and what a line does
-//! (mig_machine_script).
+//! Responsible for:
 //!
-//! What the layers above rely on: the host and the script are exactly those of the definition, and a save of this host is
-//! never refused.
+//! - the host of the exercise, a PV guest with one tree of page tables whose other frames hold numbers, and its
+//!   script, which writes into these frames
+//! - both follow from a seed and the number of frames
+//! - the laws that this host stays one that can be seen as a guest, that the canonical stream of the guest has the
+//!   length that the number of frames tells, and how many entries a save of it has at most
+//!
+//! Left to others: what a host is (mig_host), and what a line does (mig_machine_script).
+//!
+//! What the layers above rely on: the host and the script are exactly those of the definition, and a save of this
+//! host is never refused.
 #![tactic(auto)]
 
 mod host;

@@ -1,20 +1,24 @@
 //! A guest as a migration stream tells it, and what may be asked of a machine whose guest runs on.
 //!
-//! Responsible for: the frames of a guest (their types and pages, by frame number), its parts (everything else that a stream
-//! carries, as bytes by a key), its kind and its top; in `mig_machine_api` what a saver may ask of a machine, call by call,
-//! and what each call says: the host at its end, the log of the frame numbers that may have changed, and the history of what
-//! was asked; in `pfn_set` sets of frame numbers in words of 64 bits. It doesn't judge what a part's bytes say, and knows
-//! nothing of records. Left to others: what a paused host means (mig_host_view), machines (mig_machine), and the saver
-//! (mig_dirtysave).
+//! Responsible for:
 //!
-//! What the layers above rely on: a guest is a kind, a number, a finite map of frames and a finite map of parts. Each call
-//! says what it does to the whole guest, and a call that finds no memory leaves the guest as it was. Every frame number is
-//! below 2^52, no frame has type XTAB, and a frame has a page of 4096 bytes exactly where its type has data. In an honest
-//! machine a frame number that isn't in the log has the footprint that it had before the call: its type, its raw page, and
-//! the frame numbers that a table names; a paused machine's host stays; kind, width, keys and lengths of parts, and the
-//! bytes of fixed parts, never change. Each call on a set says of every frame number whether it is in the set then; the
-//! count is that of all members; and the next member is the least one from a frame number on, found without a look at each
-//! bit.
+//! - the frames of a guest (their types and pages, by frame number), its parts (everything else that a stream
+//!   carries, as bytes by a key), its kind and its top
+//! - in `mig_machine_api` what a saver may ask of a machine, call by call, and what each call says: the host at its
+//!   end, the log of the frame numbers that may have changed, and the history of what was asked
+//! - in `pfn_set` sets of frame numbers in words of 64 bits
+//!
+//! It doesn't judge what a part's bytes say, and knows nothing of records. Left to others: what a paused host means
+//! (mig_host_view), machines (mig_machine), and the saver (mig_dirtysave).
+//!
+//! What the layers above rely on: a guest is a kind, a number, a finite map of frames and a finite map of parts. Each
+//! call says what it does to the whole guest, and a call that finds no memory leaves the guest as it was. Every frame
+//! number is below 2^52, no frame has type XTAB, and a frame has a page of 4096 bytes exactly where its type has
+//! data. In an honest machine a frame number that isn't in the log has the footprint that it had before the call: its
+//! type, its raw page, and the frame numbers that a table names; a paused machine's host stays; kind, width, keys and
+//! lengths of parts, and the bytes of fixed parts, never change. Each call on a set says of every frame number
+//! whether it is in the set then; the count is that of all members; and the next member is the least one from a frame
+//! number on, found without a look at each bit.
 #![tactic(auto)]
 
 mod guest;

@@ -1,16 +1,24 @@
 //! The headers of a stream, its kinds of guest and record types, and every place and cause of a refusal.
 //!
-//! Responsible for: which bytes are the image header and the domain header of a libxc migration stream and the header of a
-//! libxl stream, and which header a writer makes; which record types there are, with the kinds of guest and the body lengths
-//! that they may have; which bytes are pairs of texts in canonical form (a definition alone: mig_policy has the test); which
-//! places and causes there are, of a stream, a legacy stream, a guest image and an unsound host, their numbers, and which of
-//! several causes is named: the one of the least number, and of one cause at several places the first. Left to others: which
-//! bytes have a cause (the room that judges them), and how one is printed (mig_headers_text). It takes no memory, reads from
-//! no source, and knows no record's body.
+//! Responsible for:
 //!
-//! What the layers above rely on: each part of a header is answered by its first fault in the order of the causes, and by
-//! none exactly where its bytes spell such a header; what a header is written as is read again; a record type's row decides
-//! every question about it.
+//! - which bytes are the image header and the domain header of a libxc migration stream and the header of a libxl
+//!   stream, and which header a writer makes
+//! - which record types there are, with the kinds of guest and the body lengths that they may have
+//! - which bytes are pairs of texts in canonical form (a definition alone: mig_policy has the test)
+//! - which places and causes there are, of a stream, a legacy stream, a guest image and an unsound host, their
+//!   numbers, and which of several causes is named: the one of the least number, and of one cause at several places
+//!   the first
+//!
+//! Left to others: which bytes have a cause (the room that judges them), and how one is printed (mig_headers_text).
+//! It takes no memory, reads from no source, and knows no record's body.
+//!
+//! What the layers above rely on:
+//!
+//! - Each part of a header is answered by its first fault in the order of the causes, and by none exactly where its
+//!   bytes spell such a header.
+//! - What a header is written as is read again.
+//! - A record type's row decides every question about it.
 #![tactic(auto)]
 
 mod fault;

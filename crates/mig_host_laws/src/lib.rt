@@ -1,11 +1,18 @@
 //! How a guest stands: in a stream, in a machine, or before a saver that looks names up one at a time.
 //!
-//! Responsible for: what is wrong with a guest where it stands, a line for each row, and which of it is named first; what a
-//! vCPU's context says once its fields have other names; and worked examples of the smallest definitions that these laws
-//! share with the code. Left to others: finding it (mig_pvtables, mig_host_view, mig_dirtysave), since here are laws alone.
+//! Responsible for:
 //!
-//! What the layers above rely on: what is found in a host, and in a PV guest at the end of its stream, is the least of what
-//! is wrong, and no two causes are; and the contexts of a host's view are the host's with PFNs for machine frames.
+//! - what is wrong with a guest where it stands, a line for each row, and which of it is named first
+//! - what a vCPU's context says once its fields have other names
+//! - worked examples of the smallest definitions that these laws share with the code
+//!
+//! Left to others: finding it (mig_pvtables, mig_host_view, mig_dirtysave), since here are laws alone.
+//!
+//! What the layers above rely on:
+//!
+//! - What is found in a host, and in a PV guest at the end of its stream, is the least of what is wrong, and no two
+//!   causes are.
+//! - The contexts of a host's view are the host's with PFNs for machine frames.
 #![tactic(auto)]
 
 mod field_law;

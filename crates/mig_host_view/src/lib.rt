@@ -1,11 +1,18 @@
 //! A guest as it stands in a machine: its tables and the contexts of its vCPUs name machine frames.
 //!
-//! Responsible for: bringing a whole guest to the form in which it stands in a machine and, of a PV guest, back to its form
-//! in a stream; what is in the way of seeing a guest that stands in a machine; and, as a definition with its laws, the guest
-//! that a host means. Left to others: what keeps the frames and their machine frames (mig_host).
+//! Responsible for:
 //!
-//! What the layers above rely on: a whole guest in blank form that is brought into a machine can be seen there, and comes
-//! back as it was; a valid host in which nothing is found that is in the way means a whole guest in blank form.
+//! - bringing a whole guest to the form in which it stands in a machine and, of a PV guest, back to its form in a
+//!   stream
+//! - what is in the way of seeing a guest that stands in a machine
+//! - and, as a definition with its laws, the guest that a host means
+//!
+//! Left to others: what keeps the frames and their machine frames (mig_host).
+//!
+//! What the layers above rely on:
+//!
+//! - A whole guest in blank form that is brought into a machine can be seen there, and comes back as it was.
+//! - A valid host in which nothing is found that is in the way means a whole guest in blank form.
 #![tactic(auto)]
 
 mod localising;

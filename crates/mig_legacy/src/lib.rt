@@ -1,18 +1,26 @@
 //! Reads the legacy stream of HVM guests, which Xen's 64-bit tools wrote up to Xen 4.5 (xg_save_restore.h).
 //!
-//! Responsible for: which chunk a number is the type of, what is wrong with a chunk by itself, which words of a PAGE_DATA
-//! name the frames of a batch, and which pairs of texts a toolstack's data make; judging a legacy stream part by part, in
-//! byte order, and the guest that its chunks and its tail mean; the laws that join the judging with the spelling of the
-//! form, and those that say in its words what it means. Left to others: what a single word says (mig_pagetypes), the pages
-//! of a batch (mig_restore), outlines of guests (mig_outline), what pairs of texts mean (mig_policy), the device model
-//! (mig_libxl_form), contexts (mig_hvm), places in a file (mig_placing), and how a refusal is printed (mig_tool_guest).
+//! Responsible for:
 //!
-//! What the layers above rely on: `read_legacy` answers the guest that the accepted front of the input means, or the first
-//! fault with its place, and has taken just the accepted front, or all up to the end of the faulty part; `judge_legacy` does
-//! the same without keeping pages, and answers how many frames the guest has; `place_legacy` does it of a file, where the pages
-//! stay, and answers the outline of the guest and where in the file they stand. The tests of chunks
-//! read from no source and know no guest: each answers the first cause of its rows, with the least place; the data of a
-//! toolstack have no wrong field exactly where they are spelled as entries.
+//! - which chunk a number is the type of, what is wrong with a chunk by itself, which words of a PAGE_DATA name the
+//!   frames of a batch, and which pairs of texts a toolstack's data make
+//! - judging a legacy stream part by part, in byte order, and the guest that its chunks and its tail mean
+//! - the laws that join the judging with the spelling of the form, and those that say in its words what it means
+//!
+//! Left to others: what a single word says (mig_pagetypes), the pages of a batch (mig_restore), outlines of guests
+//! (mig_outline), what pairs of texts mean (mig_policy), the device model (mig_libxl_form), contexts (mig_hvm),
+//! places in a file (mig_placing), and how a refusal is printed (mig_tool_guest).
+//!
+//! What the layers above rely on:
+//!
+//! - `read_legacy` answers the guest that the accepted front of the input means, or the first fault with its place,
+//!   and has taken just the accepted front, or all up to the end of the faulty part.
+//! - `judge_legacy` does the same without keeping pages, and answers how many frames the guest has.
+//! - `place_legacy` does it of a file, where the pages stay, and answers the outline of the guest and where in the
+//!   file they stand.
+//!
+//! The tests of chunks read from no source and know no guest: each answers the first cause of its rows, with the
+//! least place; the data of a toolstack have no wrong field exactly where they are spelled as entries.
 #![tactic(auto)]
 
 mod batch;

@@ -1,8 +1,13 @@
 //! What the chunks and the tail of a legacy stream mean, worked through.
 //!
-//! Responsible for: which number each chunk has; the order of a clock's fields; which parameters stand in the tail; and the names
-//! under which the memory of a device model stands in its store. Left to others: to read them (mig_legacy), since here are laws
-//! alone.
+//! Responsible for:
+//!
+//! - which number each chunk has
+//! - the order of a clock's fields
+//! - which parameters stand in the tail
+//! - the names under which the memory of a device model stands in its store
+//!
+//! Left to others: to read them (mig_legacy), since here are laws alone.
 #![tactic(auto)]
 
 mod meaning_law;

@@ -1,17 +1,25 @@
 //! Streams of either form read or judged, and a guest written as its canonical stream (libxl migration stream).
 //!
-//! Responsible for: taking the header and the records around an image, one after another, and what is kept of the stream,
-//! which is the guest that it means, or a tally; writing what stands around the canonical image, which is the libxl header,
-//! the records of emulators in their order, and END; and the laws of the canonical stream. Left to others: what a stream is,
-//! and what the records of emulators mean (mig_libxl_form), what the canonical stream is, and its image (mig_canon), images
-//! read (mig_restore) and judged without their pages (mig_outline), pairs of texts (mig_policy), headers and record heads
-//! (mig_headers, mig_records).
+//! Responsible for:
 //!
-//! What the layers above rely on: `read_any` answers the guest that the accepted front of the input means, or the first
-//! fault with its place, and has taken just the accepted front, or all up to the end of the faulty part; `judge_any` accepts
-//! and refuses the same, and keeps no page but those of tables; nor does `compare_any`, which answers of a file how many
-//! entries behind a VERIFY differ, as `read_any` does; `write_any` appends exactly the canonical stream of a guest,
-//! which is accepted with this guest, and that of no other, and takes no memory.
+//! - taking the header and the records around an image, one after another, and what is kept of the stream, which is
+//!   the guest that it means, or a tally
+//! - writing what stands around the canonical image, which is the libxl header, the records of emulators in their
+//!   order, and END
+//! - the laws of the canonical stream
+//!
+//! Left to others: what a stream is, and what the records of emulators mean (mig_libxl_form), what the canonical
+//! stream is, and its image (mig_canon), images read (mig_restore) and judged without their pages (mig_outline),
+//! pairs of texts (mig_policy), headers and record heads (mig_headers, mig_records).
+//!
+//! What the layers above rely on:
+//!
+//! - `read_any` answers the guest that the accepted front of the input means, or the first fault with its place, and
+//!   has taken just the accepted front, or all up to the end of the faulty part.
+//! - `judge_any` accepts and refuses the same, and keeps no page but those of tables.
+//! - Nor does `compare_any`, which answers of a file how many entries behind a VERIFY differ, as `read_any` does.
+//! - `write_any` appends exactly the canonical stream of a guest, which is accepted with this guest, and that of no
+//!   other, and takes no memory.
 #![tactic(auto)]
 
 mod canon_law;

@@ -1,15 +1,25 @@
 //! What a stream of either form is: a bare image, or an image inside a libxl stream (libxl migration stream).
 //!
-//! Responsible for: the libxl header, the records around an image and their order, judged part by part in byte order; what
-//! records say of emulators: the store and the context that they make of each, the parts that these are of a guest, and that
-//! such a guest is still whole; the guest that a stream means; the laws that join the judging with the spelling of the
-//! format; and the test of a record's head. Left to others: images (mig_restore_form), pairs of texts (mig_policy), headers
-//! and record heads (mig_headers, mig_records), a stream read and written (mig_libxl).
+//! Responsible for:
 //!
-//! What the layers above rely on: an input either begins with one accepted stream of one guest, or is refused at one place
-//! for one cause; `libxl_head_fault` answers what is wrong with a record's head, by a count and two facts of the records
-//! before it. `Emulators` is seen as what the records say that were added to it; of each emulator the last context decides,
-//! and of each key of its store the last value; a guest without emulators that is whole, in its blank form and of bytes
+//! - the libxl header, the records around an image and their order, judged part by part in byte order
+//! - what records say of emulators: the store and the context that they make of each, the parts that these are of a
+//!   guest, and that such a guest is still whole
+//! - the guest that a stream means
+//! - the laws that join the judging with the spelling of the format
+//! - the test of a record's head
+//!
+//! Left to others: images (mig_restore_form), pairs of texts (mig_policy), headers and record heads (mig_headers,
+//! mig_records), a stream read and written (mig_libxl).
+//!
+//! What the layers above rely on:
+//!
+//! - An input either begins with one accepted stream of one guest, or is refused at one place for one cause.
+//! - `libxl_head_fault` answers what is wrong with a record's head, by a count and two facts of the records before
+//!   it.
+//!
+//! `Emulators` is seen as what the records say that were added to it; of each emulator the last context decides, and
+//! of each key of its store the last value; a guest without emulators that is whole, in its blank form and of bytes
 //! stays so with the parts of emulators that are well formed, and at each key it has what `part_there` says.
 #![tactic(auto)]
 

@@ -4,10 +4,14 @@
 //! version and a kind of guest, and which cause says why not. It knows no lengths, bodies or bytes, and takes no
 //! memory.
 //!
-//! What the layers above rely on: a `Gate` stands for the list of the types that it let pass, by a truth value for
-//! each condition "some earlier record is"; a step answers exactly the fault of the type behind that list, of several
-//! broken rules the least; after a refusal the gate is as it was. A type has no fault exactly where it is optional, or
-//! supported, of the stream's kind and in order.
+//! What the layers above rely on:
+//!
+//! - A `Gate` stands for the list of the types that it let pass, by a truth value for each condition "some earlier
+//!   record is".
+//! - A step answers exactly the fault of the type behind that list, of several broken rules the least.
+//! - After a refusal the gate is as it was.
+//!
+//! A type has no fault exactly where it is optional, or supported, of the stream's kind and in order.
 #![tactic(auto)]
 
 mod gate;

@@ -4,8 +4,11 @@
 //! level, and how a frame word holds a type and a frame number, also in a legacy stream. It leaves to others how many
 //! words a record or a batch has, which frame numbers a guest may have, and what the page of a table means.
 //!
-//! What the layers above rely on: each answer is the one of the tables in specs/PageTypes, for every number of the
-//! argument's type; a word is refused exactly where its type number is reserved; and reading undoes writing.
+//! What the layers above rely on:
+//!
+//! - Each answer is the one of the tables in specs/PageTypes, for every number of the argument's type.
+//! - A word is refused exactly where its type number is reserved.
+//! - Reading undoes writing.
 #![tactic(auto)]
 
 mod frame_word;

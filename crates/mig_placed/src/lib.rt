@@ -1,15 +1,26 @@
 //! Frames whose pages stay in the file that they stand in.
 //!
-//! Responsible for: where in a file each frame's page stands, in 8 bytes for each frame; which frames these places read
-//! as; that they read as frames do which are set one after another; these frames as a writer of PAGE_DATA records takes
-//! them, where pages that stand one behind another in the file are read at once; and pages that are written in place of
-//! some in the file, which stand in another behind it. Left to others: what a file is (mig_file), where a page was
-//! found (a reader of streams), and which records are written of frames (mig_records_pages).
+//! Responsible for:
 //!
-//! What the layers above rely on: places are a finite map from frame number to a cell, and each call says what it does
-//! to the whole map; a call that finds no memory leaves it as it was; with any file the places read as the frames that
-//! were set, each with the page that stands at its place, also where more bytes stand behind the file; and the frames
-//! that are written are these. A page that can't be read fails, and only where a frame has one.
+//! - where in a file each frame's page stands, in 8 bytes for each frame
+//! - which frames these places read as
+//! - that they read as frames do which are set one after another
+//! - these frames as a writer of PAGE_DATA records takes them, where pages that stand one behind another in the file
+//!   are read at once
+//! - pages that are written in place of some in the file, which stand in another behind it
+//!
+//! Left to others: what a file is (mig_file), where a page was found (a reader of streams), and which records are
+//! written of frames (mig_records_pages).
+//!
+//! What the layers above rely on:
+//!
+//! - Places are a finite map from frame number to a cell, and each call says what it does to the whole map.
+//! - A call that finds no memory leaves it as it was.
+//! - With any file the places read as the frames that were set, each with the page that stands at its place, also
+//!   where more bytes stand behind the file.
+//! - The frames that are written are these.
+//!
+//! A page that can't be read fails, and only where a frame has one.
 #![tactic(auto)]
 
 mod frames;

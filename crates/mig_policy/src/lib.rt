@@ -2,13 +2,17 @@
 //!
 //! Responsible for: X86_CPUID_POLICY, X86_MSR_POLICY and X86_TSC_INFO (libxc migration stream, the sections of these
 //! names), and the pairs in an emulator's store (libxl migration stream, "EMULATOR_XENSTORE_DATA"): their canonical
-//! form, what is wrong with bytes that are to be pairs, and pairs that are added to earlier ones. The meaning of a leaf,
-//! an MSR or a key is nobody's here.
+//! form, what is wrong with bytes that are to be pairs, and pairs that are added to earlier ones. The meaning of a
+//! leaf, an MSR or a key is nobody's here.
 //!
-//! What the layers above rely on: which parts of a guest a body sets, all else staying; a policy body that isn't empty
-//! replaces all entries of its policy; bytes pass as pairs exactly where they spell pairs in canonical form; the first
-//! fault of bytes is told, and bytes without fault spell their pairs and no others; of each key the last value decides;
-//! and pairs are written in canonical form, in 2^24 bytes at most.
+//! What the layers above rely on:
+//!
+//! - Which parts of a guest a body sets, all else staying.
+//! - A policy body that isn't empty replaces all entries of its policy.
+//! - Bytes pass as pairs exactly where they spell pairs in canonical form.
+//! - The first fault of bytes is told, and bytes without fault spell their pairs and no others.
+//! - Of each key the last value decides.
+//! - Pairs are written in canonical form, in 2^24 bytes at most.
 #![tactic(auto)]
 
 mod faults;

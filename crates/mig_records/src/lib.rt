@@ -1,17 +1,25 @@
-//! Single records of the libxc migration stream: their heads, the frame words of PAGE_DATA, the bodies that set parts, and
-//! records written out.
+//! Single records of the libxc migration stream: their heads, the frame words of PAGE_DATA, the bodies that set
+//! parts, and records written out.
 //!
-//! Responsible for: what a record's head says, and what is wrong with a head or with the words of a PAGE_DATA; how long the
-//! body with these words is; the bytes of a written record; and the layout of the bodies that set parts, a row for each
-//! code: tables of entries, single values and named parts, the bodies of X86_PV_INFO, X86_PV_P2M_FRAMES and the records of
-//! vCPUs (libxc migration stream, "Records"). The words for the chain of an HVM context stand here too, so that the table is
-//! whole. Left to others: where in a stream a record may stand (mig_restore_form), PAGE_DATA records of frames
-//! (mig_records_pages), the context's reader (mig_hvm), policies and an emulator's pairs (mig_policy), and the pages behind
-//! the words (mig_restore).
+//! Responsible for:
 //!
-//! What the layers above rely on: each test answers the first cause of its rows in specs/Faults, and None exactly where no
-//! row holds; of words it names the least place; a record that is written whole has the canonical spelling of specs/Records;
-//! the first fault of a body; and which parts of a guest a faultless body sets, all else staying.
+//! - what a record's head says, and what is wrong with a head or with the words of a PAGE_DATA
+//! - how long the body with these words is
+//! - the bytes of a written record
+//! - the layout of the bodies that set parts, a row for each code: tables of entries, single values and named parts,
+//!   the bodies of X86_PV_INFO, X86_PV_P2M_FRAMES and the records of vCPUs (libxc migration stream, "Records")
+//!
+//! The words for the chain of an HVM context stand here too, so that the table is whole. Left to others: where in a
+//! stream a record may stand (mig_restore_form), PAGE_DATA records of frames (mig_records_pages), the context's
+//! reader (mig_hvm), policies and an emulator's pairs (mig_policy), and the pages behind the words (mig_restore).
+//!
+//! What the layers above rely on:
+//!
+//! - Each test answers the first cause of its rows in specs/Faults, and None exactly where no row holds.
+//! - Of words it names the least place.
+//! - A record that is written whole has the canonical spelling of specs/Records.
+//! - The first fault of a body.
+//! - Which parts of a guest a faultless body sets, all else staying.
 #![tactic(auto)]
 
 mod body_laws;

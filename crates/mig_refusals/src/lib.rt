@@ -1,10 +1,14 @@
 //! Refusals of each form of input in the words of the form.
 //!
-//! Responsible for: the relations of an input with the place and the cause for which it is refused, and what is left: as a
-//! libxc image (`libxc`), as a stream that is a bare image or an image inside a libxl stream (`stream`), as a legacy stream
-//! (`legacy`), and as the guest image of a host (`image_file`); and the laws that join each with the judging of
-//! mig_restore_form, mig_libxl_form, mig_legacy and mig_image, and the causes of a whole guest and of a page with what
-//! mig_pvtables answers. It has no code of its own. An image is a part of a stream; a guest image is none.
+//! Responsible for:
+//!
+//! - the relations of an input with the place and the cause for which it is refused, and what is left: as a libxc
+//!   image (`libxc`), as a stream that is a bare image or an image inside a libxl stream (`stream`), as a legacy
+//!   stream (`legacy`), and as the guest image of a host (`image_file`)
+//! - the laws that join each with the judging of mig_restore_form, mig_libxl_form, mig_legacy and mig_image, and the
+//!   causes of a whole guest and of a page with what mig_pvtables answers
+//!
+//! It has no code of its own. An image is a part of a stream; a guest image is none.
 #![tactic(auto)]
 
 mod image_file;

@@ -1,15 +1,18 @@
 //! Reads the image of a guest from a stream (libxc migration stream).
 //!
-//! Responsible for: taking the headers and the records of an image, one after another, and the guest that they mean, of whose
-//! frames as much is kept as the caller says (`KeepsFrames`). Left to others: what an image is and means (mig_restore_form),
-//! bytes and fields (mig_bytes), headers (mig_headers), record heads, PAGE_DATA words and what bodies say (mig_records,
-//! mig_hvm), frames and parts (mig_guest), whole guests and blank forms (mig_pvtables).
+//! Responsible for: taking the headers and the records of an image, one after another, and the guest that they mean,
+//! of whose frames as much is kept as the caller says (`KeepsFrames`). Left to others: what an image is and means
+//! (mig_restore_form), bytes and fields (mig_bytes), headers (mig_headers), record heads, PAGE_DATA words and what
+//! bodies say (mig_records, mig_hvm), frames and parts (mig_guest), whole guests and blank forms (mig_pvtables).
 //!
-//! What the layers above rely on: `read_image` answers the guest that the accepted front of the input means, or the first
-//! fault with its place, and has taken just the accepted front, or all up to the end of the faulty part; behind a VERIFY it
-//! compares frames with those of the guest, and answers how many entries differ; `take_image` does the same with whatever is
-//! kept of the frames, and with a value that may note more of each, and may compare the entries behind a VERIFY with what it
-//! noted; `take_entries` takes the pages of a batch of words, in a legacy stream too.
+//! What the layers above rely on:
+//!
+//! - `read_image` answers the guest that the accepted front of the input means, or the first fault with its place,
+//!   and has taken just the accepted front, or all up to the end of the faulty part.
+//! - Behind a VERIFY it compares frames with those of the guest, and answers how many entries differ.
+//! - `take_image` does the same with whatever is kept of the frames, and with a value that may note more of each, and
+//!   may compare the entries behind a VERIFY with what it noted.
+//! - `take_entries` takes the pages of a batch of words, in a legacy stream too.
 #![tactic(auto)]
 
 mod answer;

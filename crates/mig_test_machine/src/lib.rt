@@ -1,10 +1,15 @@
-//! Tests of scripts, of sets of frame numbers, of machines in memory, and of a saver over machines and a sink that fail.
+//! Tests of scripts, of sets of frame numbers, of machines in memory, and of a saver over machines and a sink that
+//! fail.
 //!
-//! Responsible for: `StandingMachine`, whose guest never runs, and the proof that it meets the trait `Machine` too; which
-//! call of a machine is which, how many there are, and when the first pages are written, of which no contract tells as much.
-//! They stand in a crate of their own, since a crate with tests is proved twice. A function that holds a script, a host or a
-//! machine hands it to one that borrows it, and the tests hold plain values: a proof considers a drop wherever the function
-//! that holds it may end.
+//! Responsible for:
+//!
+//! - `StandingMachine`, whose guest never runs, and the proof that it meets the trait `Machine` too
+//! - which call of a machine is which, how many there are, and when the first pages are written, of which no contract
+//!   tells as much
+//!
+//! They stand in a crate of their own, since a crate with tests is proved twice. A function that holds a script, a
+//! host or a machine hands it to one that borrows it, and the tests hold plain values: a proof considers a drop
+//! wherever the function that holds it may end.
 #![tactic(auto)]
 
 #[cfg(test)]

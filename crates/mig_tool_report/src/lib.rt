@@ -1,11 +1,15 @@
-//! What the program is told and what it tells: the words of its command line, its statuses, and the lines of its report.
+//! What the program is told and what it tells: the words of its command line, its statuses, and the lines of its
+//! report.
 //!
-//! Responsible for: which command the words name, which status and which line an outcome has, what a status says, whichever
-//! the command is, and putting the line of an outcome, or the own line of a command that has one, on a sink. Left to others:
-//! what a command does (mig_tool_guest, mig_tool_save), and how a place or a cause is printed (mig_headers_text).
+//! Responsible for: which command the words name, which status and which line an outcome has, what a status says,
+//! whichever the command is, and putting the line of an outcome, or the own line of a command that has one, on a
+//! sink. Left to others: what a command does (mig_tool_guest, mig_tool_save), and how a place or a cause is printed
+//! (mig_headers_text).
 //!
-//! What the layers above rely on: a command is found exactly where the words name one, and words name one at most; of a line
-//! exactly its bytes are put, or some first bytes where a write failed.
+//! What the layers above rely on:
+//!
+//! - A command is found exactly where the words name one, and words name one at most.
+//! - Of a line exactly its bytes are put, or some first bytes where a write failed.
 #![tactic(auto)]
 
 mod command;
