@@ -13,7 +13,7 @@
 //! What the layers above rely on:
 //!
 //! - A field is the number that its bytes spell, and they spell it again.
-//! - Which bytes were taken or appended, also after a failure.
+//! - Each call says which bytes were taken or appended, also after a failure.
 //! - A failure is answered only where the count of that source or sink rose.
 //!
 //! The source and the sink in memory say exactly which call fails, and the sink for how many bytes it has room. The

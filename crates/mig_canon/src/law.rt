@@ -11,8 +11,8 @@ pub fn canonical_image_is_accepted()
     ensures { (guest : GuestOf) (rest : List ℕ) → IsBare guest → Accepted (canon guest ++ rest) guest rest }
 {}
 
-/// The records of a guest's frames may have any number of frames, from 1 to 1024, and tell some of them more than once: the
-/// stream is accepted, and means the blank form of the guest that has, of each number, what is told last.
+/// The records of a guest's frames may have any number of frames, from 1 to 1024, and some of them more than once. The
+/// stream is accepted. It means the blank form of the guest that has, at each number, what comes last.
 #[tactic(auto, using(crate::proofs::Batched::batched_is_accepted))]
 pub fn frames_may_come_in_any_records()
     ensures { (guest : GuestOf) (batches : List (List Frame)) (rest : List ℕ) → IsFormed guest → HasNoEmulators guest.parts → IsComplete guest.kind guest → TellFrames guest batches

@@ -10,9 +10,13 @@
 //! - that the records of a guest, one after another in their canonical order, may each stand where they stand and say
 //!   the guest's parts and frames
 //!
-//! Left to others: the bytes of PAGE_DATA records (mig_records_pages), the shapes of bodies (mig_records), whether a
-//! guest can be written (`IsWhole` of mig_pvtables), what an image is (mig_restore_form), and what is written around
-//! the image (mig_libxl).
+//! Left to others:
+//!
+//! - the bytes of PAGE_DATA records (mig_records_pages)
+//! - the shapes of bodies (mig_records)
+//! - whether a guest can be written (`IsWhole` of mig_pvtables)
+//! - what an image is (mig_restore_form)
+//! - what is written around the image (mig_libxl)
 //!
 //! What the layers above rely on:
 //!
@@ -23,14 +27,14 @@
 //!   frames in other records.
 //!
 //! It takes no memory. `write_canon_with` writes the frames of any `FrameSequence`, of a guest that need only be well
-//! formed. A writer of other frames takes the pieces: `write_headers` appends the headers alone; `write_codes` the
-//! records of the parts of some codes, of a guest that need only be well formed; `write_static` the policies;
-//! `write_info`, `write_p2m_frames` and `write_vcpus` what a PV guest alone has.
+//! formed. A writer of other frames takes the pieces. `write_headers` appends the headers alone. `write_codes`
+//! appends the records of the parts of some codes, of a guest that need only be well formed. `write_static` appends
+//! the policies; `write_info`, `write_p2m_frames` and `write_vcpus` append what a PV guest alone has.
 //!
-//! The steps of these proofs serve for any image with a canonical front: `State` of proofs/CanonSteps says that so
-//! many records are accepted and what they mean, `more` and the lemmas behind it that with the next ones they still
-//! are; proofs/CanonStages which record may be next, proofs/Canons what is said at each stage from the headers to
-//! END, and `batches_more` of proofs/Batched that frames may come in any records.
+//! The steps of these proofs serve for any image with a canonical front. `State` of proofs/CanonSteps says that so
+//! many records are accepted, and what they mean. `more` and the lemmas behind it say that with the next records they
+//! still are. proofs/CanonStages says which record may be next, and proofs/Canons what is said at each stage from the
+//! headers to END. `batches_more` of proofs/Batched says that frames may come in any records.
 #![tactic(auto)]
 
 mod frames;

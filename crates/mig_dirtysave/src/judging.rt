@@ -90,10 +90,10 @@ fn cause_before_fields<M: Machine>(
     Some(Unsound::GdtEnts(u64::from(id), descriptors))
 }
 
-/// Judges the PV host of a paused machine, by the types that were seen last and what was found in its tables, and where
-/// nothing is wrong with it puts PFNs into the contexts that the guest holds, which are the host's. There is a mark for each
-/// frame number, whatever it was before. The first cause is answered, and the contexts before it may be renamed then. Takes no
-/// memory.
+/// Judges the PV host of a paused machine, by the types that were seen last and what was found in its tables. Where
+/// nothing is wrong with it, PFNs are put into the contexts that the guest holds, which are the host's. There is a mark
+/// for each frame number, whatever it was before. The first cause is answered, and the contexts before it may be
+/// renamed then. Takes no memory.
 pub fn judge<M: Machine>(
     machine: &mut M,
     guest: &mut Guest,

@@ -4,19 +4,24 @@
 //!
 //! - what a save needs, made before it begins
 //! - the order of its steps
-//! - judging the host of a paused machine, a PV host by the types that were seen last, row by row, and putting PFNs
-//!   into the contexts of its vCPUs on the way, since the machine frame of a field is looked up but once
+//! - judging the host of a paused machine, a PV host by the types that were seen last, row by row
+//! - putting PFNs into the contexts of its vCPUs on the way, since the machine frame of a field is looked up but once
 //! - writing its settings as they are then
 //! - which answer comes where the machine or the sink fails
-//! - two laws: that the records which a saver sent, between the other records of a canonical image, make an image
-//!   that is accepted, whose guest is what the host is seen as
-//! - that bytes of a stream whose outermost END isn't whole are no accepted stream of either form, and begin with
-//!   none
+//! - the law that the records which a saver sent, between the other records of a canonical image, make an image that
+//!   is accepted, whose guest is what the host is seen as
+//! - the law that bytes of a stream whose outermost END isn't whole are no accepted stream of either form, and begin
+//!   with none
 //!
-//! Left to others: what may be asked of a machine (mig_guest), the parts that are kept of its host, judging an HVM
-//! host, and what is written before the frames and behind them (mig_dirtysave_parts), the frames, their tables and
-//! the rounds in which they are sent (mig_dirtysave_rounds), what a host is seen as (mig_host_view), what a stream is
-//! (mig_libxl_form), and what stands around its image (mig_libxl).
+//! Left to others:
+//!
+//! - what may be asked of a machine (mig_guest)
+//! - the parts that are kept of its host, judging an HVM host, and what is written before the frames and behind them
+//!   (mig_dirtysave_parts)
+//! - the frames, their tables and the rounds in which they are sent (mig_dirtysave_rounds)
+//! - what a host is seen as (mig_host_view)
+//! - what a stream is (mig_libxl_form)
+//! - what stands around its image (mig_libxl)
 //!
 //! What the layers above rely on: over an honest machine what `run` wrote is accepted, whatever follows it, and its
 //! guest is what the paused host is seen as. An HVM host is judged as it is in the end, over any machine; a PV host

@@ -9,8 +9,8 @@ pub fn unended_has_no_stream()
     ensures { (bytes : List ℕ) → IsUnended bytes → HasNoStream bytes }
 {}
 
-/// Where a bare image wasn't ended, no front of what was written is an accepted stream: where a part of its headers was
-/// written; its headers and records without END; or these and a part of one more record, END too.
+/// Where a bare image wasn't ended, no front of what was written is an accepted stream. Written was a part of its
+/// headers; its headers and records without END; or these and a part of one more record, which may be END.
 pub fn unended_image_is_no_stream()
     ensures headers { (start now : Option (List ℕ)) (kind : Kind) → AppendsPart start now (headers kind) → WroteNoStream start now }
     ensures all { (start opened now : Option (List ℕ)) (kind : Kind) (rs : List Record) → Appends start opened (headers kind) → WroteAll opened now rs → WroteNoStream start now }

@@ -3,8 +3,8 @@ ghost use Rattle.mig_dirtysave.specs.Common.{HostOf, IsValid, IsSound, view, bar
 ghost use Rattle.mig_restore_form.specs.Spelled.{Accepted};
 ghost use Rattle.mig_canon.specs.Batched.{batched};
 
-/// Where the entries that a saver sent mean the frames of a valid and sound host, the canonical image of the host's view with
-/// the saver's records in place of the frames' own is accepted, whatever follows it, and its guest is the view without the
+/// Of a valid and sound host whose frames are what a saver's entries mean: the canonical image of its view, with the
+/// saver's records in place of the frames' own, is accepted, whatever follows it. Its guest is the view without the
 /// parts of emulators.
 #[tactic(auto, using(crate::proofs::Viewed::saved_is_viewed))]
 pub fn saved_host_is_viewed()

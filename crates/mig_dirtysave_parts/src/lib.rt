@@ -8,9 +8,12 @@
 //! - judging a paused HVM host
 //! - the records before the frames and behind them, END the last
 //!
-//! Left to others: what may be asked of a machine (mig_guest), the frames and what is found in tables meanwhile,
-//! judging a PV host and bringing its contexts to their form in a stream, what stands around the image
-//! (mig_dirtysave), and single records of parts (mig_canon).
+//! Left to others:
+//!
+//! - what may be asked of a machine (mig_guest)
+//! - the frames and what is found in tables meanwhile, judging a PV host and bringing its contexts to their form in a
+//!   stream, what stands around the image (mig_dirtysave)
+//! - single records of parts (mig_canon)
 //!
 //! What the layers above rely on:
 //!

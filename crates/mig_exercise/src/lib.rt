@@ -2,11 +2,11 @@
 //!
 //! Responsible for:
 //!
-//! - the host of the exercise, a PV guest with one tree of page tables whose other frames hold numbers, and its
-//!   script, which writes into these frames
+//! - the host of the exercise, a PV guest with one tree of page tables whose other frames hold numbers, and its script,
+//!   which writes into these frames: both follow from a seed and the number of frames
 //! - both follow from a seed and the number of frames
-//! - the laws that this host stays one that can be seen as a guest, that the canonical stream of the guest has the
-//!   length that the number of frames tells, and how many entries a save of it has at most
+//! - the law that this host stays one that can be seen as a guest
+//! - the laws of the length of the guest's canonical stream, and of how many entries a save of it has at most
 //!
 //! Left to others: what a host is (mig_host), and what a line does (mig_machine_script).
 //!

@@ -13,12 +13,12 @@
 //!
 //! What the layers above rely on: a guest is a kind, a number, a finite map of frames and a finite map of parts. Each
 //! call says what it does to the whole guest, and a call that finds no memory leaves the guest as it was. Every frame
-//! number is below 2^52, no frame has type XTAB, and a frame has a page of 4096 bytes exactly where its type has
-//! data. In an honest machine a frame number that isn't in the log has the footprint that it had before the call: its
-//! type, its raw page, and the frame numbers that a table names; a paused machine's host stays; kind, width, keys and
-//! lengths of parts, and the bytes of fixed parts, never change. Each call on a set says of every frame number
-//! whether it is in the set then; the count is that of all members; and the next member is the least one from a frame
-//! number on, found without a look at each bit.
+//! number is below 2^52, no frame has type XTAB, and a frame has a page of 4096 bytes exactly where its type has data.
+//! In an honest machine a frame number that isn't in the log has the footprint that it had before the call: its type,
+//! its raw page, and the frame numbers that a table names. A paused machine's host stays. Kind, width, keys and lengths
+//! of parts, and the bytes of fixed parts, never change. Each call on a set says of every frame number whether it is in
+//! the set then. The count is that of all members. The next member is the least one from a frame number on, found
+//! without a look at each bit.
 #![tactic(auto)]
 
 mod guest;

@@ -6,9 +6,9 @@
 //!   stream, and which header a writer makes
 //! - which record types there are, with the kinds of guest and the body lengths that they may have
 //! - which bytes are pairs of texts in canonical form (a definition alone: mig_policy has the test)
-//! - which places and causes there are, of a stream, a legacy stream, a guest image and an unsound host, their
-//!   numbers, and which of several causes is named: the one of the least number, and of one cause at several places
-//!   the first
+//! - which places and causes there are, of a stream, a legacy stream, a guest image and an unsound host, and their
+//!   numbers
+//! - which of several causes is named: the one of the least number, and of one cause at several places the first
 //!
 //! Left to others: which bytes have a cause (the room that judges them), and how one is printed (mig_headers_text).
 //! It takes no memory, reads from no source, and knows no record's body.

@@ -7,8 +7,8 @@ ghost use Rattle.mig_host_laws.specs.NamedAnew.{AreNamesSmall, SaysAnew, IsSeenA
 ghost use Rattle.mig_host_laws.specs.WorkedDescriptors.{descriptors_context, AreUsedFor};
 ghost use Rattle.mig_host_laws.specs.WorkedUserRoot.{user_root_seen};
 
-/// A value that says a frame says it, and is in blank form; one that a stream uses has as its blank form the value that
-/// says its frame; one that a host doesn't use is in blank form; and no two fields stand at one place.
+/// A value that says a frame says it, and is in blank form. The blank form of a value that a stream uses is the value
+/// that says its frame. A value that a host doesn't use is in blank form. No two fields have one place.
 #[tactic(auto, using(crate::proofs::Fields::frame_of_value, crate::proofs::Fields::written_blanked, crate::proofs::Fields::value_of_frame, crate::proofs::Fields::unused_blanked, crate::proofs::Fields::one_place))]
 pub fn fields_say_values()
     ensures back { (field : Field) (frame : ℕ) → (field_row field).frame ((field_row field).value frame) ≡ frame }
@@ -53,9 +53,9 @@ pub fn context_is_seen()
     ensures one { (pfn_of : ℕ → Option ℕ) (id : ℕ) (context new other : List ℕ) → IsSeenAs pfn_of id context new → IsSeenAs pfn_of id context other → new ≡ other }
 {}
 
-/// ctrlreg[1], field 18, of a host is used where it isn't 0, whatever its bit 0: 0x138e000 says machine frame 5006, which
-/// PFN 7 has in the worked host, so that this is seen as 0x7001; and 0 is seen as 0. In a stream bit 0 alone says that
-/// the field is used.
+/// ctrlreg[1], field 18, of a host is used where it isn't 0, whatever its bit 0. 0x138e000 says machine frame 5006,
+/// which PFN 7 has in the worked host, so this is seen as 0x7001. 0 is seen as 0. In a stream bit 0 alone says that the
+/// field is used.
 #[tactic(auto, using(crate::proofs::WorkedUserRoot::unmarked_seen, crate::proofs::WorkedUserRoot::marked_seen, crate::proofs::WorkedUserRoot::zero_seen))]
 pub fn worked_user_root()
     ensures unmarked { user_root_seen 0x138e000 ≡ Some 0x7001 }
@@ -66,9 +66,9 @@ pub fn worked_user_root()
     ensures stream { (id ents : ℕ) → (is_used id ents 18 0x138e000 ≡ false) × (is_used id ents 18 0x138e001 ≡ true) }
 {}
 
-/// A frame of the GDT holds 512 descriptors. A context that counts none of them, at byte 4960, uses none of the GDT's frames;
-/// one that counts 1 or 512 the first, field 1; one that counts 513 fields 1 and 2; and one that counts the most that there
-/// are, `most_gdt_entries`, 14 frames: in a stream and in a host, and whatever vCPU it is.
+/// A frame of the GDT holds 512 descriptors. A context whose count of descriptors, at byte 4960, is 0 uses none of the
+/// GDT's frames. With 1 or 512 it uses the first one, field 1; with 513 fields 1 and 2; with `most_gdt_entries` 14
+/// frames. So it is in a stream and in a host, whatever vCPU it is.
 #[tactic(auto, using(crate::proofs::WorkedDescriptors::are_counted, crate::proofs::WorkedDescriptors::for_none, crate::proofs::WorkedDescriptors::for_one, crate::proofs::WorkedDescriptors::for_one_frame, crate::proofs::WorkedDescriptors::for_one_more, crate::proofs::WorkedDescriptors::for_most))]
 pub fn worked_descriptors()
     ensures counted { (n : ℕ) → n < 2 ^ 64 → gdt_ents (descriptors_context n) ≡ n }

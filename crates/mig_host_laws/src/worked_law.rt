@@ -3,9 +3,9 @@ ghost use Rattle.std.specs.FinMap as maps;
 ghost use Rattle.mig_guest.specs.declared.table.Entry.TheVariants.{Blank, NotPresent, Superpage, Frame};
 ghost use Rattle.mig_host_laws.specs.Common.{longs, p2m_key, PartMap, entry_of, listed};
 
-/// What entries say, worked through. Bit 0 says that one is present; bit 7 that it is a superpage in a table of level 2, 3 or 4,
-/// and nothing in one of level 1; bits 12 to 51 name the frame, and no other bits; and slots 256 to 271 of a level 4 table
-/// say nothing, whatever stands in them.
+/// What entries say, worked through. Bit 0 says that one is present. Bit 7 says that it is a superpage in a table of
+/// level 2, 3 or 4, and nothing in one of level 1. Bits 12 to 51 name the frame, and no other bits do. Slots 256 to 271
+/// of a level 4 table say nothing, whatever is in them.
 #[tactic(auto, using(crate::proofs::WorkedEntries::level_1, crate::proofs::WorkedEntries::large, crate::proofs::WorkedEntries::small, crate::proofs::WorkedEntries::absent, crate::proofs::WorkedEntries::widest, crate::proofs::WorkedEntries::beside))]
 pub fn worked_entries()
     ensures level_1 { (slot : ℕ) → entry_of 1 slot 0x80e7 ≡ Frame 8 }

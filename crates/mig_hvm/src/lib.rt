@@ -6,9 +6,9 @@
 //!
 //! What the layers above rely on:
 //!
-//! - The offset of the entry that ends a chain, or the chain's first fault.
-//! - The first fault of a parameters body.
-//! - Which parts of a guest a faultless body sets, all else staying.
+//! - A chain is answered by the offset of the entry that ends it, or by its first fault.
+//! - A body of parameters is answered by its first fault.
+//! - A contract says which parts of a guest a faultless body sets; all else stays.
 #![tactic(auto)]
 
 mod context;

@@ -11,7 +11,7 @@ pub fn numbers_have_kinds()
     ensures { NumbersHaveKinds }
 {}
 
-/// A batch has no fault exactly where each of its words has a type and is below 2^32; and a word is told to be high exactly
+/// A batch has no fault exactly where each of its words has a type and is below 2^32. A word is told to be high exactly
 /// where it is the first of 2^32 or more, and each word has a type.
 pub fn batches_are_judged()
     ensures { (ws : List ℕ) → BatchesAreJudged ws }

@@ -7,9 +7,16 @@
 //! - judging a legacy stream part by part, in byte order, and the guest that its chunks and its tail mean
 //! - the laws that join the judging with the spelling of the form, and those that say in its words what it means
 //!
-//! Left to others: what a single word says (mig_pagetypes), the pages of a batch (mig_restore), outlines of guests
-//! (mig_outline), what pairs of texts mean (mig_policy), the device model (mig_libxl_form), contexts (mig_hvm),
-//! places in a file (mig_placing), and how a refusal is printed (mig_tool_guest).
+//! Left to others:
+//!
+//! - what a single word says (mig_pagetypes)
+//! - the pages of a batch (mig_restore)
+//! - outlines of guests (mig_outline)
+//! - what pairs of texts mean (mig_policy)
+//! - the device model (mig_libxl_form)
+//! - contexts (mig_hvm)
+//! - places in a file (mig_placing)
+//! - how a refusal is printed (mig_tool_guest)
 //!
 //! What the layers above rely on:
 //!

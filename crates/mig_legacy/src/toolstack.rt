@@ -27,8 +27,8 @@ fn entries_place(body: &[u8], count: u32) -> Option<u64>
     }
 }
 
-/// Where the first field stands that is wrong in the data of a toolstack, in bytes from their beginning: a field that
-/// isn't whole, a version other than 1, a name without its one zero at the end, or what follows the last entry.
+/// Where the first wrong field is in the data of a toolstack, in bytes from their beginning. Wrong is a field that
+/// isn't whole, a version other than 1, a name without its one zero at the end, and what follows the last entry.
 #[tactic(auto, unfolding(crate::specs::Judged::toolstack_fault))]
 pub fn toolstack_fault(body: &[u8]) -> Option<u64>
     ensures value { result ≡ fault_of body.now }

@@ -8,9 +8,13 @@
 //!   order, and END
 //! - the laws of the canonical stream
 //!
-//! Left to others: what a stream is, and what the records of emulators mean (mig_libxl_form), what the canonical
-//! stream is, and its image (mig_canon), images read (mig_restore) and judged without their pages (mig_outline),
-//! pairs of texts (mig_policy), headers and record heads (mig_headers, mig_records).
+//! Left to others:
+//!
+//! - what a stream is, and what the records of emulators mean (mig_libxl_form)
+//! - what the canonical stream is, and its image (mig_canon)
+//! - images read (mig_restore) and judged without their pages (mig_outline)
+//! - pairs of texts (mig_policy)
+//! - headers and record heads (mig_headers, mig_records)
 //!
 //! What the layers above rely on:
 //!

@@ -18,9 +18,9 @@
 //! - `libxl_head_fault` answers what is wrong with a record's head, by a count and two facts of the records before
 //!   it.
 //!
-//! `Emulators` is seen as what the records say that were added to it; of each emulator the last context decides, and
-//! of each key of its store the last value; a guest without emulators that is whole, in its blank form and of bytes
-//! stays so with the parts of emulators that are well formed, and at each key it has what `part_there` says.
+//! `Emulators` is seen as what the records say that were added to it. Of each emulator the last context decides, and of
+//! each key of its store the last value. A guest without emulators that is whole, in its blank form and of bytes stays
+//! so with the parts of well formed emulators. At each key it has what `part_there` says.
 #![tactic(auto)]
 
 mod emulator_law;

@@ -2,8 +2,8 @@ ghost use Rattle.std.specs.Prelude.{◌≡◌, ◌≤◌, ◌<◌, ◌⊎◌, �
 ghost use Rattle.mig_machine_laws.specs.Common.{HostFrame, HostFrames, footprint_of, fits_field, level_of, long_at, p2m_page, pfn_in};
 ghost use Rattle.mig_machine_laws.specs.FieldTypes.{data_types, root_types, types_for};
 
-/// A slot of a table names the frame number that has the machine frame in bits 12 to 51 of its entry, where bit 0 is set, also
-/// of a superpage; and none where bit 0 is clear, or in slots 256 to 271 of a level 4 table.
+/// Where bit 0 of its entry is set, a slot of a table names the frame number that has the machine frame in bits 12 to
+/// 51, also of a superpage. Where bit 0 is clear, and in slots 256 to 271 of a level 4 table, it names none.
 #[tactic(auto, using(crate::proofs::SlotNames::present, crate::proofs::SlotNames::absent, crate::proofs::SlotNames::blank))]
 pub fn slots_name_frames()
     ensures present { (frames : HostFrames) (frame : HostFrame) (level slot : ℕ) (page : List ℕ) → level_of frame.type ≡ Some level → frame.page ≡ Some page

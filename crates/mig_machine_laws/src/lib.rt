@@ -7,10 +7,11 @@
 //! - in which order and batches the records of a canonical stream stand
 //! - what a slot of a table or of a P2M frame says
 //! - which types of frame a field of a vCPU may name
+//! - where a line of a script applies, what it leaves and what it logs
+//! - worked through: the host and the script of the exercise, the headers of a canonical stream, the record types of
+//!   content, static data and vCPUs, and two counts
 //!
-//! Besides: where a line of a script applies, what it leaves and what it logs; and, worked through, the host and the
-//! script of the exercise, the headers of a canonical stream, the record types of content, static data and vCPUs, and
-//! two counts. Left to others: to do it, since here are laws alone.
+//! Left to others: to do it, since here are laws alone.
 #![tactic(auto)]
 
 mod canon_law;

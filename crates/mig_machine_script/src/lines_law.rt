@@ -6,8 +6,8 @@ ghost use Rattle.mig_machine_script.specs.ScriptLines.LineOf.{Dot};
 ghost use Rattle.mig_machine_script.specs.Groups.{ran, dots_in};
 ghost use Rattle.mig_machine_script.specs.HostLines.{after, logged_after};
 
-/// Lines change no more of a host's footprints than they put into the log; what was in the log stays there; they log frame
-/// numbers below the width alone; and kind, width, keys and lengths of parts, and the bytes of fixed parts, stay.
+/// Lines change no more of a host's footprints than they put into the log. What was in the log stays there. They log
+/// frame numbers below the width alone. Kind, width, keys and lengths of parts, and the bytes of fixed parts, stay.
 pub fn lines_log_what_they_change()
     ensures changed { (h : HostOf) (lines : List LineOf) (log : Pfns) (pfn : ℕ) → IsValid h → logged_after h lines log pfn ≡ false → footprint (after h lines).frames pfn ≡ footprint h.frames pfn }
     ensures kept { (h : HostOf) (lines : List LineOf) (log : Pfns) (pfn : ℕ) → IsValid h → logged_after h lines log pfn ≡ false → log pfn ≡ false }

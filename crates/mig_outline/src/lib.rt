@@ -1,10 +1,14 @@
 //! Judges the image of a guest (libxc migration stream), and keeps no page of it that no judgement needs.
 //!
-//! Responsible for: what stays of a guest without such pages (its outline: its parts, its page tables, and of each
-//! other frame whether it is NOTAB), that this is all that the judgement of its end asks for, and how an entry of a
-//! PAGE_DATA is taken into an outline. Left to others: what an image is and means (mig_restore_form), taking its
-//! records with an outline in place of the guest (mig_restore), frames and parts (mig_guest), whole guests
-//! (mig_pvtables).
+//! Responsible for:
+//!
+//! - the outline of a guest, which is what stays of it without such pages: its parts, its page tables, and of each
+//!   other frame whether it is NOTAB
+//! - that this is all that the judgement of its end asks for
+//! - how an entry of a PAGE_DATA is taken into an outline
+//!
+//! Left to others: what an image is and means (mig_restore_form), taking its records with an outline in place of the
+//! guest (mig_restore), frames and parts (mig_guest), whole guests (mig_pvtables).
 //!
 //! What the layers above rely on:
 //!

@@ -6,8 +6,8 @@ ghost use Rattle.mig_placed.specs.InFile.{place_limit, place_for, with_place, pa
 ghost use Rattle.mig_placed.specs.Joined.{EndAllWithin};
 ghost use Rattle.mig_placed.specs.Runs.{frames_after};
 
-/// With any file places read as frames: no places as none; places with one set as the frames with that one set, and its page
-/// is the one at this place; there are as many; and from number 0 on they are all frames.
+/// With any file places read as frames, and as many. No places read as none. Places with one set read as the frames
+/// with that one set, and its page is the one at this place. From number 0 on they are all frames.
 #[tactic(auto, using(crate::proofs::Seen::none_placed, crate::proofs::Seen::set_placed, crate::proofs::Seen::len_placed, crate::proofs::Seen::all_placed))]
 pub fn places_read_as_frames()
     ensures none { (file : Option (List ℕ)) → frames_in_file file maps.empty ≡ maps.empty }

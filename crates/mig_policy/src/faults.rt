@@ -77,9 +77,9 @@ fn first_fault(bytes: &[u8]) -> Option<Cause>
     Some(Cause::BadKey(place))
 }
 
-/// The first fault of bytes that are to be pairs of texts (libxl migration stream, "EMULATOR_XENSTORE_DATA"): where a
-/// text begins that no zero ends, or the end of the bytes where a value is missing; and only where there is no such
-/// place, the first byte of a key that isn't allowed, or the zero of an empty key.
+/// The first fault of bytes that are to be pairs of texts (libxl migration stream, "EMULATOR_XENSTORE_DATA"). It is
+/// where a text begins that no zero ends, or the end of the bytes where a value is missing. Where there is no such
+/// place, it is the first byte of a key that isn't allowed, or the zero of an empty key.
 pub fn pairs_fault(bytes: &[u8]) -> Option<Cause>
     ensures value { result ≡ fault_of bytes.now }
     ensures first { IsFirstFault bytes.now result }

@@ -1,13 +1,16 @@
 //! What the bodies of policy and TSC records say, and what pairs of texts say.
 //!
-//! Responsible for: X86_CPUID_POLICY, X86_MSR_POLICY and X86_TSC_INFO (libxc migration stream, the sections of these
-//! names), and the pairs in an emulator's store (libxl migration stream, "EMULATOR_XENSTORE_DATA"): their canonical
-//! form, what is wrong with bytes that are to be pairs, and pairs that are added to earlier ones. The meaning of a
-//! leaf, an MSR or a key is nobody's here.
+//! Responsible for:
+//!
+//! - X86_CPUID_POLICY, X86_MSR_POLICY and X86_TSC_INFO (libxc migration stream, the sections of these names)
+//! - the pairs in an emulator's store (libxl migration stream, "EMULATOR_XENSTORE_DATA"): their canonical form, what is
+//!   wrong with bytes that are to be pairs, and pairs that are added to earlier ones
+//!
+//! The meaning of a leaf, an MSR or a key is nobody's here.
 //!
 //! What the layers above rely on:
 //!
-//! - Which parts of a guest a body sets, all else staying.
+//! - A contract says which parts of a guest a body sets; all else stays.
 //! - A policy body that isn't empty replaces all entries of its policy.
 //! - Bytes pass as pairs exactly where they spell pairs in canonical form.
 //! - The first fault of bytes is told, and bytes without fault spell their pairs and no others.

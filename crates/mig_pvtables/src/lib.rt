@@ -1,9 +1,14 @@
 //! Page tables and the contexts of vCPUs, whole guests and their blank form.
 //!
-//! Responsible for: what an entry of a table says, what is wrong with a table in a stream, the frame that a field of a
-//! vCPU's context says, what is wrong with a guest at the end of its stream, the walks over a guest's tables,
-//! its P2M frames and the contexts of its vCPUs, bringing a guest to its blank form, and bringing a table from frame numbers to machine frames and
-//! back. Left to others: a whole guest that stands in a machine (mig_host_view).
+//! Responsible for:
+//!
+//! - what an entry of a table says, and the frame that a field of a vCPU's context says
+//! - what is wrong with a table in a stream, and with a guest at the end of its stream
+//! - the walks over a guest's tables, its P2M frames and the contexts of its vCPUs
+//! - bringing a guest to its blank form
+//! - bringing a table from frame numbers to machine frames and back
+//!
+//! Left to others: a whole guest that stands in a machine (mig_host_view).
 //!
 //! What the layers above rely on: a guest is whole exactly where no row of its faults finds anything, and its blank form is
 //! whole then, and is its own blank form. For those that look at a guest in a machine, the searches are here that are the

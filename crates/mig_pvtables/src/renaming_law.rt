@@ -28,9 +28,9 @@ pub fn renamed_table_says_the_same()
         → names slot ≡ None → long_at (renamed_by names level page) slot ≡ long_at page slot }
 {}
 
-/// What normalising a table refuses: the least slot that holds a superpage, where there is one; else the least slot that
-/// names a machine frame without a frame number; and nothing exactly where each entry outside the blank slots isn't
-/// present, or names a machine frame that has a frame number.
+/// What normalising a table refuses: the least slot that holds a superpage, where there is one; else the least slot
+/// that names a machine frame without a frame number. It refuses nothing exactly where each entry outside the blank
+/// slots isn't present, or names a machine frame that has a frame number.
 pub fn normalise_table_refuses_the_first()
     ensures superpage { (pfn_of : ℕ → Option ℕ) (level : ℕ) (page : List ℕ) (slot : ℕ)
         → (bad_entry pfn_of level page ≡ Some (record { slot = slot; why = causes.Superpage })) ↔ IsFirstSlot (HasSuperpage level page) slot }

@@ -9,17 +9,23 @@
 //! - the layout of the bodies that set parts, a row for each code: tables of entries, single values and named parts,
 //!   the bodies of X86_PV_INFO, X86_PV_P2M_FRAMES and the records of vCPUs (libxc migration stream, "Records")
 //!
-//! The words for the chain of an HVM context stand here too, so that the table is whole. Left to others: where in a
-//! stream a record may stand (mig_restore_form), PAGE_DATA records of frames (mig_records_pages), the context's
-//! reader (mig_hvm), policies and an emulator's pairs (mig_policy), and the pages behind the words (mig_restore).
+//! The words for the chain of an HVM context are here too, so that the table is whole.
+//!
+//! Left to others:
+//!
+//! - where in a stream a record may stand (mig_restore_form)
+//! - PAGE_DATA records of frames (mig_records_pages)
+//! - the context's reader (mig_hvm)
+//! - policies and an emulator's pairs (mig_policy)
+//! - the pages behind the words (mig_restore)
 //!
 //! What the layers above rely on:
 //!
 //! - Each test answers the first cause of its rows in specs/Faults, and None exactly where no row holds.
 //! - Of words it names the least place.
 //! - A record that is written whole has the canonical spelling of specs/Records.
-//! - The first fault of a body.
-//! - Which parts of a guest a faultless body sets, all else staying.
+//! - A body is answered by its first fault.
+//! - A contract says which parts of a guest a faultless body sets; all else stays.
 #![tactic(auto)]
 
 mod body_laws;

@@ -68,9 +68,9 @@ pub fn read_p2m(guest: &mut Guest, body: &[u8]) -> Result<(), Memory>
     Ok(())
 }
 
-/// What is wrong with the body of a vCPU's record (libxc migration stream, "X86_PV_VCPU_BASIC, EXTENDED, XSAVE, MSRS"), of a
-/// length that its type has: `VcpuId` where its id is no vCPU's, `GdtEnts` where it is a whole context with too many
-/// descriptors. A record of another type has neither.
+/// What is wrong with the body of a vCPU's record (libxc migration stream, "X86_PV_VCPU_BASIC, EXTENDED, XSAVE, MSRS"),
+/// of a length that its type has. It is `VcpuId` where its id is no vCPU's, and `GdtEnts` where it is a whole context
+/// with too many descriptors. A record of another type has neither.
 #[tactic(auto, using(crate::proofs::PvLaws::basic_rows, crate::proofs::PvLaws::extended_rows, crate::proofs::PvLaws::xsave_rows, crate::proofs::PvLaws::msrs_rows, crate::proofs::PvLaws::other_rows))]
 pub fn vcpu_fault(kind: u32, body: &[u8]) -> Option<Cause>
     requires { fault_of_length kind (length body.now) ≡ None }

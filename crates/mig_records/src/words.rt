@@ -62,8 +62,8 @@ fn first_outside(kind: Kind, top: u64, words: &[u64]) -> Option<usize>
     words.iter().position(|word| is_outside(kind, top, *word))
 }
 
-/// What is wrong with the words of a PAGE_DATA, where `top` is the last frame number of a PV guest: BadPageType for
-/// the first word with a reserved type, else PfnOutside for the first that names a frame outside the guest.
+/// What is wrong with the words of a PAGE_DATA, where `top` is the last frame number of a PV guest. It is BadPageType
+/// for the first word with a reserved type, else PfnOutside for the first that names a frame outside the guest.
 #[tactic(auto, using(crate::proofs::WordFaults::reserved_found, crate::proofs::WordFaults::outside_found, crate::proofs::WordFaults::none_found))]
 pub fn words_fault(kind: Kind, top: u64, words: &[u64]) -> Option<Cause>
     ensures fault { result ≡ fault_of_words kind top words.now }

@@ -41,9 +41,9 @@ pub trait FrameSequence {
         ensures behind { frames_from self.now result.0 ≡ drop result.1 (frames_from self.now place) }
         ensures most { result.1 ≤ most };
 
-    /// Puts the pages of some frames from a place on, at least of one and at most of so many, one behind another to the front of
-    /// the buffer: the place behind the frames, how many frames they are, and how many pages came with them. It fails only where
-    /// a page comes with one of so many.
+    /// Puts the pages of some frames from a place on, at least of one and at most of so many, one behind another to the
+    /// front of the buffer. The answer has the place behind the frames, how many frames they are, and how many pages
+    /// came with them. It fails only where a page comes with one of so many.
     fn pages_from(
         &self,
         buffer: &mut [u8],

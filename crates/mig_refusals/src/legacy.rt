@@ -4,9 +4,9 @@ ghost use Rattle.mig_refusals.specs.Refusals.{AreAllAcceptedOrRefused, AreJudged
 ghost use Rattle.mig_refusals.specs.LegacyTables.{LegacyTablesSay};
 ghost use Rattle.mig_refusals.specs.Legacy.{ComputedCausesStand, LegacyCausesAscend, LegacyTestsSay, RefusedLegacy};
 
-/// Judging refuses an input as a legacy stream for a cause at a place exactly where a faultless front, as a legacy stream spells
-/// it, is followed by a form that is refused: of the start, of a chunk, of the tail, or of a device model's record. What is left
-/// is what follows the faulty part.
+/// Judging refuses an input as a legacy stream for a cause at a place exactly where a form that is refused follows a
+/// faultless front, as a legacy stream spells it. That form is of the start, of a chunk, of the tail, or of a device
+/// model's record. What is left is what follows the faulty part.
 #[tactic(auto, using(crate::proofs::LegacyVerdicts::agree))]
 pub fn legacy_refusals_agree()
     ensures { AreJudged RefusedLegacy IsLegacyRefused }
@@ -36,8 +36,8 @@ pub fn legacy_causes_ascend()
     ensures { LegacyCausesAscend }
 {}
 
-/// A cause that is computed stands in words: in the words of a batch that of the least number, and of one cause its least word;
-/// in the data of a toolstack the first field that is wrong; in a context the first entry that is wrong.
+/// A cause that is computed stands in words. Of the words of a batch it is that of the least number, and of one cause
+/// its least word. Of the data of a toolstack it is the first wrong field; of a context the first wrong entry.
 #[tactic(auto, using(crate::proofs::LegacyCauses::computed_stand))]
 pub fn legacy_computed_causes_stand()
     ensures { ComputedCausesStand }
@@ -50,8 +50,9 @@ pub fn legacy_tests_say()
     ensures { LegacyTestsSay }
 {}
 
-/// The tables of causes say what the format says: of a start, of a chunk's type and place, of a greatest vCPU id, of a length, of
-/// the data of a toolstack and of a signature some condition that holds has a cause exactly where the cause stands in words.
+/// The tables of causes say what the format says of a start, a chunk's type and place, a greatest vCPU id, a length,
+/// the data of a toolstack and a signature. Some condition that holds has a cause exactly where the cause stands in
+/// words.
 #[tactic(auto, using(crate::proofs::LegacyTables::tables_say))]
 pub fn legacy_tables_say()
     ensures { LegacyTablesSay }

@@ -2,9 +2,9 @@
 //!
 //! Responsible for:
 //!
-//! - the relations of an input with the place and the cause for which it is refused, and what is left: as a libxc
-//!   image (`libxc`), as a stream that is a bare image or an image inside a libxl stream (`stream`), as a legacy
-//!   stream (`legacy`), and as the guest image of a host (`image_file`)
+//! - the relations of an input with the place and the cause for which it is refused, and what is left
+//! - these of a libxc image (`libxc`), of a stream that is a bare image or an image inside a libxl stream (`stream`),
+//!   of a legacy stream (`legacy`), and of the guest image of a host (`image_file`)
 //! - the laws that join each with the judging of mig_restore_form, mig_libxl_form, mig_legacy and mig_image, and the
 //!   causes of a whole guest and of a page with what mig_pvtables answers
 //!

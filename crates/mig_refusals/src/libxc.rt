@@ -5,8 +5,9 @@ ghost use Rattle.mig_refusals.specs.Refusals.{AreAllAcceptedOrRefused, AreJudged
 ghost use Rattle.mig_refusals.specs.Libxc.{AnswersFirstCause, GuestHas, LibxcCausesStand, PageHas, RefusedLibxc};
 ghost use Rattle.mig_refusals.specs.LibxcPv.{TableHas};
 
-/// Judging refuses an input as an image for a cause at a place exactly where behind a faultless front a form is refused: of the
-/// marker, of the rest of the image header, of the domain header, or of a record. What is left is what follows the faulty part.
+/// Judging refuses an input as an image for a cause at a place exactly where a form is refused behind a faultless
+/// front. That form is of the marker, of the rest of the image header, of the domain header, or of a record. What is
+/// left is what follows the faulty part.
 #[tactic(auto, using(crate::proofs::LibxcVerdicts::agree))]
 pub fn libxc_refusals_agree()
     ensures { AreJudged RefusedLibxc IsRefused }
@@ -37,8 +38,8 @@ pub fn libxc_causes_stand()
     ensures { LibxcCausesStand }
 {}
 
-/// What is answered of a guest at its END, and by `whole` of mig_pvtables, is of the causes that stand in the guest that of the
-/// least number, and of one cause that at its least place; and there is no answer exactly where none stands.
+/// What is answered of a guest at its END, and by `whole` of mig_pvtables, is a cause that stands in the guest: that of
+/// the least number, at its least place. There is no answer exactly where none stands.
 #[tactic(auto, using(crate::proofs::FirstAnswers::guest_answers))]
 pub fn whole_answers_the_least_fault()
     ensures { (guest : GuestOf) → AnswersFirstCause (GuestHas guest) (fault_of_guest guest) }

@@ -3,9 +3,9 @@ ghost use Rattle.mig_libxl_form.specs.Stream.{IsStreamRefused};
 ghost use Rattle.mig_refusals.specs.Refusals.{AreAllAcceptedOrRefused, AreJudged, HasOneRefusal, IsNeverBoth};
 ghost use Rattle.mig_refusals.specs.Stream.{RefusedStream, StoresAreMerged, WrapperCausesAscend, WrapperTestsSay};
 
-/// Judging refuses an input as a stream of either form for a cause at a place exactly where it is no libxl stream and is refused
-/// as an image; or where behind a faultless front of a libxl stream a form is refused, that of its header or of a record; or the
-/// image behind the head of LIBXC_CONTEXT. What is left is what follows the faulty part.
+/// Judging refuses an input as a stream of either form for a cause at a place exactly in two cases. It is no libxl
+/// stream, and is refused as an image. Or behind a faultless front of a libxl stream a form is refused: that of its
+/// header, of a record, or of the image behind the head of LIBXC_CONTEXT. What is left is what follows the faulty part.
 #[tactic(auto, using(crate::proofs::StreamVerdicts::agree))]
 pub fn stream_refusals_agree()
     ensures { AreJudged RefusedStream IsStreamRefused }

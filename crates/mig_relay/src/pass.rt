@@ -32,8 +32,8 @@ fn unwritten(step: Result<Step, RelayAnswer>) -> RelayAnswer
 }
 
 impl Relay {
-    /// Passes the next part on to what waits, and writes that where it is more than may wait in front of the part behind
-    /// it; at the end of the stream, and where it isn't passed on further, all that waits is written.
+    /// Passes the next part on to what waits, and writes that where it is more than may wait in front of the part
+    /// behind it. At the end of the stream, and where it isn't passed on further, all that waits is written.
     fn turn<S: Source, K: Sink>(
         &mut self,
         held: &mut Held,

@@ -251,8 +251,9 @@ impl Relay {
     ) -> Result<Step, RelayAnswer>
         requires { Stands self.old }
 
-        // Of each list of bytes that the relay stands for: a piece was taken and written, and the relay stands for the
-        // list with it at its end; or the list is passable; or the list and the bytes left are refused; or it stopped.
+        // For each list of bytes that the relay stands for, one of four holds. A piece was taken and written, and the
+        // relay stands for the list with it at its end. The list is passable. The list and the bytes left are refused.
+        // Or it stopped.
         ensures says { (bytes : List ℕ) (stands : StandsForBytes self.old bytes) → StepSays stands.here stands.begun bytes self.old self.new (S.left src.old) (S.left src.new) (K.written sink.old) (K.written sink.new) result }
         ensures done { (bytes : List ℕ) (s : StreamOf) → StandsForBytes self.old bytes → IsPassable bytes s → result ≡ Ok Done }
         // At its start an input with the ident of a libxl stream isn't refused.

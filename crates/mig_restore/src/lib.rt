@@ -1,9 +1,16 @@
 //! Reads the image of a guest from a stream (libxc migration stream).
 //!
 //! Responsible for: taking the headers and the records of an image, one after another, and the guest that they mean,
-//! of whose frames as much is kept as the caller says (`KeepsFrames`). Left to others: what an image is and means
-//! (mig_restore_form), bytes and fields (mig_bytes), headers (mig_headers), record heads, PAGE_DATA words and what
-//! bodies say (mig_records, mig_hvm), frames and parts (mig_guest), whole guests and blank forms (mig_pvtables).
+//! of whose frames as much is kept as the caller says (`KeepsFrames`).
+//!
+//! Left to others:
+//!
+//! - what an image is and means (mig_restore_form)
+//! - bytes and fields (mig_bytes)
+//! - headers (mig_headers)
+//! - record heads, PAGE_DATA words and what bodies say (mig_records, mig_hvm)
+//! - frames and parts (mig_guest)
+//! - whole guests and blank forms (mig_pvtables)
 //!
 //! What the layers above rely on:
 //!

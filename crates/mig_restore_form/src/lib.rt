@@ -6,10 +6,17 @@
 //! - the laws that join the judging with the spelling of the format
 //! - the test of a record's head behind the records before it, and what a PAGE_DATA word and its page say
 //!
-//! For HVM and PV guests, in version 2 and 3 of the format. Left to others: bytes and fields (mig_bytes), headers and
-//! the table of record types (mig_headers), record heads, PAGE_DATA words and what bodies say (mig_records), the
-//! order of records (mig_order), frames and parts (mig_guest), page tables, whole guests and blank forms
-//! (mig_pvtables), an image read (mig_restore).
+//! For HVM and PV guests, in version 2 and 3 of the format.
+//!
+//! Left to others:
+//!
+//! - bytes and fields (mig_bytes)
+//! - headers and the table of record types (mig_headers)
+//! - record heads, PAGE_DATA words and what bodies say (mig_records)
+//! - the order of records (mig_order)
+//! - frames and parts (mig_guest)
+//! - page tables, whole guests and blank forms (mig_pvtables)
+//! - an image read (mig_restore)
 //!
 //! What the layers above rely on:
 //!

@@ -6,8 +6,11 @@
 //! - the members of the tree, the names of record types in Xen's documents, and the text of a refusal as the tree has
 //!   it
 //!
-//! Left to others: why a stream is refused, and which part comes next (mig_relay), what is printed of a place and a
-//! cause (mig_headers_text), and the JSON text of a tree (serde_json).
+//! Left to others:
+//!
+//! - why a stream is refused, and which part comes next (mig_relay)
+//! - what is printed of a place and a cause (mig_headers_text)
+//! - the JSON text of a tree (serde_json)
 //!
 //! What the layers above rely on: the records are exactly those of specs/Fronts, and the tree is that of specs/Tree.
 #![tactic(auto)]

@@ -72,14 +72,20 @@ fn stream_object(
     json!(in alloc; {"kind": kind, "records": records, "refused": refused, "version": version, "wrapper": wrapper})
 }
 
-/// The JSON object that shows a stream, with five members: `kind`, "pv" or "hvm"; `records`, an array with an object for
-/// each record of `list`, in its order; `refused`, what the refusal line says behind its first word; `version`; and
-/// `wrapper`, whether it is a libxl stream. A kind or a version that isn't known is null, and so is `refused` of a stream
-/// that isn't refused.
+/// The JSON object that shows a stream. It has five members:
 ///
-/// The object of a record has `layer`, "libxc" or "libxl"; `length`, the bytes of its body; `name`, that of its type in
-/// Xen's documents (libxc and libxl migration stream, "Records"), or "optional" where its type has bit 31; `type`, its
-/// number; and of a PAGE_DATA also `pages`, how many of its words have data, and `words`, how many it has.
+/// - `kind`, "pv" or "hvm"
+/// - `records`, an array with an object for each record of `list`, in its order
+/// - `refused`, what the refusal line says behind its first word
+/// - `version`
+/// - `wrapper`, whether it is a libxl stream
+///
+/// A kind or a version that isn't known is null, and so is `refused` of a stream that isn't refused.
+///
+/// The object of a record has `layer`, "libxc" or "libxl"; `length`, the bytes of its body; `type`, its number; and
+/// `name`. That is the name of its type in Xen's documents (libxc and libxl migration stream, "Records"), or "optional"
+/// where its type has bit 31. Of a PAGE_DATA it also has `words`, how many it has, and `pages`, how many of them have
+/// data.
 ///
 /// `Memory` where no memory was found. A type that is none of the record's layer and has no bit 31 has an empty
 /// name.

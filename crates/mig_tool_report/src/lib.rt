@@ -1,9 +1,14 @@
 //! What the program is told and what it tells: the words of its command line, its statuses, and the lines of its
 //! report.
 //!
-//! Responsible for: which command the words name, which status and which line an outcome has, what a status says,
-//! whichever the command is, and putting the line of an outcome, or the own line of a command that has one, on a
-//! sink. Left to others: what a command does (mig_tool_guest, mig_tool_save), and how a place or a cause is printed
+//! Responsible for:
+//!
+//! - which command the words name
+//! - which status and which line an outcome has
+//! - what a status says, whichever the command is
+//! - putting the line of an outcome, or the own line of a command that has one, on a sink
+//!
+//! Left to others: what a command does (mig_tool_guest, mig_tool_save), and how a place or a cause is printed
 //! (mig_headers_text).
 //!
 //! What the layers above rely on:

@@ -156,8 +156,8 @@ fn canonical_restored(alloc: Global, guest: Guest, text: &mut Text) -> Result<()
     }
 }
 
-/// How long the canonical stream is of this guest, which this host is seen as: the one that is written of it, of what it is
-/// seen as once it is restored, and of what the host is seen as, is one.
+/// How long the canonical stream is of this guest, which this host is seen as. One stream is written of the guest, of
+/// what it is seen as once it is restored, and of what the host is seen as.
 fn one_canonical_len(
     alloc: Global,
     guest: Guest,
@@ -179,8 +179,8 @@ fn one_canonical_len(
     Ok(len as u64)
 }
 
-/// How long the canonical stream of the guest is that this stream means and this host is seen as: the one that is read from
-/// the stream, restored and seen again, and the one that is seen now, have one canonical stream.
+/// How long the canonical stream of the guest is that this stream means and this host is seen as. The guest that is
+/// read from the stream, restored and seen again, and the one that is seen now, have one canonical stream.
 fn canonical_len(alloc: Global, stream: &[u8], host: &Host) -> Result<u64, Memory>
     requires sound { unsoundness host.now.host ≡ None }
     requires means { (rest : List ℕ) → AcceptedStream (stream.now ++ rest) (view host.now.host) rest }
@@ -262,8 +262,8 @@ fn exercise_of(
     })
 }
 
-/// Saves the host of the exercise live in memory, while its script runs, reads what was written, and writes its guest in its
-/// canonical form, as it was read, as it is seen once it is restored, and as the paused host is seen.
+/// Saves the host of the exercise live in memory, while its script runs, and reads what was written. Then it writes the
+/// guest in its canonical form: as it was read, as it is seen once it is restored, and as the paused host is seen.
 pub fn exercise(alloc: Global, seed: u64, frames: u64) -> Result<Exercised, Memory>
     requires { IsFrameNumber frames }
     ensures frames { IfOk result (λ e. e.frames ≡ frames) }

@@ -6,10 +6,13 @@
 //! - each of the two as one function that answers the status, and what a status says of it
 //! - the host and the machine that are saved, and that what an exercise wrote is read, restored and seen again
 //!
-//! Left to others: how an image and a script are read (mig_image, mig_machine_script), how a machine runs its script,
-//! and that the rounds of its save are those that host and script tell (mig_machine), how it is saved
-//! (mig_dirtysave), the host and the script of an exercise (mig_exercise), which command the words name, and the
-//! lines (mig_tool_report).
+//! Left to others:
+//!
+//! - how an image and a script are read (mig_image, mig_machine_script)
+//! - how a machine runs its script, and that the rounds of its save are those that host and script tell (mig_machine)
+//! - how it is saved (mig_dirtysave)
+//! - the host and the script of an exercise (mig_exercise)
+//! - which command the words name, and the lines (mig_tool_report)
 //!
 //! What the layers above rely on:
 //!
