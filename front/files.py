@@ -22,7 +22,7 @@ def entries_of(folder: str) -> 'List[str]':
 
 
 def files_below(folder: str, left_out: 'Optional[os.stat_result]' = None) -> 'Iterator[sources.Found]':
-    """All files below a folder, in the order of their names, but those in a folder that is left out; a folder that can't be read
+    """All files below a folder, in the order of their names, but those in a folder that is left out. A folder that can't be read
     is answered as itself, and so is a link to a folder, which isn't followed."""
     unreadable, left = [], [folder]  # type: List[sources.Folder], List[str]
     while left:

@@ -86,8 +86,9 @@ class Sources:
         return sorted(found)
 
     def checksum(self) -> str:
-        """The checksum of all that the programs are made from: of the lines of crates.txt of the crates that it stands on, by their
-        names, and then of a line as sha256sum writes it for each file of src, specs and proofs of these crates, by their paths."""
+        """The checksum of all that the programs are made from. It is of the lines of crates.txt of the crates that they stand on,
+        by their names. Then follows a line as sha256sum writes it for each file of src, specs and proofs of these crates, by
+        their paths."""
         files = sorted(path for crate in self.needed for path in self.files(crate))
 
         def made() -> str:

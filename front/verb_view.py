@@ -131,8 +131,8 @@ class View:
 
 
 class Checked(threading.Thread):
-    """What mig_check says of a file, which it reads by place, while `show` lists its records: by an opening of the file of its own, where
-    that can be had, since programs move the place of the one that they get; else it is asked behind that."""
+    """What mig_check says of a file, which it reads by place, while `show` lists its records. It gets an opening of the file of
+    its own, since programs move the place of the one that they get. Where that can't be had, it is asked after `show`."""
 
     def __init__(self, name: str, source: 'Any', memory: Memory) -> None:
         super().__init__(daemon=True)

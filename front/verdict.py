@@ -29,9 +29,9 @@ Fields = namedtuple('Fields', 'name result status line form begins offset packed
 
 
 class Verdict(Fields):
-    """Of one file: a result, the status that goes with it, the program's line, the form that was found, and what explains
-    it, with the text of a script's bad line, the size of a stream that was saved, and by what the file is known again; None where that
-    says nothing of it."""
+    """Of one file: a result, the status that goes with it, the program's line, the form that was found, and what explains it.
+    Also the text of a script's bad line, the size in bytes of a stream that was saved, and by what the file is known again. What
+    says nothing of the file is None."""
 
     @classmethod
     def of(cls, name: str, result: str, status: int, line: str, form: 'Optional[str]' = None, **more: 'Any') -> 'Verdict':

@@ -13,13 +13,13 @@ by hand, or looked at. The five are
     a line's wording  `fault: read` reads otherwise: the files that spell the program's line. bin/mig's own lines, which go on
                       with a colon and a reason, are others
 
-Counted apart, as inputs: cases, images and other inputs of the tests that lie at the limit or hold the record or the command,
-must-fail edits, and the worked laws of mig_report_laws, which say a number once more so that a mistake in it is seen. Their names
-and bytes stay what they are, or follow from the change one by one. Cases name a line by a name of tests/lines.py, which stays
-where the wording changes; so does tests/examples/run. Not counted: the shipped program, CHANGELOG.md and this script; the parts
-of a document that are made, each of which names its script, and that tests/documents/run compares with what the script makes
-(tests/documents/made.py: `--write` makes them anew, so nobody has to look); and a file that spells the number or the line for
-something else (SOMETHING_ELSE).
+Some files are counted apart, as inputs: cases, images and other inputs of the tests that lie at the limit or hold the record or
+the command; must-fail edits; and the worked laws of mig_report_laws. These say a number once more so that a mistake in it is
+seen. Their names and bytes stay what they are, or follow from the change one by one. Cases name a line by a name of
+tests/lines.py, which stays where the wording changes; so does tests/examples/run. Not counted are the shipped program,
+CHANGELOG.md and this script, and a file that spells the number or the line for something else (SOMETHING_ELSE). Nor are the parts
+of a document that are made. tests/documents/run compares them with what their scripts make, and tests/documents/made.py makes
+them anew with `--write`, so nobody has to look.
 
 Prints the table, and with --files the files.
 """

@@ -1,11 +1,11 @@
 """Little memory: the address space of the program is limited to each of some sizes, from far too little to ample.
 
-Whether the program begins at all is the affair of the kernel and of the loader: with less than they need they end it, by a
-signal or with the loader's status and line. That it is they is seen from a run in which the loader does all it does and the
-program none of its own (LD_TRACE_LOADED_OBJECTS, which is what ldd sets); of a program that needs no loader, from one
-without words, which tells its usage and no more. From the least size on at which this run succeeds the program answers for
-itself: status 5 with its line and nothing on standard output, or the right answer. `relay` may have written a front of what
-it passes on; what it passes on, and what `show` lists the records of, may be far longer than the memory that either has.
+Whether the program begins at all is the affair of the kernel and of the loader: with less than they need they end it, by a signal
+or with the loader's status and line. That it is they is seen from a run in which the loader does all it does and the program none
+of its own (LD_TRACE_LOADED_OBJECTS, which is what ldd sets). Of a program that needs no loader it is seen from a run without
+words, which tells its usage and no more. From the least size on at which this run succeeds the program answers for itself: status
+5 with its line and nothing on standard output, or the right answer. `relay` may have written a front of what it passes on; what
+it passes on, and what `show` lists the records of, may be far longer than the memory that either has.
 """
 import itertools
 import struct

@@ -1,6 +1,7 @@
-"""A guest goes from xl to xl over the loopback, with the stream led through mig_tool between them: by a live migration; or,
-since most of these Xens can't migrate PV guests live, by `xl save` and `xl restore` at the two ends of a pipe. With --debug, xl
-sends all frames a second time; a copy of such a stream is kept. Behind a VERIFY record `mig check --compare` compares the frames."""
+"""A guest goes from xl to xl over the loopback, with the stream led through mig_tool between them. It does so by a live
+migration. Most of these Xens can't migrate PV guests live: these go by `xl save` and `xl restore` at the two ends of a pipe. With
+--debug, xl sends all frames a second time; a copy of such a stream is kept. Behind a VERIFY record `mig check --compare` compares
+the frames."""
 import os
 import shutil
 

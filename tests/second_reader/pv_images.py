@@ -1,5 +1,5 @@
-"""Images of PV hosts that are made at random, with scripts behind them: what a guest that is whole becomes on restore, with
-machine frames in no order, and then a few lines of a script, so that some are of hosts that are no whole guests."""
+"""Images of PV hosts that are made at random, with scripts behind them. Each is what a whole guest becomes on restore, with
+machine frames in no order. Then come a few lines of a script, so that some hosts are no whole guests."""
 import struct
 
 import images

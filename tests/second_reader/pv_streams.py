@@ -1,5 +1,5 @@
-"""Streams of PV guests that are made at random: a small guest that is whole, one thing about it changed or none, and the
-records that say it, with frames sent twice, lists of P2M frames in parts, and records in any order that may be taken."""
+"""Streams of PV guests that are made at random. Each has a small whole guest, with one thing about it changed or none. The
+records that say it have frames sent twice, lists of P2M frames in parts, and any order that may be taken."""
 import struct
 
 from form import MOST_GDT_ENTRIES

@@ -1,7 +1,7 @@
 """The part of the second reader that has `walk` and `walkimage`: which frame an address means to a vCPU, by its page tables.
 
-A place to walk in has the contexts of the vCPUs by their ids, frames (type and page) by frame number, and the frame number of
-each number that an entry or ctrlreg[3] may hold: itself in a stream, and that of the machine frame in a host.
+A place to walk in has the contexts of the vCPUs by their ids, and frames (type and page) by frame number. It also has the frame
+number of each number that an entry or ctrlreg[3] may hold: itself in a stream, and that of the machine frame in a host.
 """
 import collections
 

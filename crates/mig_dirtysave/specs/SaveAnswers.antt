@@ -45,8 +45,8 @@ pub record SaveWritten (old new : Option (List ℕ)) (t : MachineState) : Type 0
   pub order : pfns_sent (all_told batches) ≡ all_read t.host.width t.history
   pub means : t.honest ≡ true → (rest : List ℕ) → AcceptedStream (text ++ rest) (view t.host) rest
 
--- What was written from old to new of this host begins, behind what stands before the image, with headers and whole records
--- that a reader may take: some that aren't PAGE_DATA, and behind them the batches that tell most of what was read.
+-- What was written from old to new of this host, behind what is before the image, begins with headers and whole records
+-- that a reader may take. These are some that aren't PAGE_DATA, and behind them the batches with most of what was read.
 pub record WroteMost (old new : Option (List ℕ)) (h : HostOf) (k : History) : Type 0 where
   pub before : List Record
   pub batches : List (List FrameTold)

@@ -26,8 +26,9 @@ noted p found notes = record {
   types = λ q. if q == p then type_found found else notes.types q;
 }
 
--- Of each PFN that is neither unread in this round nor in the log: the last entry is what its footprint says now; it is
--- deferred exactly where no stream can have its frame as it is now; and the type that was seen last is its frame's type now.
+-- Of each PFN that is neither unread in this round nor in the log: the last entry is what its footprint says now. It is
+-- deferred exactly where no stream can have its frame as it is now. The type that was seen last is its frame's type
+-- now.
 pub record Current (unread log : Pfns) (frames : HostFrames) (sent : List FrameTold) (notes : Notes) : Type 0 where
   pub same : (q : ℕ) → unread q ≡ false → log q ≡ false → maps.get (frames_meant sent) q ≡ frame_sent (judged (footprint frames q))
   pub kept : (q : ℕ) → unread q ≡ false → log q ≡ false → notes.deferred q ≡ is_deferred (judged (footprint frames q))

@@ -103,9 +103,10 @@ pub record Saved (rounds : ℕ) (t : MachineState) : Type 0 where
   pub number : rounds ≡ t.history.live
   pub are : HasRounds t
 
--- what was sent in all: an entry for each PFN that was read, in that order. Over an honest machine the worst that was found
--- is the first thing that is wrong with the tables, the types that were seen last are the types of the frames, and where
--- nothing is wrong nothing was read after the pause but what the logs name, and the entries mean the frames.
+-- what was sent in all: an entry for each PFN that was read, in that order. Over an honest machine the worst that was
+-- found is the first thing that is wrong with the tables, and the types that were seen last are the types of the
+-- frames. Where nothing is wrong, nothing was read after the pause but what the logs name, and the entries mean the
+-- frames.
 pub record SavedSent (t : MachineState) (sent : List FrameTold) (worst : Worst) (notes : Notes) : Type 0 where
   pub order : pfns_sent sent ≡ all_read t.host.width t.history
   pub told : AreTold t.host.kind t.host.width sent

@@ -11,8 +11,8 @@ Uses used id context field = used (field_row field) id (gdt_ents context) (long_
 abbrev pub AreNamesSmall : (ℕ → Option ℕ) → Type 0
 AreNamesSmall names = (n name : ℕ) → names n ≡ Some name → name < 2 ^ 52
 
--- new is the context in which each field that vCPU id uses says the name of the frame that it said, in written form; each
--- of the 646 numbers at which no field stands that is used and whose frame has a name is what it was
+-- new is the context in which each field that vCPU id uses says the name of the frame that it said, in written form. Of
+-- its 646 numbers each one is what it was, but at a field that is used and whose frame has a name.
 pub record SaysAnew (used : FieldRow → UsedWhere) (names : ℕ → Option ℕ) (id : ℕ) (context new : List ℕ) : Type 0 where
   pub size : length new ≡ 5168
   pub bytes : AreBytes new

@@ -39,8 +39,8 @@ pub record IsFirstHigh (ws : List ℕ) (entry : ℕ) : Type 0 where
   pub high : 2 ^ 32 ≤ slice_index ws entry
   pub before : (k : ℕ) → k < entry → slice_index ws k < 2 ^ 32
 
--- a batch has no fault exactly where each of its words has a type and is below 2^32; and a word is told to be high exactly
--- where it is the first of 2^32 or more, and each word has a type
+-- A batch has no fault exactly where each of its words has a type and is below 2^32. A word is told to be high exactly
+-- where it is the first of 2^32 or more, and each word has a type.
 pub record BatchesAreJudged (ws : List ℕ) : Type 0 where
   pub faultless : (fault_of_batch ws ≡ None) ↔ All (λ w. IsTyped w × (w < 2 ^ 32)) ws
   pub high : (entry : ℕ) → (fault_of_batch ws ≡ Some (WordHigh entry)) ↔ (All IsTyped ws × IsFirstHigh ws entry)

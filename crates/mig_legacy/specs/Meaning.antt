@@ -1,5 +1,5 @@
--- What a legacy stream means, in the words of its format: of each frame number the last entry of all batches decides,
--- of each part the last of its chunks and tail that says it, and of each key of the device model's store the last value.
+-- What a legacy stream means, in the words of its format. Of each frame number the last entry of all batches decides;
+-- of each part the last of its chunks and tail that says it; of each key of the device model's store the last value.
 use Rattle.std.specs.Prelude.{ℕ, List, [], ◌∷◌, ◌++◌, Option, Some, None, ◌==◌, if◌then◌else◌}
 use Rattle.mig_legacy.specs.Common.{flat_map, option_or, Pair, context_key, PairMap, put_pairs, FrameEntry, Part}
 use Rattle.std.specs.FinMap as maps

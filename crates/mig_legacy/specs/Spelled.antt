@@ -1,5 +1,5 @@
--- The spelling of a legacy stream, in the words of the format: its start, its chunks one after the other, its tail, and the
--- device model's record or the end of the input (Xen's xg_save_restore.h; libxl's save file up to Xen 4.5).
+-- The spelling of a legacy stream, in the words of the format (Xen's xg_save_restore.h; libxl's save file up to Xen
+-- 4.5). It has a start, chunks one after the other, a tail, and the device model's record or the end of the input.
 use Rattle.std.specs.Prelude.{◌≡◌, ◌≢◌, ◌≤◌, ◌<◌, ℕ, ◌+◌, ◌*◌, ◌/◌, ◌-◌, ⊤, true, false, List, [], ◌++◌, length, Option, Some, None}
 use Rattle.mig_legacy.specs.Common.{All, flat_map, le32, be64, Spells, most_body, vcpu_limit, IsFew, GuestOf, most_pairs, ContextEntry, IsContext, cut_at, marker, libxl_ident, Hvm, words, sent, FrameEntry, emulators_of, spelled_with}
 use Rattle.mig_restore_form.specs.Spelled.{AreEntries}

@@ -60,8 +60,9 @@ pub record RunsTillPaused (a b : MachineSeen) : Type 0 where
   pub pause : is_paused a ≡ false → is_paused b ≡ true → one_more a.runs ≤ b.runs
   pub behind : is_paused a ≡ true → (is_paused b ≡ true) × (b.runs ≡ a.runs)
 
--- The second is the first one later on: it has the same script, no fewer calls were made, its host is what the lines run
--- between make of the host of the first, its history goes on from that of the first, and where the first was exact it is too.
+-- The second is the first one later on. It has the same script, and no fewer calls were made. Its host is what the
+-- lines run between make of the host of the first, and its history goes on from that of the first. Where the first was
+-- exact, it is too.
 pub record IsLaterMachine (a b : MachineSeen) : Type 0 where
   pub course : IsLaterCourse (course_of a) (course_of b)
   pub history : IsLaterHistory (history_of a) (history_of b)

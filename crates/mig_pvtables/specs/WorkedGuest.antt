@@ -1,5 +1,5 @@
--- The guest of the worked PV stream, tests/examples/cases/pv-stream.case, as it was sent, before it is brought to its blank
--- form: frames 1 to 9, of which 4 to 7 are tables of levels 1 to 4, one P2M frame, and one vCPU.
+-- The guest of the worked PV stream, tests/examples/cases/pv-stream.case, as it was sent, before it is brought to its
+-- blank form. It has frames 1 to 9, among them tables of levels 1 to 4 (4 to 7) and one P2M frame, and one vCPU.
 use Rattle.std.specs.Prelude.{ℕ, ◌-◌, ◌^◌, List, [], ◌∷◌, Some, ◌==◌, replicate, if◌then◌else◌}
 use Rattle.std.specs.FinMap as maps
 use Rattle.mig_pvtables.specs.Common.{Pv, PageType, Notab, L1Tab, L2Tab, L3Tab, L4Pinned, FrameOf, GuestOf, longs, Part, p2m_key, vcpu_key, shared_key}

@@ -41,8 +41,8 @@ word_place _ = 0
 pub data LegacyContextHas (body : List ℕ) : LegacyCause → Type 0 where
   wrong_entry : (offset : ℕ) (fault : ContextFault) → EntriesTo body offset → EntryHas body offset fault → LegacyContextHas body (BadContext fault)
 
--- the cause of a batch is that of the least number, and of one cause that at its least word; the field of a toolstack is the
--- first that is wrong; and that of a context is its first entry that is wrong
+-- The cause of a batch is that of the least number, at its least word. That of a toolstack is its first wrong field,
+-- and that of a context its first wrong entry.
 pub record ComputedCausesStand : Type 0 where
   pub batch : (ws : List ℕ) (cause : LegacyCause) → (fault_of_batch ws ≡ Some cause) ↔ IsTriedFirst number_of_legacy_cause word_place (WordsHave ws) cause
   pub toolstack : (body : List ℕ) (offset : ℕ) → (toolstack_fault body ≡ Some offset) ↔ FieldWrong body offset
@@ -57,8 +57,9 @@ pub record LegacyTestsSay : Type 0 where
 
 -- ---- refusals
 
--- behind a faultless front, as a legacy stream spells it, what comes next is refused at this place: the start; behind it and
--- so many chunks the next one; behind all chunks the tail; and behind it a device model's record, where any byte follows
+-- Behind a faultless front, as a legacy stream spells it, what comes next is refused at this place. It is the start;
+-- behind that and so many chunks the next one; behind all chunks the tail; or behind the tail a device model's record,
+-- where any byte follows.
 pub data RefusedLegacyAt (input : List ℕ) (cause : LegacyCause) (rest : List ℕ) : LegacyPlace → Type 0 where
   in_start : RefusedAs start_form input cause rest → RefusedLegacyAt input cause rest places.Start
   in_chunk : (start bytes left : List ℕ) (chunks : List LegacyChunk) → input ≡ start ++ (bytes ++ left) → IsStart start → Spells FollowsLegacy bytes chunks → is_legacy_ended chunks ≡ false → RefusedAs (chunk_form chunks) left cause rest

@@ -1,5 +1,5 @@
--- The form of an image (libxc migration stream), a stream of its own or a part of a libxl stream; in the words of the format
--- which causes stand in each of its parts; and its refusals, behind a faultless front.
+-- The form of an image (libxc migration stream), a stream of its own or a part of a libxl stream. Which causes stand in
+-- each of its parts is said in the words of the format, and so are its refusals, behind a faultless front.
 use Rattle.std.specs.Prelude.{◌≡◌, ◌↔◌, ◌⊎◌, ℕ, ◌+◌, ◌*◌, ◌^◌, ◌%◌, ◌<◌, ◌≤◌, List, [], ◌∷◌, ◌++◌, length, Option, Some, None, IsTrue, IsFalse, false, count_by, slice_index, if◌then◌else◌}
 use Rattle.std.specs.FinMap as maps
 use Rattle.mig_refusals.specs.Common.{padding_len, Spells, Gives, computed, le16, le32, le64, be16, be32, be64, is_optional, record_row_of, type_number, type_of_number, most_body, number_of_cause, Cause, ContextFault, Place, Kind, Pv, Hvm, most_frames, level_of, GuestOf, context_key, PartCode, VcpuBasic, VcpuExtended, VcpuXsave, HvmContext, HvmParam, VcpuMsrs, fault_of_pv_info, fault_of_p2m, Opening, Before, before, code_of_type, fault_at_end, fault_of_data, fault_of_head, fault_of_page, lists_of, most_records, type_in_word, with_places, sent, type_in_guest, Follows}

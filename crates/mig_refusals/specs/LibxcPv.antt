@@ -37,10 +37,10 @@ pub data VcpuHas (code : PartCode) (body : List ℕ) : ℕ → Cause → Type 0 
 abbrev pub rank_of : PartMap → PartKey → ℕ
 rank_of parts key = length (filter (λ e. is_lt (part_cmp e.0 key)) (maps.entries parts))
 
--- the context of vCPU id uses this field, which says this frame: rdx is field 0, and only vCPU 0 uses it; gdt_frames[i] is
--- field i + 1, used where the GDT has more than 512 * i descriptors, since a frame holds 512; ctrlreg[3] is field 17, always
--- used; and ctrlreg[1] is field 18, used where its lowest bit is 1. Both control registers hold a frame number from bit 12 on
--- (Xen public/arch-x86/xen.h, vcpu_guest_context; "X86_PV_VCPU_BASIC")
+-- The context of vCPU id uses this field, which says this frame. rdx is field 0, and only vCPU 0 uses it. gdt_frames[i]
+-- is field i + 1, used where the GDT has more than 512 * i descriptors, since a frame holds 512. ctrlreg[3] is field
+-- 17, always used. ctrlreg[1] is field 18, used where its lowest bit is 1. Both control registers hold a frame number
+-- from bit 12 on (Xen public/arch-x86/xen.h, vcpu_guest_context; "X86_PV_VCPU_BASIC")
 pub data IsUsedField (id : ℕ) (context : List ℕ) : ℕ → ℕ → Type 0 where
   start_info : id ≡ 0 → IsUsedField id context 0 (le64 context 616)
   descriptors : (i : ℕ) → i < 16 → 512 * i < gdt_ents context → IsUsedField id context (i + 1) (le64 context (4832 + 8 * i))

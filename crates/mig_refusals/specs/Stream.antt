@@ -1,5 +1,5 @@
--- The form of a libxl stream around its image (libxl migration stream), and in each part the causes that may stand in it, in the
--- order of their numbers; and the refusals of streams of either form, behind a faultless front.
+-- The form of a libxl stream around its image (libxl migration stream), with the causes that may stand in each part, in
+-- the order of their numbers. The refusals of streams of either form, behind a faultless front, follow.
 use Rattle.std.specs.Prelude.{◌<◌, ◌≡◌, ◌≤◌, ◌%◌, ◌^◌, ℕ, true, false, Bool, List, [], ◌∷◌, ◌++◌, length, drop, is_some, is_none, ◌==◌, if◌then◌else◌, ◌⊎◌, ◌↔◌, Option, Some}
 use Rattle.mig_refusals.specs.Common.{flat_map, padding_len, le32, be32, be64, Spells, Gives, Test, computed, is_ascending, most_body, number_of_cause, Pair, AreRising, text_of_pair, Cause, Place, most_records, ImageOf, Pv, emulators_of, pairs_said, spelled_with, FollowsLibxl, most_pairs, FormOf, ◌>>>◌, bytes_form, said_form, SpelledAs, RefusedAs, code_number}
 use Rattle.mig_bytes_form.specs.Tests.Test.{Less, AtMost, Equal, Is, Not, Both, Either}
@@ -120,8 +120,9 @@ pub record BeginsAsLibxl (input : List ℕ) : Type 0 where
   pub long : 8 ≤ length input
   pub ident : be64 input 0 ≡ libxl_ident
 
--- the input is refused at this place, for this cause, and rest follows the faulty part: an image that is no libxl stream; a libxl
--- stream in its header, in a record behind others, or in the image behind the head of LIBXC_CONTEXT
+-- The input is refused at this place, for this cause, and rest follows the faulty part. It is an image that is no libxl
+-- stream; or a libxl stream, refused in its header, in a record behind others, or in the image behind the head of
+-- LIBXC_CONTEXT.
 pub data RefusedStreamAt (input : List ℕ) (cause : Cause) (rest : List ℕ) : Place → Type 0 where
   bare : (place : Place) → (BeginsAsLibxl input → ⊥) → RefusedLibxc input place cause rest → RefusedStreamAt input cause rest place
   in_header : (ident left : List ℕ) → input ≡ ident ++ left → length ident ≡ 8 → be64 ident 0 ≡ libxl_ident → RefusedAs header_form left cause rest → RefusedStreamAt input cause rest places.LibxlHeader

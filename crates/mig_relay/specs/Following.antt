@@ -107,8 +107,9 @@ FillsBody _ piece head = ⊤
 
 -- ---- what follows
 
--- what comes behind a whole record of this type, whose head stood there: the next record, or nothing behind END; behind
--- LIBXC_CONTEXT, of which there is one, an image, and behind that image the next record of the libxl stream around it
+-- What comes behind a whole record of this type, whose head stood there: the next record, or nothing behind END. Behind
+-- LIBXC_CONTEXT comes an image, and there is one. Behind that image comes the next record of the libxl stream around
+-- it.
 pub data ComesBehind : Spot → ℕ → Spot → Type 0 where
   libxl_next : (records : List LibxlRecord) (r : LibxlRecord) (type : ℕ) → type ≢ libxl_end_type → type ≢ libxc_context_type → image_in r.content ≡ None → ComesBehind (AtLibxlHead records) type (AtLibxlHead (records ++ r ∷ []))
   libxl_context : (records : List LibxlRecord) (type : ℕ) → type ≡ libxc_context_type → image_among records ≡ None → ComesBehind (AtLibxlHead records) type (InImage (Behind records) AtMarker)

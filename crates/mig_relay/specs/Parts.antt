@@ -6,9 +6,9 @@ use Rattle.mig_bytes.specs.Judged.{Judged, ◌>>=◌, part, tried, each, placed,
 use Rattle.mig_relay.specs.Images.{open_image_at, open_records}
 use Rattle.mig_restore_form.specs.Record.Content.{Frames}
 
--- What comes next behind a faultless front of an image, and what of the front decides how it is judged: the marker; the
--- rest of the image header; the domain header; the head of a record; its body; the words of a PAGE_DATA, which has so many;
--- its pages, of these words with their places, behind these entries; or a record's padding.
+-- What comes next behind a faultless front of an image, and what of the front decides how it is judged. It is the
+-- marker, the rest of the image header, the domain header, or the head, body or padding of a record. Of a PAGE_DATA it
+-- is the words, which are so many, or the pages of these words with their places, behind these entries.
 pub data Next : Type 0 where
   AtMarker : Next
   AtVersion : Next

@@ -10,8 +10,8 @@ pub data Outer : Type 0 where
   Alone : Outer
   Behind : List LibxlRecord → Outer
 
--- What comes next behind a faultless front of a stream: its first 8 bytes; the header behind a libxl ident; the head of a
--- libxl record, its body, or its padding; a part of an image; or nothing, since this stream is over.
+-- What comes next behind a faultless front of a stream. It is the first 8 bytes; the header behind a libxl ident; the
+-- head, body or padding of a libxl record; a part of an image; or nothing, since this stream is over.
 pub data Spot : Type 0 where
   AtStart : Spot
   AtLibxlHeader : Spot

@@ -65,8 +65,9 @@ fault_behind (Verdict fault) begun more = fault
 abbrev pub EndsInEntries : ℕ → ℕ → Type 0
 EndsInEntries taken len = (n : ℕ) × (taken + 16 * n ≡ len)
 
--- What the bytes that were taken are, where this is known of them: none of a body of this form; the beginning of a chain
--- of entries, or of pairs behind an emulator's id and index; whole parameters; the first piece of a vCPU's basic context.
+-- What the bytes that were taken are, where this is known of them. They are none of a body of this form; the beginning
+-- of a chain of entries, or of pairs behind an emulator's id and index; whole parameters; or the first piece of a
+-- vCPU's basic context.
 abbrev pub KnowsBegun : Knows → ℕ → List ℕ → Type 0
 KnowsBegun (Nothing form) len begun = (begun ≡ []) × FitsForm form len
 KnowsBegun (Entries chain) len begun = IsBegunContext chain len begun

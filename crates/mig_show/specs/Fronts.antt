@@ -25,8 +25,9 @@ pub record HasWords (body : List ℕ) (number pages : ℕ) : Type 0 where
   pub spelled_len : length spelled ≡ 8 * number
   pub pages_is : pages ≡ count_by word_has_data (words number spelled)
 
--- what is shown of a record of a libxl stream, or of an image, that stands whole as these bytes: its head, its body and its
--- padding; and of a PAGE_DATA how many words it has, and how many of them have data, which fill its body with their pages
+-- What is shown of a record of a libxl stream, or of an image, that is whole as these bytes: its head, its body and its
+-- padding. Of a PAGE_DATA it is also how many words it has, and how many of them have data. Words and their pages fill
+-- its body.
 pub record StandsWhole (wrapped : Bool) (text : List ℕ) (shown : Seen1) : Type 0 where
   pub layer : shown.wrapped ≡ wrapped
   pub body : List ℕ

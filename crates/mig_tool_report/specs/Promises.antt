@@ -61,11 +61,11 @@ abbrev pub IsOfInput : Refusal → Type 0
 IsOfInput (refusals.Pause unsound) = ⊥
 IsOfInput _ = ⊤
 
--- What a command promises. Of an input that tells its bytes: which it accepts, and with which status such a one may end where
--- nothing failed; which refusals it has, with what follows the refused part; and what status 0 and status 4 say. Of its sinks:
--- a write of which of them is answered with status 4; with which status it may have put a line of its own on the report, and
--- which line; with which status the output may have been written; whether something is written before an input is refused.
--- And what is said besides.
+-- What a command promises. Of an input that tells its bytes: which it accepts, and with which status such a one may end
+-- where nothing failed; which refusals it has, with what follows the refused part; and what status 0 and status 4 say.
+-- Of its sinks: a write of which of them is answered with status 4, and with which status it may have put a line of its
+-- own on the report, and which line. Also with which status the output may have been written, whether something is
+-- written before an input is refused, and what is said besides.
 pub record Promise : Type 1 where
   pub Accepts : List ℕ → Type 0
   pub EndsWith : List ℕ → Status → Type 0

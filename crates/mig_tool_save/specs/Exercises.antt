@@ -6,9 +6,9 @@ use Rattle.mig_tool_report.specs.declared.outcome.ExerciseSummary.{ExerciseSumma
 use Rattle.mig_tool_report.specs.declared.status.Status.TheVariants as statuses
 use Rattle.mig_tool_save.specs.LiveSaves.{WroteLive, paused_host}
 
--- The numbers of an exercise with this seed and so many frames: it is saved in the rounds and up to the pause that its host
--- and its script tell, with an entry for each frame and those that are read again, and the canonical stream of its guest is
--- as long as the number of frames says.
+-- The numbers of an exercise with this seed and so many frames. It is saved in the rounds and up to the pause that its
+-- host and its script tell, with an entry for each frame and those that are read again. The canonical stream of its
+-- guest is as long as the number of frames says.
 pub record Exercises (seed n : ℕ) (s : ExerciseSummary) : Type 0 where
   pub calls : ℕ
   pub again : ℕ
