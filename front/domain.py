@@ -55,7 +55,7 @@ def configuration(source: 'Source', header: 'Header', begins: int) -> bytes:
 
 
 def behind_length(data: bytes) -> bytes:
-    """What stands behind the length that xl writes; all where these 4 bytes are no such length."""
+    """What is behind the length that xl writes; all where these 4 bytes are no such length."""
     length = int.from_bytes(data[:4], 'little')
     return data[4:4 + length] if length <= len(data) - 4 else data
 

@@ -105,7 +105,7 @@ def bare_form(front: bytes, begins: int, before: str = '') -> 'Optional[Form]':
 
 
 def headed_form(name: str, header: 'Header', source: 'Source') -> Form:
-    """The form of a file with a toolstack's header: what stands behind the header is that which it says."""
+    """The form of a file with a toolstack's header: what is behind the header is that which it says."""
     there = source.at(header.stream_begins, 8)
     if not there and source.length_to(header.stream_begins) < header.stream_begins:
         length = source.length_to(header.stream_begins) - (header.stream_begins - header.length)

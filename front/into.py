@@ -89,7 +89,7 @@ class Into:
         return verdict.of_name(os.path.join(self.words.directory, self.place_of(found.name)[0]), 'to') if is_there else {}
 
     def made(self, name: str) -> verdict.Verdict:
-        """The verdict of a file of which the result is written."""
+        """The verdict of a file whose result is written."""
         if name == '-':
             return verdict.Verdict.of(name, verdict.FAULT, errors.USAGE, 'standard input has no name that its result could have')
         if isinstance(name, (sources.Folder, sources.EmptyFolder)):
@@ -110,7 +110,7 @@ class Into:
         return verdict.Verdict.of(name, THERE, errors.USAGE, line)
 
     def written(self, name: str, source: 'Any', path: str, place: str) -> verdict.Verdict:
-        """The verdict of a source of which the result is written at this place. Where it fails no folder that was made for it
+        """The verdict of a source whose result is written at this place. Where it fails no folder that was made for it
         stays."""
         made, found = [], None  # type: List[str], Optional[verdict.Verdict]
         try:

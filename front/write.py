@@ -226,7 +226,7 @@ def written(words: 'Any', path: str, name: str, source: 'Any', output: Output) -
 
 
 def result_of(words: 'Any', path: 'Optional[str]', name: str, source: 'Any', place: str) -> verdict.Verdict:
-    """The verdict of a file of which the result gets this place where all is well."""
+    """The verdict of a file whose result gets this place where all is well."""
     output = Output(place, words.force)
     try:
         found = written(words, path or program.find(), name, source, output)

@@ -235,7 +235,7 @@ def asked_by_lies(tool, faults):
 
 
 def lies(tool, faults):
-    """Each lying head is refused, and little memory is held: twice what stands behind it in the input, and some KiB; by
+    """Each lying head is refused, and little memory is held: twice what is behind it in the input, and some KiB; by
     `relay` and `show` some KiB alone, but for the words of pages."""
     for name, behind, line, want, got, told in asked_by_lies(tool, faults):
         for why in program.differences(got, want._replace(report=line)):

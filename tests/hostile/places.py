@@ -43,7 +43,7 @@ def as_from_a_pipe(tool):
 
 
 def is_left_where_it_stood(tool):
-    """The place of the file isn't moved, and what stands behind the input isn't taken."""
+    """The place of the file isn't moved, and what is behind the input isn't taken."""
     for name, words, data in by_place(tool):
         want = program.wanted(words, data)
         for place in 0, len(BEFORE), FAR, FARTHEST:

@@ -183,7 +183,7 @@ def p2m_record(guest):
 
 
 def machine_records(guest):
-    """What stands behind the pages and X86_TSC_INFO."""
+    """What is behind the pages and X86_TSC_INFO."""
     vcpus = [record(kind, struct.pack('<II', vcpu, 0), context) for (vcpu, kind), context in sorted(guest['vcpus'].items())]
     return [record(SHARED_INFO, guest['shared']), *vcpus]
 

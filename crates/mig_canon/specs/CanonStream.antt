@@ -65,11 +65,11 @@ text_of_emulators ps = flat_map emulator_record ps
 abbrev pub opening_text : Bool → List ℕ
 opening_text legacy = libxl_header_of legacy ++ spelled 1 []
 
--- what stands before the image of a guest with these parts: nothing, where it has no emulators
+-- what is before the image of a guest with these parts: nothing, where it has no emulators
 unfoldable pub wrapper_opening : PartMap → List ℕ
 wrapper_opening parts = if has_emulators parts then opening_text (is_of_converter parts) else []
 
--- what stands behind it: the emulators and END
+-- what is behind it: the emulators and END
 unfoldable pub wrapper_closing : PartMap → List ℕ
 wrapper_closing parts = if has_emulators parts then text_of_emulators (emulators_in_order parts) ++ spelled 0 [] else []
 

@@ -7,7 +7,7 @@ use Rattle.mig_canon.specs.Canon.{headers, info_records, static_bodies, p2m_reco
 abbrev pub with_frames : GuestOf → FrameMap → GuestOf
 with_frames g frames = record { kind = g.kind; top = g.top; frames = frames; parts = g.parts }
 
--- ---- what stands around the frames
+-- ---- what is around the frames
 
 unfoldable pub before_the_frames : GuestOf → List ℕ
 before_the_frames g = headers g.kind ++ (text_of (info_records g.kind) ++ (text_of (static_bodies g) ++ text_of (p2m_records g.kind g)))

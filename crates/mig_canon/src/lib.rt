@@ -6,7 +6,7 @@
 //! - the order of the records of a canonical stream
 //! - frames in batches of 1024
 //! - the parts of each code, written by its shape with everything that a reader ignores zero
-//! - as definitions, what stands around the image where a guest has emulators
+//! - as definitions, what is around the image where a guest has emulators
 //! - that the records of a guest, one after another in their canonical order, may each stand where they stand and say
 //!   the guest's parts and frames
 //!

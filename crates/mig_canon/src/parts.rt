@@ -22,7 +22,7 @@ fn write_zeros<K: Sink>(sink: &mut K, count: usize) -> Result<(), WriteFailed>
     Ok(())
 }
 
-/// Appends what stands before the entries of a table: their number, where it has it.
+/// Appends what is before the entries of a table: their number, where it has it.
 fn write_front<K: Sink>(sink: &mut K, layout: Layout, count: u32) -> Result<(), WriteFailed>
     ensures bytes { Puts (front_text layout.counted count) (K.written sink.old) (K.written sink.new) result }
     ensures cause { FaultHasCause (K.faults sink.old) (K.faults sink.new) result }

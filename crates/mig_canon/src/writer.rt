@@ -84,7 +84,7 @@ fn write_last<K: Sink>(sink: &mut K, guest: &Guest) -> Result<(), WriteFailed>
     }
 }
 
-/// Appends what stands before the frames.
+/// Appends what is before the frames.
 #[tactic(auto, using(mig_bytes::proofs::Texts::puts_then, mig_bytes::proofs::Texts::puts_stop, mig_bytes::proofs::Texts::puts_same))]
 fn write_before<K: Sink>(sink: &mut K, guest: &Guest) -> Result<(), WriteFailed>
     requires { IsFormed guest.now }
@@ -97,7 +97,7 @@ fn write_before<K: Sink>(sink: &mut K, guest: &Guest) -> Result<(), WriteFailed>
     write_p2m_frames(sink, guest)
 }
 
-/// Appends what stands behind the frames.
+/// Appends what is behind the frames.
 #[tactic(auto, using(mig_bytes::proofs::Texts::puts_then, mig_bytes::proofs::Texts::puts_stop, mig_bytes::proofs::Texts::puts_same))]
 fn write_behind<K: Sink>(sink: &mut K, guest: &Guest) -> Result<(), WriteFailed>
     requires { IsFormed guest.now }

@@ -15,7 +15,7 @@ use mig_guest::mig_machine_api::Machine;
 use mig_headers::{Kind, Unsound};
 use mig_pagetypes::PageType;
 
-/// Judges the host of a paused HVM machine, and writes what stands behind the frames, END the last. `tables` is what was
+/// Judges the host of a paused HVM machine, and writes what is behind the frames, END the last. `tables` is what was
 /// found wrong with its tables. The settings are those of the host then.
 fn close_hvm<M: Machine, K: Sink>(
     machine: &M,
@@ -84,7 +84,7 @@ fn settle<M: Machine>(
     }
 }
 
-/// Judges the host of a paused PV machine, and writes what stands behind the frames, END the last. There is a mark for each
+/// Judges the host of a paused PV machine, and writes what is behind the frames, END the last. There is a mark for each
 /// frame number, whatever it was before.
 fn close_pv<M: Machine, K: Sink>(
     machine: &mut M,
@@ -128,7 +128,7 @@ fn close_pv<M: Machine, K: Sink>(
     Ok(())
 }
 
-/// Judges the host of a paused machine, and writes what stands behind the frames, END the last. Of a PV machine there is a
+/// Judges the host of a paused machine, and writes what is behind the frames, END the last. Of a PV machine there is a
 /// mark for each frame number.
 pub(crate) fn close<M: Machine, K: Sink>(
     machine: &mut M,

@@ -21,7 +21,7 @@
 //! - the frames, their tables and the rounds in which they are sent (mig_dirtysave_rounds)
 //! - what a host is seen as (mig_host_view)
 //! - what a stream is (mig_libxl_form)
-//! - what stands around its image (mig_libxl)
+//! - what is around its image (mig_libxl)
 //!
 //! What the layers above rely on: over an honest machine what `run` wrote is accepted, whatever follows it, and its
 //! guest is what the paused host is seen as. An HVM host is judged as it is in the end, over any machine; a PV host

@@ -1,4 +1,4 @@
--- Which of a host's parts are kept for what stands before the frames and behind them, and how they fit the host.
+-- Which of a host's parts are kept for what is before the frames and behind them, and how they fit the host.
 use Rattle.std.specs.Prelude.{◌≡◌, ℕ, Bool, true, List, length, Option, Some, ◌==◌, ◌&&◌, not}
 use Rattle.mig_dirtysave_parts.specs.Common.{option_map, is_emulator_code, GuestOf, PartMap, top_of}
 use Rattle.std.specs.FinMap as maps
@@ -6,12 +6,12 @@ use Rattle.mig_headers.specs.declared.kind.Kind.{Kind}
 use Rattle.mig_guest.specs.declared.part_key.PartKey.{PartKey}
 use Rattle.mig_guest.specs.PartCodes.{is_fixed}
 
--- the codes of the parts that stand before the frames, which never change while a guest runs; an emulator's pairs don't
+-- the codes of the parts that are before the frames, which never change while a guest runs; an emulator's pairs don't
 -- either, and stand behind the image
 abbrev pub is_early : ℕ → Bool
 is_early code = is_fixed code && not (code == 258)
 
--- the codes of the parts that stand behind the frames, without the context, which is written where it stands
+-- the codes of the parts that are behind the frames, without the context, which is written where it stands
 abbrev pub is_setting : ℕ → Bool
 is_setting code = not (is_early code) && not (code == 9)
 

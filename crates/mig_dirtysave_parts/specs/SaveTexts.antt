@@ -35,7 +35,7 @@ closing_records settings front = records_in_order setting_codes settings ++ cont
 abbrev pub settings_seen : HostOf → GuestOf
 settings_seen h = parts_alone h.kind h.width (kept_parts is_setting (view h).parts)
 
--- what stands before the END of a context that is there
+-- what is before the END of a context that is there
 pub record IsContextFront (parts : PartMap) (front : List ℕ) : Type 0 where
   pub context : List ℕ
   pub there : maps.get parts context_key ≡ Some context

@@ -2,7 +2,7 @@
 //!
 //! Responsible for:
 //!
-//! - copying the parts that stand before the frames and room for those behind them, and marks for judging P2M frames,
+//! - copying the parts that are before the frames and room for those behind them, and marks for judging P2M frames,
 //!   while there may still be no memory
 //! - writing the settings of the host as it is later over those that are held
 //! - judging a paused HVM host
@@ -12,13 +12,13 @@
 //!
 //! - what may be asked of a machine (mig_guest)
 //! - the frames and what is found in tables meanwhile, judging a PV host and bringing its contexts to their form in a
-//!   stream, what stands around the image (mig_dirtysave)
+//!   stream, what is around the image (mig_dirtysave)
 //! - single records of parts (mig_canon)
 //!
 //! What the layers above rely on:
 //!
-//! - What stands before the frames is what the canonical image has there of a guest with the early parts.
-//! - What stands behind them is what it has there of the host's view, where nothing is in the way of seeing it.
+//! - What is before the frames is what the canonical image has there of a guest with the early parts.
+//! - What is behind them is what it has there of the host's view, where nothing is in the way of seeing it.
 //! - Where a write stopped behind the frames, whole records and a part of one more stand there, perhaps none.
 //!
 //! Only `copy_parts` and `make_marks` take memory.

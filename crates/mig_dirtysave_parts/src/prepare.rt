@@ -59,7 +59,7 @@ fn fill_parts<M: Machine>(
     Ok(())
 }
 
-/// Two guests: one has the parts of the machine's host that stand before the frames, the other those behind them, without the
+/// Two guests: one has the parts of the machine's host that are before the frames, the other those behind them, without the
 /// context.
 pub fn copy_parts<M: Machine>(alloc: Global, machine: &M) -> Result<(Guest, Guest), Memory>
     ensures early { IfOk result (λ copied. copied.0 ≡ parts_alone (M.state machine.now).host.kind (M.state machine.now).host.width (kept_parts is_early_code (M.state machine.now).host.parts)) }

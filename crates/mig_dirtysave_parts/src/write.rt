@@ -14,7 +14,7 @@ use mig_headers::HVM_CONTEXT;
 use mig_records::{write_head, write_padding};
 use mig_records_pages::write_end;
 
-/// Appends what stands before the frames: the headers, the policies, and of a PV guest its P2M frames.
+/// Appends what is before the frames: the headers, the policies, and of a PV guest its P2M frames.
 pub fn write_before<K: Sink>(sink: &mut K, early: &Guest) -> Result<(), WriteFailed>
     requires { IsFormed early.now }
     ensures bytes { Puts (text_before early.now) (K.written sink.old) (K.written sink.new) result }

@@ -13,7 +13,7 @@ use Rattle.mig_exercise.specs.Numbers.{number}
 -- ---- which frame is what: of n frames, PFN 0 is the start page, 1 the GDT, 2 to 5 are tables of level 4 to 1, then come the
 -- P2M frames, and all others are data
 
--- how many P2M frames there are: each tells of 512 PFNs
+-- how many P2M frames there are: each is for 512 PFNs
 abbrev pub p2m_frame_count : ℕ → ℕ
 p2m_frame_count n = (n - 1) / 512 + 1
 

@@ -11,7 +11,7 @@ const NAME: &str = "/dev/stdin";
 
 const TOLD: &str = "/proc/self/fdinfo/0";
 
-/// What stands before the place of a file there.
+/// What is before the place of a file there.
 const PLACE: &str = "pos:";
 
 /// The standard input, where it is a file of the machine: the trusted edge towards it. It tells no bytes.

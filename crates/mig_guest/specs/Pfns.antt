@@ -2,7 +2,7 @@
 use Rattle.std.specs.Prelude.{ℕ, ◌/◌, ◌%◌, ◌==◌, ◌||◌, List, length, Bool, false, filter, nat_lt, get_or}
 use Rattle.mig_guest.specs.Common.{range_with_len, bit_at}
 
--- tells of each number whether it is in the set
+-- says of each number whether it is in the set
 abbrev pub Pfns : Type 0
 Pfns = ℕ → Bool
 
@@ -29,6 +29,6 @@ members width set = filter set (range_with_len 0 width)
 abbrev pub size : ℕ → Pfns → ℕ
 size width set = length (members width set)
 
--- bit p mod 64 of word p / 64 tells of p
+-- bit p mod 64 of word p / 64 is that of p
 abbrev pub pfns_of_words : List ℕ → Pfns
 pfns_of_words words p = bit_at (get_or words (p / 64) 0) (p % 64) == 1

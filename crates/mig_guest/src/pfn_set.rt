@@ -1,4 +1,4 @@
-//! Sets of frame numbers in words of 64 bits: bit p mod 64 of word p / 64 tells of p.
+//! Sets of frame numbers in words of 64 bits: bit p mod 64 of word p / 64 is that of p.
 
 mod make;
 mod scan;

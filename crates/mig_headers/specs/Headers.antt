@@ -89,7 +89,7 @@ pub record IsImageHeader (bytes : List ℕ) (version : ℕ) : Type 0 where
   pub known_version : (version ≡ 2) ⊎ (version ≡ 3)
   pub little_endian : be16 bytes 16 % 2 ≡ 0
 
--- the marker, and what stands behind it
+-- the marker, and what is behind it
 unfoldable pub behind_marker : List ℕ → List ℕ
 behind_marker rest = big_bytes 8 marker ++ rest
 
@@ -119,7 +119,7 @@ pub record IsLibxlHeader (bytes : List ℕ) (legacy : Bool) : Type 0 where
   pub little_endian : be32 bytes 12 % 2 ≡ 0
   pub from_legacy : is_from_legacy (be32 bytes 12) ≡ legacy
 
--- the ident, and what stands behind it
+-- the ident, and what is behind it
 unfoldable pub behind_ident : List ℕ → List ℕ
 behind_ident rest = big_bytes 8 libxl_ident ++ rest
 

@@ -37,7 +37,7 @@ pub record AreCanonicalPairs (bytes : List ℕ) : Type 0 where
 
 -- ---- the same, computed
 
--- what stands between zeros; the last text is what stands behind the last zero
+-- what stands between zeros; the last text is what is behind the last zero
 abbrev pub texts_in : List ℕ → List (List ℕ)
 texts_in bytes = slice_split (λ b. b == 0) bytes
 

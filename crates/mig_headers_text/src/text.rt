@@ -9,7 +9,7 @@ use itoa::Buffer;
 use mig_bytes::{Sink, WriteFailed, put_all};
 use mig_headers::{Cause, ContextFault, Place};
 
-/// What stands behind a cause's name.
+/// What is behind a cause's name.
 #[derive(Clone, Copy)]
 pub enum Arguments {
     Nothing,
@@ -43,7 +43,7 @@ pub trait Printed: Copy {
     /// Its name and the texts of its arguments.
     ghost words_told: { Self → List (List ℕ) };
 
-    /// The number of this cause, its name, and what stands behind its name.
+    /// The number of this cause, its name, and what is behind its name.
     fn words(self) -> (u64, &'static str, Arguments)
         ensures number { result.0 ≡ number_told self }
         ensures words { (result.1.now ∷ argument_texts result.2) ≡ words_told self };

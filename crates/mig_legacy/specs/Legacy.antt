@@ -26,7 +26,7 @@ pub record LegacyChunk : Type 0 where
   pub kind : ChunkKind
   pub content : LegacyContent
 
--- what stands behind the chunks: the frames of the I/O requests, of the buffered ones and of the store, and the context
+-- what is behind the chunks: the frames of the I/O requests, of the buffered ones and of the store, and the context
 pub record LegacyTail : Type 0 where
   pub requests : List ℕ
   pub buffered : List ℕ

@@ -74,7 +74,7 @@ pub record FollowsLegacy (chunks : List LegacyChunk) (c : LegacyChunk) (bytes : 
   pub not_ended : is_legacy_ended chunks ≡ false
   pub complete : c.kind ≡ End → IsLegacyComplete chunks
 
--- ---- what stands before the chunks and behind them
+-- ---- what is before the chunks and behind them
 
 -- the width of the P2M: its upper half is 0, and it is neither an image's marker nor a libxl stream's ident
 pub record IsStart (bytes : List ℕ) : Type 0 where

@@ -126,7 +126,7 @@ pub(crate) fn take_batch<S: Source, F: KeepsFrames<S>>(
 
 // ---- other bodies
 
-/// Takes which vCPUs there are, of which nothing is kept.
+/// Takes which vCPUs there are, and keeps nothing of it.
 #[tactic(auto, unfolding(mig_bytes_form::specs::Form::judged_as))]
 pub(crate) fn take_vcpus<S: Source>(src: &mut S) -> Result<(), Stop<LegacyCause>>
     ensures read { AgreesWithJudging (λ _ c. c ≡ Nothing) (S.left src.old) (S.left src.new) (judged_as vcpus_form) result }

@@ -41,7 +41,7 @@ fn start_fault(width: &[u8; 8]) -> Option<LegacyCause>
     None
 }
 
-/// Takes the width of the P2M, of which nothing is kept.
+/// Takes the width of the P2M, and keeps nothing of it.
 #[tactic(auto, unfolding(mig_bytes_form::specs::Form::judged_as))]
 fn take_start<S: Source>(src: &mut S) -> Result<(), Stop<LegacyCause>>
     ensures read { AgreesWithJudging (λ _ _. ⊤) (S.left src.old) (S.left src.new) (judged_as start_form) result }

@@ -4,7 +4,7 @@
 //!
 //! - taking the header and the records around an image, one after another, and what is kept of the stream, which is
 //!   the guest that it means, or a tally
-//! - writing what stands around the canonical image, which is the libxl header, the records of emulators in their
+//! - writing what is around the canonical image, which is the libxl header, the records of emulators in their
 //!   order, and END
 //! - the laws of the canonical stream
 //!

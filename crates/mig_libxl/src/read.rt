@@ -33,7 +33,7 @@ use mig_records::{RecordHead, take_head, take_padding};
 use mig_restore::{Reading, StreamAnswer};
 use std::alloc::Global;
 
-/// Takes a body of which nothing is kept.
+/// Takes a body that isn't kept.
 fn skip_body<S: Source>(src: &mut S, len: u32) -> Result<(), Stop<Cause>>
     ensures read { AgreesWithJudging (λ _ c. c ≡ Nothing) (S.left src.old) (S.left src.new) (skipped_at len) result }
     ensures faults { RisesOnReadFault (S.faults src.old) (S.faults src.new) result }
@@ -269,7 +269,7 @@ impl<I> WrapperSeen<I> {
         }
     }
 
-    /// Takes what stands behind a head: a body, or the image behind LIBXC_CONTEXT.
+    /// Takes what is behind a head: a body, or the image behind LIBXC_CONTEXT.
     fn take_content<S: Source>(
         &mut self,
         alloc: Global,

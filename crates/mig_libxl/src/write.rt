@@ -161,7 +161,7 @@ fn write_behind<K: Sink>(sink: &mut K, guest: &Guest) -> Result<(), WriteFailed>
     close_wrapper(sink)
 }
 
-/// Appends what stands before the image of a guest with these parts: the header of a libxl stream and the record that an
+/// Appends what is before the image of a guest with these parts: the header of a libxl stream and the record that an
 /// image follows, where the guest has a part of an emulator; else nothing.
 #[tactic(auto, using(mig_bytes::proofs::Texts::puts_same, crate::proofs::Around::opening_some, crate::proofs::Around::opening_none))]
 pub fn write_opening<K: Sink>(sink: &mut K, guest: &Guest) -> Result<(), WriteFailed>
@@ -175,7 +175,7 @@ pub fn write_opening<K: Sink>(sink: &mut K, guest: &Guest) -> Result<(), WriteFa
     }
 }
 
-/// Appends what stands behind the image of a guest with these parts: the records of its emulators and the record that ends
+/// Appends what is behind the image of a guest with these parts: the records of its emulators and the record that ends
 /// a libxl stream, where it has a part of an emulator; else nothing.
 #[tactic(auto, using(mig_bytes::proofs::Texts::puts_same, crate::proofs::Around::closing_some, crate::proofs::Around::closing_none))]
 pub fn write_closing<K: Sink>(sink: &mut K, guest: &Guest) -> Result<(), WriteFailed>

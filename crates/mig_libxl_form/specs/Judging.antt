@@ -87,7 +87,7 @@ pairs_at e len input = said_at Truncated (fault_of_pairs e) (λ body. Pairs (emu
 abbrev pub context_at : ℕ → List ℕ → Judged Cause LibxlContent
 context_at len input = said_at Truncated fault_of_context (λ body. Context (emulator_key (code_number EmulatorContext) body) (drop 8 body)) len input
 
--- a body of which nothing is kept
+-- a body that isn't kept
 abbrev pub skipped_at : ℕ → List ℕ → Judged Cause LibxlContent
 skipped_at len input = plain_at Truncated (λ _. Nothing) len input
 
@@ -103,7 +103,7 @@ inner_at input = do
 abbrev pub body_of_type : EmulatorsOf → ℕ → ℕ → List ℕ → Judged Cause LibxlContent
 body_of_type e type len input = if type == emulator_pairs_type then pairs_at e len input else if type == emulator_context_type then context_at len input else skipped_at len input
 
--- what stands behind the head of a record of this type: a body, or the image behind LIBXC_CONTEXT
+-- what is behind the head of a record of this type: a body, or the image behind LIBXC_CONTEXT
 abbrev pub libxl_content_at : List LibxlRecord → ℕ → ℕ → List ℕ → Judged (Place × Cause) LibxlContent
 libxl_content_at records type len input = if type == libxc_context_type then inner_at input else placed (AtRecord (length records)) (body_of_type (emulators_of records) type len input)
 

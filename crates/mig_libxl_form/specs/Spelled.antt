@@ -52,7 +52,7 @@ pub record FollowsLibxl (records : List LibxlRecord) (r : LibxlRecord) (bytes : 
   pub one_image : r.type ≡ libxc_context_type → image_among records ≡ None
   pub complete : r.type ≡ libxl_end_type → IsLibxlComplete records
 
--- a libxl stream without a fault: its header, records of which the last is END, and then what follows
+-- a libxl stream without a fault: its header, records, the last of them END, and then what follows
 pub record IsWrapped (input : List ℕ) (records : List LibxlRecord) (rest : List ℕ) : Type 0 where
   pub header : List ℕ
   pub legacy : Bool

@@ -1,4 +1,4 @@
--- A machine of which chosen calls fail, and what it is to be that machine later on.
+-- A machine whose chosen calls fail, and what it is to be that machine later on.
 use Rattle.std.specs.Prelude.{◌≡◌, ℕ, ◌≤◌, ◌↔◌, List, Result, IsErr, OnOk, OnErr, refl}
 use Rattle.mig_machine.specs.Common.{Coded, code_by, coded×, coded_ℕ, coded_list, counted_up, IsListed, MachineState}
 use Rattle.mig_machine.specs.Calls.{KeepsContract}

@@ -1,5 +1,5 @@
 -- A machine as contracts see it. It is data: a set of frame numbers is words of 64 bits, of which bit p mod 64 of word p / 64
--- tells of p.
+-- is that of p.
 use Rattle.std.specs.Prelude.{ℕ, ◌+◌, Bool, true, List, map, Option, is_some, unwrap_or, refl}
 use Rattle.mig_machine.specs.Common.{Coded, code_by, coded×, coded_ℕ, coded_bool, coded_list, coded_option, HostOf, host_code, History, LogTook, Since, MachineState, Pfns, pfns_of_words, LineOf, line_code, Course}
 

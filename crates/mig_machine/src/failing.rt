@@ -11,7 +11,7 @@ use mig_guest::mig_machine_api::{Machine, Seen};
 use mig_headers::Kind;
 use std::marker::Model;
 
-/// A machine of which chosen calls fail.
+/// A machine whose chosen calls fail.
 #[derive(Drop)]
 pub struct FailingMachine {
     inner: ScriptMachine,

@@ -5,7 +5,7 @@
 //! - `ScriptMachine`, which is honest and meets the trait `Machine` for hosts of either kind of guest. Until it is
 //!   paused, each call runs the lines up to the next dot before it answers. It never fails, and takes all its memory as
 //!   it is made
-//! - `FailingMachine`, of which the listed calls fail and never reach the machine inside
+//! - `FailingMachine`, whose listed calls fail and never reach the machine inside
 //! - `ForgetfulMachine`, which isn't honest: the listed frame numbers never reach its log
 //! - `Paced`, which says of a host and a script in how many rounds a save ends, at which call it pauses the machine,
 //!   and which frame numbers it reads and sends again

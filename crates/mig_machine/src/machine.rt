@@ -59,7 +59,7 @@ fn made_ready(alloc: Global, host: &mut Host, script: &Script) -> Result<(Vec<u6
 }
 
 impl ScriptMachine {
-    /// A machine at this host, of which nothing was asked yet. It takes all memory that later calls need.
+    /// A machine at this host, which was asked nothing yet. It takes all memory that later calls need.
     pub fn new(alloc: Global, host: Host, script: Script) -> Result<ScriptMachine, Memory>
         requires narrow { host.host.width ≤ most_saved_width }
         ensures host { IfOk result (λ m. m.host ≡ host.host) }

@@ -31,7 +31,7 @@ line_said lines.Dot = Dot
 abbrev pub fields_in : List ℕ → List (List ℕ)
 fields_in text = slice_split (λ b. b == 32) text
 
--- what stands in front of its arguments
+-- what is in front of its arguments
 abbrev pub letter_of : LineOf → List ℕ
 letter_of (Write pfn at bytes) = codes "w"
 letter_of (Retype pfn type) = codes "t"

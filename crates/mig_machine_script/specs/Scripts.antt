@@ -1,4 +1,4 @@
--- A script: lines ended by LF, of which the last may lack it.
+-- A script: lines ended by LF, where the last may lack it.
 use Rattle.std.specs.Prelude.{◌≡◌, ◌≢◌, ◌⊎◌, ◌<◌, ℕ, ◌+◌, List, [], ◌∷◌, ◌++◌, length}
 use Rattle.mig_machine_script.specs.Common.{All}
 use Rattle.mig_machine_script.specs.ScriptLines.{LineOf, IsScriptLine}

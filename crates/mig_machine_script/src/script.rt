@@ -92,7 +92,7 @@ fn line_end(bytes: &[u8]) -> Option<usize>
     bytes.iter().position(|byte| *byte == b'\n')
 }
 
-/// The first text, without its LF, and what stands behind it.
+/// The first text, without its LF, and what is behind it.
 fn first_text(bytes: &[u8]) -> (&[u8], &[u8])
     requires { 0 < length bytes.now }
     ensures begins { BeginsWithText bytes.now result.0.now result.1.now }

@@ -54,7 +54,7 @@ unfoldable pub page_at_place : List (List ℕ) → ℕ → Option (List ℕ)
 page_at_place pages zero = None
 page_at_place pages (suc i) = Some (whole_page (slice_index_or pages i []))
 
--- the page that a mark tells of
+-- the page that a mark stands for
 abbrev pub page_of_mark : List (List ℕ) → ℕ → Option (List ℕ)
 page_of_mark pages m = cond (is_zeros m) (Some zero_bytes) (page_at_place pages m)
 

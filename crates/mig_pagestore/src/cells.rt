@@ -39,7 +39,7 @@ impl<A: Allocator> Model for Deed<A> {
     ghost also_owns = { λ d. deed_owns (A.dealloc_token d.alloc) d.at d.places };
 }
 
-/// Raw memory for a slab, of which no page is written yet.
+/// Raw memory for a slab, with no page written yet.
 pub(crate) fn allocate<A: Allocator>(
     alloc: &A,
     places: usize,
@@ -96,7 +96,7 @@ impl Cells {
         unsafe { base.ptr.add(len).read() }
     }
 
-    /// The pages, of which there are `len`.
+    /// The pages, `len` of them.
     pub(crate) fn pages(&self, base: Base, len: usize) -> &[[u8; 4096]]
         requires { (base.ptr ≡ self.now.at) × (len ≡ length self.now.pages) × (len ≤ 16384) }
         ensures { result.now ≡ self.now.pages }

@@ -166,7 +166,7 @@ fn place_in(index: &Index, pfn: u64) -> u64
     place_of(mark_of(index, pfn))
 }
 
-/// How many pages of zeros a mark tells of: 1 or 0.
+/// How many pages of zeros a mark stands for: 1 or 0.
 #[tactic(auto, unfolding(crate::specs::FrameView::is_zeros))]
 fn zeros_of(mark: u64) -> usize
     ensures { result ≡ zeros_in mark }
@@ -174,7 +174,7 @@ fn zeros_of(mark: u64) -> usize
     usize::from(mark == ZEROS)
 }
 
-/// The page that a mark tells of; none at 0.
+/// The page that a mark stands for; none at 0.
 #[tactic(auto, unfolding(crate::specs::FrameView::is_zeros), using(crate::proofs::Places::no_page, crate::proofs::Places::page_found))]
 fn page_of(arena: &Arena, mark: u64) -> Option<&[u8; 4096]>
     requires { place_of_mark mark ≤ length arena.now.pages }
@@ -229,7 +229,7 @@ fn run_len(index: &Index, arena: &Arena, pfn: u64, place: u64, most: u32) -> u32
     count
 }
 
-/// The frame that a cell tells of.
+/// The frame that a cell stands for.
 #[tactic(auto, using(crate::proofs::Places::frame_paged))]
 fn frame_of(arena: &Arena, cell: u64) -> (PageType, Option<&[u8; 4096]>)
     requires cell { IsCell cell }

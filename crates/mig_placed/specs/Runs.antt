@@ -1,4 +1,4 @@
--- Pages of frames that stand one behind another in a file.
+-- Pages of frames that are one behind another in a file.
 use Rattle.std.specs.Prelude.{◌≡◌, ◌<◌, ◌≤◌, ℕ, ◌+◌, ◌*◌, List, length, take, drop, Option, Some, None}
 use Rattle.std.specs.FinMap as maps
 use Rattle.mig_placed.specs.Common.{Frame, FrameWord, IsCell, ValueMap, cell_mark, cell_type, entries_from, pages_of}

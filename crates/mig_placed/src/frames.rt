@@ -7,7 +7,7 @@ use mig_file::PageFile;
 use mig_pagetypes::FrameWord;
 use mig_records_pages::FrameSequence;
 
-/// Frames whose pages stay in a file. Pages that stand one behind another there are read at once.
+/// Frames whose pages stay in a file. Pages that are one behind another there are read at once.
 #[derive(Clone, Copy)]
 pub struct PlacedFrames<'a, P: PageFile> {
     places: &'a Places,

@@ -17,7 +17,7 @@ pub fn places_read_as_frames()
     ensures all { (file : Option (List ℕ)) (cells : ValueMap) → frames_after file cells 0 ≡ maps.entries (frames_in_file file cells) }
 {}
 
-/// Behind so many bytes of a file stands as a page what stands there, where it is a whole page. At place 0 stands none.
+/// Behind so many bytes of a file stands as a page what is there, where it is a whole page. At place 0 stands none.
 #[tactic(auto, using(crate::proofs::Seen::page_stands, crate::proofs::Seen::no_page_at_0))]
 pub fn page_is_where_it_stands()
     ensures there { (front page rest : List ℕ) → length page ≡ 4096 → page_in_file (Some (front ++ (page ++ rest))) (length front + 1) ≡ Some page }

@@ -1,11 +1,11 @@
-//! Frames whose pages stay in the file that they stand in.
+//! Frames whose pages stay in the file that they are in.
 //!
 //! Responsible for:
 //!
-//! - where in a file each frame's page stands, in 8 bytes for each frame
+//! - where in a file each frame's page is, in 8 bytes for each frame
 //! - which frames these places read as
 //! - that they read as frames do which are set one after another
-//! - these frames as a writer of PAGE_DATA records takes them, where pages that stand one behind another in the file
+//! - these frames as a writer of PAGE_DATA records takes them, where pages that are one behind another in the file
 //!   are read at once
 //! - pages that are written in place of some in the file, which stand in another behind it
 //!
@@ -16,7 +16,7 @@
 //!
 //! - Places are a finite map from frame number to a cell, and each call says what it does to the whole map.
 //! - A call that finds no memory leaves it as it was.
-//! - With any file the places read as the frames that were set, each with the page that stands at its place, also
+//! - With any file the places read as the frames that were set, each with the page that is at its place, also
 //!   where more bytes stand behind the file.
 //! - The frames that are written are these.
 //!

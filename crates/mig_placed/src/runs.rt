@@ -10,7 +10,7 @@ use mig_bytes::Failed;
 use mig_file::PageFile;
 use mig_pagetypes::FrameWord;
 
-/// Pages that stand one behind another in a file: where the first one stands, how many pages they are, of how many frames
+/// Pages that are one behind another in a file: where the first one stands, how many pages they are, of how many frames
 /// they are all pages, and the number behind these frames.
 #[derive(Clone, Copy)]
 pub struct Run {

@@ -1,11 +1,11 @@
-//! Reads images from a file, and keeps of each page only where in the file it stands.
+//! Reads images from a file, and keeps of each page only where in the file it is.
 //!
 //! Responsible for:
 //!
 //! - what is noted of an entry of a PAGE_DATA as an image is read, which is the place of its page
 //! - that what was noted of an image reads in the file as the frames that its records send
 //! - a guest whose pages stay in its file
-//! - comparing an entry behind a VERIFY with the page that stands at the place of its frame
+//! - comparing an entry behind a VERIFY with the page that is at the place of its frame
 //!
 //! Left to others: the reader of images (mig_restore), what is kept of the guest, which is its outline (mig_outline),
 //! the places and how they read (mig_placed), and files (mig_file).

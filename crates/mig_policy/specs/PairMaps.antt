@@ -61,7 +61,7 @@ pairs_seen es = maps.from_sorted (map shown es)
 
 -- ---- the pairs that bytes spell
 
--- keys and values in turn; what stands behind the last zero is no pair
+-- keys and values in turn; what is behind the last zero is no pair
 abbrev pub pairs_of : List (List ℕ) → List Pair
 pairs_of [] = []
 pairs_of (rest ∷ []) = []

@@ -9,7 +9,7 @@ fn first_zero(bytes: &[u8]) -> Option<usize>
     bytes.iter().position(|byte| *byte == 0)
 }
 
-/// What stands before the first zero, and what stands behind it.
+/// What is before the first zero, and what is behind it.
 pub(crate) fn split_text(bytes: &[u8]) -> Option<(&[u8], &[u8])>
     ensures none { IfNone result (texts_in bytes.now ≡ bytes.now ∷ []) }
     ensures some { IfSome result (λ r. texts_in bytes.now ≡ r.0.now ∷ texts_in r.1.now) }
@@ -20,7 +20,7 @@ pub(crate) fn split_text(bytes: &[u8]) -> Option<(&[u8], &[u8])>
     Some((&bytes[..end], &bytes[end + 1..]))
 }
 
-/// The key and the value of the first pair, and what stands behind it.
+/// The key and the value of the first pair, and what is behind it.
 pub(crate) fn split_pair(bytes: &[u8]) -> Option<(&[u8], &[u8], &[u8])>
     ensures none { IfNone result (pairs_in bytes.now ≡ []) }
     ensures some { IfSome result (λ r. pairs_in bytes.now ≡ record { key = r.0.now; value = r.1.now } ∷ pairs_in r.2.now) }

@@ -53,7 +53,7 @@ abbrev pub IsTableFront : Bool → List ℕ → ℕ → Type 0
 IsTableFront true front n = (length front ≡ 8) × (le32 front 0 ≡ n)
 IsTableFront false front n = front ≡ []
 
--- what stands before the entries, and the entries
+-- what is before the entries, and the entries
 pub record IsTable (code : PartCode) (l : Layout) (body : List ℕ) (ps : List Part) : Type 0 where
   pub front : List ℕ
   pub bytes : List ℕ

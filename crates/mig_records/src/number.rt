@@ -16,7 +16,7 @@ pub(crate) fn number(bytes: &[u8], width: usize) -> u64
     LittleEndian::read_uint(bytes, width)
 }
 
-/// What stands behind the first `n` bytes.
+/// What is behind the first `n` bytes.
 pub(crate) fn behind(bytes: &[u8], n: usize) -> &[u8]
     requires { n ≤ length bytes.now }
     ensures { result.now ≡ drop n bytes.now }

@@ -6,7 +6,7 @@ use Rattle.mig_pagetypes.specs.PageTypes.{type_has_data}
 use Rattle.mig_records_pages.specs.PageData.{Frame, body_of}
 use Rattle.mig_records_pages.specs.declared.held_frame.HeldFrame.{HeldFrame}
 
--- what an entry tells of a frame number: the frame there, or that there is none
+-- what an entry says of a frame number: the frame there, or that there is none
 pub record FrameTold : Type 0 where
   pub pfn : ℕ
   pub frame : Option FrameOf

@@ -4,7 +4,7 @@
 //!
 //! - the words, pages and records of frames (libxc migration stream, "PAGE_DATA"), wherever the frames come from,
 //!   also where their pages have to be got first, which may fail
-//! - what an entry tells of a frame number
+//! - what an entry says of a frame number
 //! - batches of 1024 entries, of which the last before a flush may have fewer
 //! - what was written whole, and in part, since a start
 //! - the END record

@@ -196,7 +196,7 @@ next_form o records = image_record_form (before o records) >>> λ r. asked_form 
 
 -- ---- refusals, behind faultless fronts
 
--- both headers, and behind them these records, of which none is END
+-- both headers, and behind them these records, none of them END
 pub record IsOpen (front : List ℕ) (o : Opening) (records : List StreamRecord) : Type 0 where
   pub image_header : List ℕ
   pub domain_header : List ℕ

@@ -93,7 +93,7 @@ record_body_form records type len =
     else if type == emulator_context_type then said_form Truncated len context_causes (λ body. Context (emulator_key (code_number EmulatorContext) body) (drop 8 body))
     else said_form Truncated len (λ _. []) (λ _. Nothing)
 
--- what stands behind a head: a body and its padding; behind LIBXC_CONTEXT the image, which is no part of this form
+-- what is behind a head: a body and its padding; behind LIBXC_CONTEXT the image, which is no part of this form
 abbrev pub behind_record_head : List LibxlRecord → List ℕ → FormOf Cause LibxlRecord
 behind_record_head records head =
     if le32 head 0 == libxc_context_type then Gives (record { type = le32 head 0; content = Nothing })
@@ -105,7 +105,7 @@ record_form records = record_head_form records >>> λ head. behind_record_head r
 
 -- ---- refusals, behind faultless fronts
 
--- the header, and behind it these records, of which none is END
+-- the header, and behind it these records, none of them END
 pub record IsOpenWrapper (front : List ℕ) (records : List LibxlRecord) : Type 0 where
   pub header : List ℕ
   pub legacy : Bool

@@ -17,7 +17,7 @@ open_inner input = do
   image ← open_image_at input
   Passes (Image image.0) image.1
 
--- what stands behind the head of a record of this type: a body, or the image behind LIBXC_CONTEXT
+-- what is behind the head of a record of this type: a body, or the image behind LIBXC_CONTEXT
 abbrev pub open_content : List LibxlRecord → ℕ → ℕ → List ℕ → Judged (Place × Cause) LibxlContent
 open_content records type len input = if type == libxc_context_type then open_inner input else placed (AtRecord (length records)) (open_body type len input)
 

@@ -1,4 +1,4 @@
--- A body of which some first bytes were taken: what is known of it, and how it is cut into pieces.
+-- A body once some first bytes of it were taken: what is known of it, and how it is cut into pieces.
 use Rattle.std.specs.Prelude.{◌≡◌, ◌≤◌, ℕ, ◌+◌, ◌-◌, ◌*◌, ◌/◌, min, true, List, [], ◌++◌, length, drop, fold, Option, ⊤}
 use Rattle.mig_relay_bodies.specs.Common.{option_or, layout, fault_of_entries, fault_of_pv_info, fault_of_p2m, fault_of_body, fault_of_content, fault_of_scan, VcpuBasic, VcpuExtended, HvmParam, scan, Cause, pairs_fault, fault_of_context}
 use Rattle.mig_records.specs.declared.layout.Layout.{Layout}
@@ -82,7 +82,7 @@ pub record IsKnown (knows : Knows) (len : ℕ) (fault : List ℕ → Option Caus
   pub stands : KnowsBegun knows len begun
   pub says : (more : List ℕ) → length (begun ++ more) ≡ len → fault (begun ++ more) ≡ fault_behind knows begun more
 
--- a body with this fault, of which these first bytes were taken
+-- a body with this fault whose first bytes, these, were taken
 pub record IsBegunBody (seen : BodySeen) (fault : List ℕ → Option Cause) (begun : List ℕ) : Type 0 where
   pub taken : seen.taken ≡ length begun
   pub known : IsKnown seen.knows seen.len fault begun

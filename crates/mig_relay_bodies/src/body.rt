@@ -16,7 +16,7 @@ use crate::pairs::{behind_bytes, pairs_fault};
 use mig_headers::{Cause, RecordType, is_optional};
 use mig_libxl_form::{EMULATOR_CONTEXT, EMULATOR_XENSTORE_DATA};
 
-/// What is known of a body of which some first bytes were taken.
+/// What is known of a body once some first bytes of it were taken.
 #[derive(Clone, Copy, Debug, PartialEq, Eq)]
 pub struct BodySeen {
     /// How many bytes the body has.

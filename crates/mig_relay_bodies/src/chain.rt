@@ -7,7 +7,7 @@ ghost use Rattle.mig_relay_bodies.specs.ContextChain.{ChainSays, IsAhead, IsHead
 use mig_bytes::{u16_le, u32_le};
 use mig_headers::ContextFault;
 
-/// What is known of an HVM context of which some first bytes were taken: a chain of entries, each a head of 8 bytes with the
+/// What is known of an HVM context once some first bytes of it were taken: a chain of entries, each a head of 8 bytes with the
 /// entry's typecode and length, and its data (Xen's public/arch-x86/hvm/save.h; libxc migration stream, "HVM_CONTEXT").
 #[derive(Clone, Copy, Debug, PartialEq, Eq)]
 pub enum Chain {
@@ -58,7 +58,7 @@ fn behind_head(at: u64, len: u64, typecode: u16, size: u32) -> Chain
     Chain::Entry(at + HEAD + u64::from(size))
 }
 
-/// How many bytes the next piece has: a head, or what stands before the next one.
+/// How many bytes the next piece has: a head, or what is before the next one.
 pub(crate) fn next_piece(chain: Chain, taken: u64, len: u64) -> u64
     requires { taken < len }
     ensures value { result ≡ chain_piece chain taken len }

@@ -32,12 +32,12 @@ pub enum BodyForm {
     HvmParams,
     /// EMULATOR_XENSTORE_DATA: the emulator's id and its index, of 4 bytes each; and pairs of texts.
     EmulatorPairs,
-    /// EMULATOR_CONTEXT: the same two numbers, and bytes of which nothing is asked.
+    /// EMULATOR_CONTEXT: the same two numbers, and bytes that aren't judged.
     EmulatorContext,
 }
 
 impl BodyForm {
-    /// The most bytes of the first piece. What stands before an emulator's pairs is a piece of its own, and HVM parameters
+    /// The most bytes of the first piece. What is before an emulator's pairs is a piece of its own, and HVM parameters
     /// are cut between two of them, so that no number lies across two pieces.
     pub(crate) fn first_piece(self) -> usize
         ensures { result ≡ first_piece self }
@@ -50,7 +50,7 @@ impl BodyForm {
     }
 }
 
-/// What is known of a body of which some first bytes were taken.
+/// What is known of a body once some first bytes of it were taken.
 #[derive(Clone, Copy, Debug, PartialEq, Eq)]
 pub enum Knows {
     /// Nothing, before the first byte of a body of this form.

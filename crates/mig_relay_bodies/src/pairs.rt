@@ -5,7 +5,7 @@ ghost use Rattle.mig_relay_bodies.specs.PairPieces.{no_bytes, then_byte, bad_byt
 use mig_headers::Cause;
 use mig_policy::may_be_in_key;
 
-/// What is known of pairs of texts of which some first bytes were taken.
+/// What is known of pairs of texts once some first bytes of it were taken.
 #[derive(Clone, Copy, Debug, PartialEq, Eq)]
 pub struct Pairs {
     /// How many bytes were taken.

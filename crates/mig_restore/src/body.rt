@@ -75,7 +75,7 @@ fn take_sets<S: Source>(
     }
 }
 
-/// Takes the body of an X86_PV_INFO, of which nothing is kept.
+/// Takes the body of an X86_PV_INFO, and keeps nothing of it.
 fn take_info<S: Source>(src: &mut S, len: u32) -> Result<(), Stop<Cause>>
     requires { len ≡ 8 }
     ensures read { AgreesWithJudging (λ _ c. c ≡ Nothing) (S.left src.old) (S.left src.new) (info_at len) result }

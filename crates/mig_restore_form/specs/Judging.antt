@@ -17,7 +17,7 @@ pub record Opening : Type 0 where
 abbrev pub opening_of : ℕ → Kind → Opening
 opening_of version kind = record { version = version; kind = kind }
 
--- what stands before a record: the headers, the types of the records, and the greatest frame number of a PV guest so far
+-- what is before a record: the headers, the types of the records, and the greatest frame number of a PV guest so far
 pub record Before : Type 0 where
   pub opening : Opening
   pub types : List ℕ
@@ -55,7 +55,7 @@ head_at b input = said_at Truncated (fault_of_head b) (λ head. head) 8 input
 abbrev pub sets_at : PartCode → ℕ → List ℕ → Judged Cause Content
 sets_at code len input = said_at Truncated (fault_of_body code) (λ body. Sets code (parts_of_body code body)) len input
 
--- the body of an X86_PV_INFO, of which nothing is kept
+-- the body of an X86_PV_INFO, which isn't kept
 abbrev pub info_at : ℕ → List ℕ → Judged Cause Content
 info_at len input = said_at Truncated fault_of_pv_info (λ _. Nothing) len input
 
@@ -149,7 +149,7 @@ typed_at kind top (Some this) len input = coded_at (code_of_type this) len input
 abbrev pub body_at : Kind → ℕ → ℕ → ℕ → List ℕ → Judged Cause Content
 body_at kind top type len input = if is_optional type then plain_at Truncated (λ _. Nothing) len input else typed_at kind top (type_of_number type) len input
 
--- a record: its head, its body, its padding; what stands before it places what it says
+-- a record: its head, its body, its padding; what is before it places what it says
 unfoldable pub record_at : Before → List ℕ → Judged Cause StreamRecord
 record_at b input = do
   head ← head_at b input

@@ -76,7 +76,7 @@ pub record Follows (o : Opening) (records : List StreamRecord) (r : StreamRecord
   pub not_ended : is_ended records ≡ false
   pub complete : r.type ≡ type_number End → IsComplete o.kind (sent o.kind (records ++ r ∷ []))
 
--- an image without a fault: its headers, records of which the last is END, and then what follows
+-- an image without a fault: its headers, records, the last of them END, and then what follows
 pub record IsImage (input : List ℕ) (o : Opening) (records : List StreamRecord) (rest : List ℕ) : Type 0 where
   pub image_header : List ℕ
   pub domain_header : List ℕ

@@ -29,7 +29,7 @@ pub record ShowsWhole (told left : Option (List ℕ)) (tree : Data) : Type 0 whe
   pub form : front.wrapper ≡ begins_with_ident bytes
   pub tree_is : tree ≡ front_tree front None
 
--- the input is refused: what stands in front of that place is shown, and nothing of the faulty part
+-- the input is refused: what is in front of that place is shown, and nothing of the faulty part
 pub record ShowsRefused (input : List ℕ) (left : Option (List ℕ)) (place : Place) (cause : Cause) (tree : Data) : Type 0 where
   pub rest : List ℕ
   pub refused : IsOpenRefused input place cause rest

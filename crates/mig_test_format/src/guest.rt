@@ -9,7 +9,7 @@ use std::alloc::Global;
 use std::process::Abort;
 use std::test::Fail;
 
-// A page of this byte, of which a proof is to know nothing.
+// A page of this byte, about which a proof is to know nothing.
 fn page(byte: u8) -> [u8; 4096] {
     [byte; 4096]
 }
@@ -105,7 +105,7 @@ const PARAMETERS: [u8; 40] = [
     7, 0, 0, 0, 0, 0, 0, 0,
 ];
 
-// Bytes of which a proof is to know nothing.
+// Bytes about which a proof is to know nothing.
 fn hidden(bytes: &[u8]) -> &[u8] {
     bytes
 }

@@ -39,7 +39,7 @@ const CUT: [u8; 52] = [
     17, 17, 17, 17, 17, 17, 17, 2, 0, 0, 0, 4, 0, 0, 0, 34, 34, 34, 34, 0, 0, 0, 0, 0, 0, 0, 0,
 ];
 
-// A page, of which a proof is to know nothing; so of the texts.
+// A page, about which a proof is to know nothing; so of the texts.
 fn page() -> [u8; 4096] {
     [0x77; 4096]
 }

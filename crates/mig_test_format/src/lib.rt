@@ -8,7 +8,7 @@
 //! - what a relay keeps and what it writes where a read or a write fails
 //! - what the formats say where no stream shows it to the built program
 //!
-//! They stand in a crate of their own, since a crate with tests is proved twice. What a stream or an image says is
+//! They are in a crate of their own, since a crate with tests is proved twice. What a stream or an image says is
 //! tested with the built program (tests/examples).
 #![tactic(auto)]
 

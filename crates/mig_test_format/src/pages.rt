@@ -5,7 +5,7 @@ use mig_pagetypes::PageType;
 use mig_records_pages::{Batch, HeldFrame, write_batch, write_end, write_plain};
 use std::test::Fail;
 
-// What an entry tells of frame 5: a page of sevens, or that there is none.
+// What an entry says of frame 5: a page of sevens, or that there is none.
 fn entry(kind: Option<PageType>) -> HeldFrame
     ensures { result.pfn ≡ 5 }
 {

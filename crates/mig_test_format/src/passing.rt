@@ -12,7 +12,7 @@ const SMALLEST: [u8; 104] = [
     17, 17, 17, 17, 17, 17, 17, 17, 17, 17, 0, 0, 0, 0, 0, 0, 0, 0, 0, 0, 0, 0, 0, 0, 0, 0,
 ];
 
-// The stream, of which a proof is to know nothing.
+// The stream, about which a proof is to know nothing.
 pub(crate) fn smallest() -> &'static [u8] {
     &SMALLEST
 }

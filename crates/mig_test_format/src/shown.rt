@@ -13,7 +13,7 @@ const TEXT: &str =
 const END: &str =
     r#"{"kind":null,"records":[{"layer":"libxl","length":0,"name":"END","type":0}],"refused":null,"version":null,"wrapper":true}"#;
 
-// The texts, of which a proof is to know nothing.
+// The texts, about which a proof is to know nothing.
 fn text() -> &'static str {
     TEXT
 }

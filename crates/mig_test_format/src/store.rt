@@ -16,7 +16,7 @@ fn byte_of(pfn: u64) -> u8 {
     }
 }
 
-// A page of this byte, of which a proof is to know nothing.
+// A page of this byte, about which a proof is to know nothing.
 fn page(byte: u8) -> [u8; 4096] {
     [byte; 4096]
 }

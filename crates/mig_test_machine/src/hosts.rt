@@ -91,20 +91,20 @@ const WORKED: [(&[u8], u8, usize); 16] = [
     (&[7, 0, 0, 0, 0, 0, 0, 0, 0, 0, 0, 0, 0, 16, 0, 0], 0, 4096),
 ];
 
-// What stands before the 2048 frames of an HVM host with this width.
+// What is before the 2048 frames of an HVM host with this width.
 const BEFORE: [u8; 32] = [
     88, 71, 73, 77, 65, 71, 69, 49, 2, 0, 0, 0, 0, 0, 0, 0, 0, 8, 0, 0, 0, 0, 0, 0, 0, 8, 0, 0, 0,
     0, 0, 0,
 ];
 
-// What stands behind them: the smallest context.
+// What is behind them: the smallest context.
 const BEHIND: [u8; 64] = [
     1, 0, 0, 0, 0, 0, 0, 0, 9, 0, 0, 0, 0, 0, 0, 0, 0, 0, 0, 0, 40, 0, 0, 0, 1, 0, 0, 0, 24, 0, 0,
     0, 17, 17, 17, 17, 17, 17, 17, 17, 17, 17, 17, 17, 17, 17, 17, 17, 17, 17, 17, 17, 17, 17, 17,
     17, 0, 0, 0, 0, 0, 0, 0, 0,
 ];
 
-// The tables, of which a proof is to know nothing.
+// The tables, about which a proof is to know nothing.
 fn worked_rows() -> &'static [(&'static [u8], u8, usize)] {
     &WORKED
 }
@@ -122,7 +122,7 @@ pub(crate) fn context() -> &'static [u8] {
     &BEHIND[24..]
 }
 
-// A page of zeros, of which a proof is to know nothing.
+// A page of zeros, about which a proof is to know nothing.
 fn zeros() -> [u8; 4096] {
     [0; 4096]
 }

@@ -7,7 +7,7 @@
 //! - which call of a machine is which, how many there are, and when the first pages are written, of which no contract
 //!   tells as much
 //!
-//! They stand in a crate of their own, since a crate with tests is proved twice. A function that holds a script, a
+//! They are in a crate of their own, since a crate with tests is proved twice. A function that holds a script, a
 //! host or a machine hands it to one that borrows it, and the tests hold plain values: a proof considers a drop
 //! wherever the function that holds it may end.
 #![tactic(auto)]

@@ -28,7 +28,7 @@ fn keeps<M: Machine>(rt: &impl Abort, machine: &mut M)
     looks_up(rt, machine, &rows);
 }
 
-// The lines, of which a proof is to know nothing.
+// The lines, about which a proof is to know nothing.
 fn lines() -> &'static [u8] {
     b"a 65 7\na 66 8\na 67 9\nt 65 1\nw 65 0 0180000000000000\nw 65 4088 01c0000000000000\n.\nx 66 10\nr 66\nx 67 12\na 3 12\nx 67 11\n"
 }

@@ -45,7 +45,7 @@ fn script(alloc: Global, dots: u32, last: &[u8]) -> Result<Script, Fail> {
     script_in(alloc, text)
 }
 
-// A machine of which nothing was asked.
+// A machine that was asked nothing.
 fn started(alloc: Global, host: Host, script: Script) -> Result<ScriptMachine, Fail>
     requires narrow { host.host.width ≤ most_saved_width }
     ensures unpaused { IfOk result (λ machine. is_paused machine ≡ false) }

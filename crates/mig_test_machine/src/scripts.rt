@@ -74,7 +74,7 @@ const BAD_LINES: [&[u8]; 16] = [
     b"r \xff",
 ];
 
-// The tables, of which a proof is to know nothing.
+// The tables, about which a proof is to know nothing.
 fn each_kind() -> &'static [u8] {
     EACH_KIND
 }

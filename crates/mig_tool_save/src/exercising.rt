@@ -234,7 +234,7 @@ fn saved_len(
     Ok((summary, canon))
 }
 
-/// Saves a machine with the host and the script of the exercise, of which nothing was asked before.
+/// Saves a machine with the host and the script of the exercise, which was asked nothing before.
 fn exercise_of(
     alloc: Global,
     seed: u64,

@@ -99,7 +99,7 @@ fn unsaved(answer: SaveAnswer) -> Outcome
     }
 }
 
-/// Saves a machine live, of which nothing was asked before, while its script runs.
+/// Saves live a machine that was asked nothing before, while its script runs.
 pub(crate) fn save_machine<K: Sink>(
     alloc: Global,
     machine: &mut ScriptMachine,
