@@ -1,7 +1,7 @@
 """Proves the crates that the programs stand on, and builds the programs, by the commands of the Rattle kit.
 
 Each crate is proved when those below it are, as many side by side as there are cores, those first above which most is left.
-`rattle build` is called as `rattle build --help` documents it, and not `rt lib`: some kits' `rt` reads all files below a crate
+`rattle build` is called as `rattle build --help` documents it, and not `rt lib`. Some kits' `rt` reads all files below a crate
 again on each way through crates.txt, which took 16 of 40 minutes. And a library gets its statements alone, as under `rt ci`, so
 that those above it load no proofs: of 28 minutes that took five (docs/performance.md).
 

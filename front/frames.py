@@ -1,6 +1,6 @@
-"""What became of each frame number of a stream: how it was sent last, how often, and in which rounds. For a picture the frames stand
-in spans, one cell for each number, or for a block of them where they are too many; where thousands in a row have no frame, no
-span is there."""
+"""What became of each frame number of a stream: how it was sent last, how often, and in which rounds. For a picture the frames
+are in spans, one cell for each number, or for a block of them where they are too many. Where thousands in a row have no frame,
+there is no span."""
 import functools
 import struct
 

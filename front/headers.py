@@ -1,9 +1,9 @@
 """The headers that toolstacks put before a stream: what they say, and what is wrong with one.
 
-xl's header (tools/xl/xl.h and xl_vmcontrol.c of Xen): 32 bytes of magic; four numbers of 4 bytes, little-endian: the byte
-order 0x01020304, mandatory flags, optional flags and a length; then so many bytes with the domain's configuration.
-Mandatory flags: bit 0, the configuration is JSON; bit 1, the stream is of version 2, which Xen 4.6 brought. Optional
-flags are ignored, as xl does.
+xl's header (tools/xl/xl.h and xl_vmcontrol.c of Xen) has 32 bytes of magic, and four numbers of 4 bytes, little-endian. These are
+the byte order 0x01020304, mandatory flags, optional flags and a length. Then come so many bytes with the domain's configuration.
+Mandatory flags: bit 0, the configuration is JSON; bit 1, the stream is of version 2, which Xen 4.6 brought. Optional flags are
+ignored, as xl does.
 
 libvirt's header (src/libxl/libxl_conf.h of libvirt): 16 bytes of magic; a version and the length of an XML text, numbers
 of 4 bytes, little-endian on x86; 40 unused bytes; then the text. Version 1 stands before a legacy stream, version 2

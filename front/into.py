@@ -1,6 +1,6 @@
-"""`mig normalise`, `mig convert`, `mig restore` with -t DIR: many files in, one result for each in DIR. A file that was named gets
-its base name there, one that was found below a folder its path below that folder; a name that ends in .gz, .zst or .xz loses that,
-since no result is packed. A file that fails stops no other."""
+"""`mig normalise`, `mig convert`, `mig restore` with -t DIR: many files in, one result for each in DIR. A file that was named
+gets its base name there, one that was found below a folder its path below that folder. A name that ends in .gz, .zst or .xz loses
+that, since no result is packed. A file that fails stops no other."""
 import os
 import stat
 import sys

@@ -1,5 +1,6 @@
-"""What the list of a stream's records comes to, as the program's `show` writes it. Where a record lies follows from the lengths in
-that list, so of the stream itself a few numbers of 4 bytes alone are read: which Xen wrote it, and whose state some records have."""
+"""What the list of a stream's records comes to, as the program's `show` writes it. Where a record lies follows from the lengths
+in that list. So only a few numbers of 4 bytes are read of the stream itself: which Xen wrote it, and whose state some records
+have."""
 import json
 import re
 import struct

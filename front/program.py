@@ -40,8 +40,8 @@ def catch_signals(handler: 'Union[Callable[[int, Any], None], signal.Handlers]')
 
 
 def surroundings(words: 'List[str]', given: 'Mapping[str, str]') -> 'Mapping[str, str]':
-    """A program's environment for these words. Its pages come in two thirds of the time where the C library asks for huge ones, which it
-    does where GLIBC_TUNABLES says so; what is said there of huge pages already stays."""
+    """A program's environment for these words. Its pages come in two thirds of the time where the C library asks for huge ones,
+    which it does where GLIBC_TUNABLES says so. What is said there of huge pages already stays."""
     told = given.get('GLIBC_TUNABLES', '')
     if words in KEEPS_NO_PAGES or HUGE_PAGES in told:
         return given

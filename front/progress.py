@@ -1,5 +1,6 @@
-"""What a verb is at, in one line on a terminal: which file of how many, how many bytes of how many are read, how many in a second, and
-how long it will take. It comes once a verb has taken a second, and goes before anything else is printed. Nowhere else is it printed."""
+"""What a verb is at, in one line on a terminal. It has which file of how many, how many bytes of how many are read, how many in a
+second, and how long it will take. It comes once a verb has taken a second, and goes before anything else is printed. Nowhere else
+is it printed."""
 import os
 import sys
 import threading

@@ -1,6 +1,6 @@
-"""What a stream sent: of each PAGE_DATA its words, and which of its pages are zeros. It is read once, while the program's `show` judges
-it, so heads of records are followed here before `show` has listed them; that each lies where the lengths of `show` put it is
-looked at behind that (`Sent.fits`). No byte of a page is kept."""
+"""What a stream sent: of each PAGE_DATA its words, and which of its pages are zeros. It is read once, while the program's `show`
+judges it, so heads of records are followed here before `show` has listed them. Whether each lies where the lengths of `show` put
+it is looked at afterwards (`Sent.fits`). No byte of a page is kept."""
 import os
 import struct
 import threading

@@ -391,7 +391,7 @@ def source_of_open(fd: int, name: str, kind: 'Type[Plain]') -> 'Source':
 
 
 def opened(name: str) -> int:
-    """A file that was found in a folder is opened where it's regular alone: a device may do something then, and a pipe wait for
+    """A file that was found in a folder is opened only where it's regular. A device may do something then, and a pipe wait for
     ever, also one that took the file's place meanwhile."""
     if not isinstance(name, Found):
         return os.open(name, os.O_RDONLY | os.O_CLOEXEC)

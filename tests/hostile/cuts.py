@@ -123,8 +123,8 @@ def many_heads():
 
 
 def flowing(tool):
-    """What came is passed on before more comes: of each front, while the input is open, `relay` has written all that it
-    passes on of it, but for what may wait; and all of it at the end."""
+    """What came is passed on before more comes. Of each front, while the input is open, `relay` has written all that it passes on
+    of it, but for what may wait; and all of it at the end."""
     for name, words, data in (*program.forms(tool), ('many heads', ['relay'], many_heads())):
         if not program.passes_on(words):
             continue

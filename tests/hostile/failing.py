@@ -1,13 +1,12 @@
 """Reads and writes of the standard streams that fail or come short, each in turn: by faults.c, and by what a system does of
 itself (full disks, closed pipes, files that shrink).
 
-What is wanted: a read that fails gives status 3, a write of standard output that fails status 4, and a write of standard error
-status 4 where a line says what was found, each with its line. Standard output has nothing where the status isn't 0 or 4, and with
-status 4 a proper prefix of what status 0 writes. `normalise` of a file, which reads pages again where it writes them, may have
-written one with status 3 too. Of `save` no front of it is a stream, but where its line failed it is the whole stream. `relay`
-writes while it judges: with status 3 exactly what it passes on of the bytes that came is there, with status 4 what `save` has.
-`show` writes its text with status 1 too, once all is read, and with status 4 a proper prefix of that. An interrupted call is a
-failed one.
+A read that fails has to give status 3, and a write of standard output that fails status 4. So has a write of standard error,
+where a line says what was found. Each has its line. Standard output has nothing where the status isn't 0 or 4, and with status 4
+a proper prefix of what status 0 writes. `normalise` of a file, which reads pages again where it writes them, may have written one
+with status 3 too. Of `save` no front of it is a stream, but where its line failed it is the whole stream. `relay` writes while it
+judges: with status 3 exactly what it passes on of the bytes that came is there, with status 4 what `save` has. `show` writes its
+text with status 1 too, once all is read, and with status 4 a proper prefix of that. An interrupted call is a failed one.
 """
 import errno
 import fcntl

@@ -176,8 +176,8 @@ def has_loader(tool):
 
 
 class Faults:
-    """Makes calls of a program fail: by a library that stands before the program's own, built of faults.c into a folder that is
-    gone at the end; and the file in which it counts, of each process its own."""
+    """Makes calls of a program fail, by a library that comes before the program's own, built of faults.c into a folder that is
+    gone at the end. Has the file in which it counts, of each process its own."""
     counts_memory, source, how = True, 'faults.c', ('-shared', '-fPIC')
 
     def __init__(self, folder):

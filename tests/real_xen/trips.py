@@ -36,8 +36,8 @@ def may_stand(pair):
 
 
 def calls_to(guest, last):
-    """How often a live saver calls the host until it has read this frame: once for each frame number, and for each present
-    entry of a page table, but for those of a table of level 4 that are Xen's."""
+    """How often a live saver calls the host until it has read this frame. It does once for each frame number, and for each
+    present entry of a page table, but for those of a table of level 4 that are Xen's."""
     calls = last + 2
     for pfn, (kind, page) in guest.pages.items():
         if pfn <= last and kind & 7 in (1, 2, 3, 4):
@@ -204,8 +204,8 @@ class Trip:
         return seen
 
     def written_script(self, guest, letter):
-        """A script that writes the guest's letter before it is read, and again afterwards; and the first bytes of other
-        pages, as they are: these count as written, so that there is a second round."""
+        """A script that writes the guest's letter before it is read, and again afterwards. It also writes the first bytes of
+        other pages, as they are: these count as written, so that there is a second round."""
         text = ['w %d %d %s00\n' % (letter, LETTER, word.encode().hex()) for word in ('second', 'third')]
         others = [pfn for pfn, (kind, _) in sorted(guest.pages.items()) if kind == 0 and pfn != letter][:OTHERS]
         same = ['w %d 0 %s\n' % (pfn, bytes(guest.pages[pfn][1][:8]).hex()) for pfn in others]

@@ -125,8 +125,8 @@ def judge_targets(frames):
 
 
 def fields_of(vcpu, context, in_host=False):
-    """Each field that is used, the PFN in it, and the page types that the PFN may have; in a host machine frames stand in
-    place of PFNs, and ctrlreg[1] counts wherever it isn't 0."""
+    """Each field that is used, the PFN in it, and the page types that the PFN may have. In a host, machine frames are in place of
+    PFNs, and ctrlreg[1] counts wherever it isn't 0."""
     if vcpu == 0:
         yield 0, number_at(context, RDX), (NOTAB,)
     for slot in range(-(-number_at(context, GDT_ENTS) // 512)):

@@ -1,5 +1,5 @@
-"""The part of the second reader that tells what `show` writes of a stream: a JSON object with its records that stand whole, with
-head, body and padding, in front of the part that is refused.
+"""The part of the second reader that says what `show` writes of a stream. It is a JSON object with its records that are whole,
+with head, body and padding, in front of the part that is refused.
 
 It is judged as `relay` judges it, without what END asks of the whole guest and without an emulator's number of bytes.
 """

@@ -62,7 +62,7 @@ IsLittleBehind old new h k = (entries_read h.width k ≤ most_entries) ⊎ Wrote
 
 -- ---- how a save ends
 
--- The machine is paused, behind rounds that are those of the definition, and it is still the one that was asked first: what
+-- The machine is paused, behind rounds that are those of the definition. It is still the one that was asked first: what
 -- never changes of a host, and honesty, are as they were.
 pub record PausesMachine (s t : MachineState) : Type 0 where
   pub paused : t.paused ≡ true

@@ -67,9 +67,9 @@ fn rename_vcpu<M: Machine>(
     Ok(ill)
 }
 
-/// Puts the PFN of each machine frame that a vCPU of a paused host uses in its place, context by context in the order of
-/// their keys, and each field's machine frame is looked up once. The first field that says no machine frame of its type,
-/// by the types that were seen last, ends it and is answered; contexts before it are renamed then.
+/// Puts the PFN of each machine frame that a vCPU of a paused host uses in its place. The contexts come in the order of
+/// their keys, and each field's machine frame is looked up once. The first field that says no machine frame of its
+/// type, by the types that were seen last, ends it and is answered; contexts before it are renamed then.
 pub fn rename_contexts<M: Machine>(
     machine: &mut M,
     guest: &mut Guest,

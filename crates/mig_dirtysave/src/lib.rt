@@ -24,10 +24,10 @@
 //! - what is around its image (mig_libxl)
 //!
 //! What the layers above rely on: over an honest machine what `run` wrote is accepted, whatever follows it, and its
-//! guest is what the paused host is seen as. An HVM host is judged as it is in the end, over any machine; a PV host
-//! over an honest one, and over any machine what is answered and doesn't speak of types stands in it. The rounds are
-//! those of the definition. After every answer but `Ok` no front of what was written is an accepted stream, and at
-//! most 1024 of the frame numbers that were read have no whole record. `run` takes no memory.
+//! guest is what the paused host is seen as. An HVM host is judged as it is in the end, over any machine; a PV host is,
+//! over an honest machine. Over any machine an answer that doesn't speak of types is true of a PV host. The rounds are
+//! those of the definition. After every answer but `Ok` no front of what was written is an accepted stream, and at most
+//! 1024 of the frame numbers that were read have no whole record. `run` takes no memory.
 #![tactic(auto)]
 
 mod answer;

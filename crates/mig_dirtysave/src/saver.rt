@@ -16,8 +16,8 @@ use mig_libxl::{write_closing, write_opening};
 use std::alloc::Global;
 use std::marker::Model;
 
-/// What a save needs, made while there may still be no memory: the parts of the machine's host that are before the frames,
-/// room for those behind them, marks for judging P2M frames, and room for the rounds.
+/// What a save needs, made while there may still be no memory. It has the parts of the machine's host that are before
+/// the frames, room for those behind them, marks for judging P2M frames, and room for the rounds.
 #[derive(Drop)]
 pub struct Saver {
     early: Guest,

@@ -25,8 +25,9 @@ pub fn unended_wrapped_image_is_no_stream()
     ensures some { (start wrapped opened now : Option (List ℕ)) (legacy : Bool) (kind : Kind) (rs : List Record) → Appends start wrapped (opening_text legacy) → Appends wrapped opened (headers kind) → WroteSome opened now rs → WroteNoStream start now }
 {}
 
-/// An image that is ended, inside a libxl stream that isn't: no front of what was written is an accepted stream, however
-/// many records stand behind the image, and with a part of one more, END too. The image need not be accepted itself.
+/// An image that is ended, inside a libxl stream that isn't: no front of what was written is an accepted stream. So it
+/// is however many records are behind the image, and with a part of one more, which may be END. The image need not be
+/// accepted itself.
 pub fn unended_libxl_stream_is_no_stream()
     ensures all { (start wrapped closed now : Option (List ℕ)) (legacy : Bool) (rs : List Record) → Appends start wrapped (opening_text legacy) → EndedImage wrapped closed → WroteAll closed now rs → WroteNoStream start now }
     ensures some { (start wrapped closed now : Option (List ℕ)) (legacy : Bool) (rs : List Record) → Appends start wrapped (opening_text legacy) → EndedImage wrapped closed → WroteSome closed now rs → WroteNoStream start now }

@@ -10,8 +10,8 @@ use mig_headers::Unsound;
 use mig_pagetypes::PageType;
 use mig_pvtables::{blank_shared_info, blank_vcpus};
 
-/// Judges the PV host of a paused machine, as `judge` does, and where nothing is wrong with it brings the parts that the guest
-/// holds, which are the host's, to those of the guest that the host is seen as. Takes no memory.
+/// Judges the PV host of a paused machine, as `judge` does. Where nothing is wrong with it, the parts that the guest
+/// holds, which are the host's, become those of the guest that the host is seen as. Takes no memory.
 pub fn view_parts<M: Machine>(
     machine: &mut M,
     guest: &mut Guest,

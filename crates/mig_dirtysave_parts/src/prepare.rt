@@ -35,8 +35,9 @@ fn bare_guest<M: Machine>(alloc: Global, machine: &M) -> Guest
     }
 }
 
-/// Sets in two guests of the machine's kind and width, which have neither frames nor parts, the parts of its host that stand
-/// before the frames, and those behind them without the context. Where no memory is found, some may be set.
+/// Sets parts of the machine's host in two guests of its kind and width, which have neither frames nor parts. One gets
+/// the parts before the frames, the other those behind them, without the context. Where no memory is found, some may be
+/// set.
 fn fill_parts<M: Machine>(
     early: &mut Guest,
     settings: &mut Guest,

@@ -5,8 +5,8 @@ use Rattle.mig_dirtysave_rounds.specs.Forms.{table_of, superpage_in, lost_in, fo
 use Rattle.mig_dirtysave_rounds.specs.declared.found.Found.{Found}
 use Rattle.mig_dirtysave_rounds.specs.declared.found.Found.TheVariants as found
 
--- No frame; a frame as a stream has it; or a table that no stream can have, of this type: for its first superpage, or where
--- it has none, for its first entry whose machine frame has no PFN.
+-- No frame; a frame as a stream has it; or a table of this type that no stream can have. The reason is its first
+-- superpage, or where it has none, its first entry whose machine frame has no PFN.
 pub data Finding : Type 0 where
   Gone : Finding
   Shows : FrameOf → Finding

@@ -78,8 +78,8 @@ pub record Strays (p : ℕ) (h k : History) : Type 0 where
   pub taken : k.taken ≡ h.taken
   pub read : (k.since.read ≡ h.since.read) ⊎ (k.since.read ≡ with_pfn p h.since.read)
 
--- One PFN was read from s to t. The guest may have run between its calls: where the PFN is settled at t, its page and the
--- PFNs that were looked up at different moments belong to one footprint, and that is the footprint now.
+-- One PFN was read from s to t. The guest may have run between its calls. Where the PFN is settled at t, its page and
+-- the PFNs that were looked up at different moments belong to one footprint, and that is the footprint now.
 pub record ReadsOne (p : ℕ) (s t : MachineState) (found : Finding) : Type 0 where
   pub ran : Ran s t t.log
   pub paused : t.paused ≡ s.paused

@@ -7,8 +7,8 @@ use mig_records_pages::Batch;
 use std::alloc::{AllocError, Global};
 use std::marker::Model;
 
-/// What the rounds of a save keep in mind, made beforehand: which frame numbers are to be read, and of which the table is
-/// deferred; the type seen last of each; a log, and a batch of entries.
+/// What the rounds of a save keep in mind, made beforehand. It has which frame numbers are to be read, and whose table
+/// is deferred; the type seen last of each; a log; and a batch of entries.
 #[derive(Drop)]
 pub struct Room {
     pub(crate) batch: Batch,

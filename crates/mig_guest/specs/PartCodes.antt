@@ -1,5 +1,5 @@
--- What parts there are, a row each: the number of the code, the kinds of guest that have such parts, their keys, and
--- the lengths of their bytes (libxc migration stream, "Records", and libxl migration stream, the emulator records).
+-- What parts there are (libxc migration stream, "Records", and libxl migration stream, the emulator records). A row has
+-- the number of the code, the kinds of guest that have such parts, their keys, and the lengths of their bytes.
 use Rattle.std.specs.Prelude.{ℕ, ◌+◌, ◌-◌, ◌*◌, ◌/◌, ◌%◌, Bool, true, List, [], ◌∷◌, Option, ◌==◌, ◌&&◌, ◌||◌, nat_le, nat_lt, find}
 use Rattle.mig_guest.specs.Common.{Kind, both, pv, hvm, exactly, most_body, vcpu_limit}
 use Rattle.mig_guest.specs.Limits.{most_pairs}

@@ -4,8 +4,9 @@
 //!
 //! - the frames of a guest (their types and pages, by frame number), its parts (everything else that a stream
 //!   carries, as bytes by a key), its kind and its top
-//! - in `mig_machine_api` what a saver may ask of a machine, call by call, and what each call says: the host at its
-//!   end, the log of the frame numbers that may have changed, and the history of what was asked
+//! - in `mig_machine_api` what a saver may ask of a machine, call by call
+//! - what each call says: the host at its end, the log of the frame numbers that may have changed, and the history of
+//!   what was asked
 //! - in `pfn_set` sets of frame numbers in words of 64 bits
 //!
 //! It doesn't judge what a part's bytes say, and knows nothing of records. Left to others: what a paused host means

@@ -18,7 +18,7 @@ pub fn fields_say_values()
     ensures places { (field other : Field) → IsField field → IsField other → (field_row field).place ≡ (field_row other).place → field ≡ other }
 {}
 
-/// What is said of fields by their numbers, 0 to 18, is what the rows of these fields say; and each field has a number, by
+/// What is said of fields by their numbers, 0 to 18, is what the rows of these fields say. Each field has a number, by
 /// which it is found, and which is found at its place.
 #[tactic(auto, using(crate::proofs::Fields::agrees, crate::proofs::FieldLaws::has_number))]
 pub fn fields_have_numbers()
@@ -26,8 +26,8 @@ pub fn fields_have_numbers()
     ensures each { (field : Field) → IsField field → ((field_row field).number ≤ 18) × (field_numbered (field_row field).number ≡ field) × (field_at (field_row field).place ≡ Some (field_row field).number) }
 {}
 
-/// A field of a context says the frame that was put into it, of two the last; to put in what it says in written form
-/// changes nothing; and all other fields stay.
+/// A field of a context says the frame that was put into it, of two the last. To put in what it says in written form
+/// changes nothing. All other fields stay.
 #[tactic(auto, using(crate::proofs::FieldLaws::back, crate::proofs::FieldLaws::same, crate::proofs::FieldLaws::twice, crate::proofs::FieldLaws::others))]
 pub fn field_keeps_what_is_put()
     ensures back { (field : Field) (context : List ℕ) (frame : ℕ) → IsField field → AreBytes context → length context ≡ 5168 → frame < 2 ^ 52 → said_by field (with_frame_in field frame context) ≡ frame }

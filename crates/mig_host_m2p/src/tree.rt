@@ -31,9 +31,9 @@ const ROOT: Cell = Cell {
     used: true,
 };
 
-/// PFNs by machine frame, as a tree of cells: from the root on the bits of a machine frame lead to its cell, the lowest
-/// bit first, so that machine frames that are counted up spread over the tree. Cells that are free are named by the first
-/// `spare` numbers of `free`.
+/// PFNs by machine frame, as a tree of cells. From the root on the bits of a machine frame lead to its cell. The lowest
+/// bit is first, so that machine frames that are counted up spread over the tree. Cells that are free are named by the
+/// first `spare` numbers of `free`.
 #[derive(Drop)]
 pub(crate) struct Tree {
     pub(crate) cells: Vec<Cell>,

@@ -36,8 +36,8 @@ impl<F: Frames> P2mStep for Localising<'_, F> {
     }
 }
 
-/// Brings a guest to the form in which it stands in a machine: tables and contexts of vCPUs name machine frames, and each P2M
-/// frame that has a page holds those of its range. An HVM guest stays. Takes no memory.
+/// Brings a guest to the form in which it is in a machine. Tables and contexts of vCPUs name machine frames, and each
+/// P2M frame that has a page holds those of its range. An HVM guest stays. Takes no memory.
 pub fn localise_guest<F: Frames>(guest: &mut Guest, frames: &F)
     requires { IsFormed guest.old }
     ensures { guest.new ≡ localised (F.mfns frames.now) guest.old }

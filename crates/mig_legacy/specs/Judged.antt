@@ -58,8 +58,8 @@ unfoldable pub physmaps_in : ℕ → List ℕ → List Physmap
 physmaps_in zero bytes = []
 physmaps_in (suc n) bytes = entry_in bytes ∷ physmaps_in n (drop (entry_len bytes) bytes)
 
--- where the first field stands that is wrong: it isn't whole, it is a version other than 1, it is a name without its one
--- zero at the end, or it is what follows the last entry
+-- Where the first wrong field is. It isn't whole, is a version other than 1, is a name without its one zero at the end,
+-- or is what follows the last entry.
 unfoldable pub toolstack_fault : List ℕ → Option ℕ
 toolstack_fault body = if nat_lt (length body) 4 || not (le32 body 0 == 1) then Some 0 else if nat_lt (length body) 8 then Some 4 else entries_fault (le32 body 4) 8 (drop 8 body)
 

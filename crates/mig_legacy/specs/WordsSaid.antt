@@ -13,8 +13,8 @@ SaysFrame (Word f) = ⊤
 SaysFrame (BadType n) = ⊥
 SaysFrame High = ⊥
 
--- a batch has no fault exactly where each word says a frame, or that there is none; for a frame stands the word of a
--- PAGE_DATA that says the same frame, and for none no word
+-- A batch has no fault exactly where each word says a frame, or that there is none. For a frame stands the word of a
+-- PAGE_DATA that says the same frame, and for none no word.
 pub record WordsSayFrames : Type 0 where
   pub faultless : (ws : List ℕ) → (fault_of_batch ws ≡ None) ↔ All (λ w. SaysFrame (legacy_word w)) ws
   pub frame : (w : ℕ) (f : FrameWord) → legacy_word w ≡ Word f → page_data_words_of w ≡ word_of f ∷ []

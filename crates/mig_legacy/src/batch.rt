@@ -45,8 +45,8 @@ fn first_high(words: &[u64]) -> Option<usize>
     words.iter().position(|word| is_high(*word))
 }
 
-/// What is wrong with the words of a batch: BadPageType for the first word with a reserved type, else WordHigh for the
-/// first of which bits 63 to 32 aren't all 0.
+/// What is wrong with the words of a batch. It is BadPageType for the first word with a reserved type, else WordHigh
+/// for the first whose bits 63 to 32 aren't all 0.
 #[tactic(auto, using(crate::proofs::BatchFaults::reserved_found, crate::proofs::BatchFaults::high_found, crate::proofs::BatchFaults::none_found))]
 pub fn batch_fault(words: &[u64]) -> Option<LegacyCause>
     ensures value { result ≡ fault_of_batch words.now }

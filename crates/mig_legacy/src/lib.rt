@@ -2,8 +2,8 @@
 //!
 //! Responsible for:
 //!
-//! - which chunk a number is the type of, what is wrong with a chunk by itself, which words of a PAGE_DATA name the
-//!   frames of a batch, and which pairs of texts a toolstack's data make
+//! - which chunk a number is the type of, and what is wrong with a chunk by itself
+//! - which words of a PAGE_DATA name the frames of a batch, and which pairs of texts a toolstack's data make
 //! - judging a legacy stream part by part, in byte order, and the guest that its chunks and its tail mean
 //! - the laws that join the judging with the spelling of the form, and those that say in its words what it means
 //!
@@ -20,14 +20,14 @@
 //!
 //! What the layers above rely on:
 //!
-//! - `read_legacy` answers the guest that the accepted front of the input means, or the first fault with its place,
-//!   and has taken just the accepted front, or all up to the end of the faulty part.
+//! - `read_legacy` answers the guest that the accepted front of the input means, or the first fault with its place. It
+//!   has taken just that front, or all up to the end of the faulty part.
 //! - `judge_legacy` does the same without keeping pages, and answers how many frames the guest has.
 //! - `place_legacy` does it of a file, where the pages stay, and answers the outline of the guest and where in the
 //!   file they stand.
 //!
-//! The tests of chunks read from no source and know no guest: each answers the first cause of its rows, with the
-//! least place; the data of a toolstack have no wrong field exactly where they are spelled as entries.
+//! The tests of chunks read from no source and know no guest. Each answers the first cause of its rows, with the least
+//! place. The data of a toolstack have no wrong field exactly where they are spelled as entries.
 #![tactic(auto)]
 
 mod batch;

@@ -273,9 +273,9 @@ pub(crate) fn take_parts<S: Source, F: KeepsFrames<S>>(
 }
 
 /// Reads a legacy stream of an HVM guest from its first byte to the end of the device model's record, and leaves what
-/// follows it unread; without such a record the stream ends where the input does. The guest is in its blank form, with the
-/// parts of its device model. `Refused` has the place and the cause of the first fault, and then the source was read up to
-/// the end of the faulty part; `ReadFault` comes only where a read failed (Xen's xg_save_restore.h).
+/// follows it unread. Without such a record the stream ends where the input does. The guest is in its blank form, with
+/// the parts of its device model. `Refused` has the place and the cause of the first fault, and then the source was
+/// read up to the end of the faulty part. `ReadFault` comes only where a read failed (Xen's xg_save_restore.h).
 pub fn read_legacy<S: Source>(alloc: Global, src: &mut S) -> Result<Guest, LegacyAnswer>
     ensures read { ReadsLegacy (S.left src.old) (S.left src.new) result }
     ensures streamed { IfOk result (λ guest. IsStreamed guest) }

@@ -58,7 +58,7 @@ fn put_entries(text: &mut Vec<u8>, body: &[u8], count: u32) -> Result<(), Memory
 }
 
 /// The pairs that the data of a toolstack make of the device model's store, key NUL value NUL, in the order of the
-/// entries; of a key that is there again the last value is meant.
+/// entries. Of a key that is there again the last value is meant.
 #[tactic(auto, unfolding(crate::specs::Judged::toolstack_fault, crate::specs::Judged::toolstack))]
 pub fn physmap_pairs(alloc: Global, body: &[u8]) -> Result<Vec<u8>, Memory>
     requires faultless { fault_of body.now ≡ None }

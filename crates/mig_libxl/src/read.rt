@@ -414,10 +414,10 @@ fn read_form<S: Source, I: TakesImage<S>>(
     }
 }
 
-/// Reads a stream of either form from its first byte to its last END, and leaves what follows it unread; the first 8 bytes
-/// tell the form. The guest is in its blank form, with the parts of its emulators. Version, number of records and how many
-/// entries behind a VERIFY differ are those of the image. `Refused` has the place and the cause of the first fault, and
-/// then the source was read up to the end of the faulty part; `ReadFault` comes only where a read failed.
+/// Reads a stream of either form from its first byte to its last END, and leaves what follows it unread; the first 8
+/// bytes tell the form. The guest is in its blank form, with the parts of its emulators. Version, number of records and
+/// how many entries behind a VERIFY differ are those of the image. `Refused` has the place and the cause of the first
+/// fault, and then the source was read up to the end of the faulty part. `ReadFault` comes only where a read failed.
 pub fn read_any<S: Source>(alloc: Global, src: &mut S) -> Result<Reading, StreamAnswer>
     ensures read { ReadsStream (S.left src.old) (S.left src.new) result }
     ensures streamed { IfOk result (λ reading. IsStreamed reading.guest) }

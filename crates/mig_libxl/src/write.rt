@@ -161,8 +161,8 @@ fn write_behind<K: Sink>(sink: &mut K, guest: &Guest) -> Result<(), WriteFailed>
     close_wrapper(sink)
 }
 
-/// Appends what is before the image of a guest with these parts: the header of a libxl stream and the record that an
-/// image follows, where the guest has a part of an emulator; else nothing.
+/// Appends what is before the image of a guest with these parts. Where the guest has a part of an emulator, that is the
+/// header of a libxl stream and the record that an image follows; else nothing.
 #[tactic(auto, using(mig_bytes::proofs::Texts::puts_same, crate::proofs::Around::opening_some, crate::proofs::Around::opening_none))]
 pub fn write_opening<K: Sink>(sink: &mut K, guest: &Guest) -> Result<(), WriteFailed>
     ensures bytes { Puts (wrapper_opening guest.now.parts) (K.written sink.old) (K.written sink.new) result }
@@ -175,8 +175,8 @@ pub fn write_opening<K: Sink>(sink: &mut K, guest: &Guest) -> Result<(), WriteFa
     }
 }
 
-/// Appends what is behind the image of a guest with these parts: the records of its emulators and the record that ends
-/// a libxl stream, where it has a part of an emulator; else nothing.
+/// Appends what is behind the image of a guest with these parts. Where it has a part of an emulator, that is the
+/// records of its emulators and the record that ends a libxl stream; else nothing.
 #[tactic(auto, using(mig_bytes::proofs::Texts::puts_same, crate::proofs::Around::closing_some, crate::proofs::Around::closing_none))]
 pub fn write_closing<K: Sink>(sink: &mut K, guest: &Guest) -> Result<(), WriteFailed>
     requires { IsFormed guest.now }

@@ -28,7 +28,7 @@ abbrev pub StandAroundPause : ℕ → ℕ → List LogTook → Type 0
 StandAroundPause runs live logs =
     OfEachLog (λ before log. (length before < live → asked_before before + log.asked.calls < runs) × (live ≤ length before → runs < asked_before before + log.asked.calls)) logs
 
--- The machine came from this host, which was asked nothing, by calls that its history k tells: its host, its log, and each
+-- The machine came from this host, which was asked nothing, by the calls of its history k. Its host, its log, and each
 -- log that was taken, are what the script makes of that host.
 pub record IsExactBy (h : HostOf) (m : MachineSeen) (k : History) : Type 0 where
   pub host : m.host ≡ after h (ran m.lines m.runs)

@@ -2,7 +2,7 @@
 use Rattle.std.specs.Prelude.{◌≡◌, ℕ, ◌+◌, ◌-◌, ◌^◌, ◌≤◌, min, List, [], ◌∷◌, ◌++◌, length, true}
 use Rattle.mig_machine.specs.Common.{History, LogTook, Since}
 
--- More was asked, or as much: nothing that was read is forgotten, and no fewer calls are counted, but for a number of calls
+-- More was asked, or as much. Nothing that was read is forgotten. No fewer calls are counted, but for a number of calls
 -- that stays at the last value of a counter of 64 bits.
 pub record AsksOn (s t : Since) : Type 0 where
   pub read : (p : ℕ) → s.read p ≡ true → t.read p ≡ true

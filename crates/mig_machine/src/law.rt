@@ -4,10 +4,11 @@ ghost use Rattle.mig_machine.specs.MachineSeen.{MachineSeen, calls_of, is_paused
 ghost use Rattle.mig_machine.specs.Exact.{IsLaterMachine, IsExactFrom};
 ghost use Rattle.mig_machine.specs.Histories.{IsLaterHistory};
 
-/// Of a machine that is later than one that was asked nothing, the script is the same, and the host is what the lines run
-/// by the calls up to the pause make of the first host. These are all calls, unless it is paused. Where the first has no log
-/// and no history either, each log of the later one is exactly what its lines touched since the log before. The later history
-/// goes on from the earlier one, and where the later machine alone is paused, the call that paused it ran lines too.
+/// A machine that is later than one that was asked nothing has the same script. Its host is what the lines run by the
+/// calls up to the pause make of the first host. These are all calls, unless it is paused. Where the first has no log
+/// and no history either, each log of the later one is exactly what its lines touched since the log before. The later
+/// history goes on from the earlier one, and where the later machine alone is paused, the call that paused it ran lines
+/// too.
 pub fn script_machine_is_at()
     ensures host { (first now : MachineSeen) → calls_of first ≡ 0 → IsLaterMachine first now → now.host ≡ after first.host (ran first.lines now.runs) }
     ensures lines { (first now : MachineSeen) → IsLaterMachine first now → now.lines ≡ first.lines }

@@ -11,8 +11,8 @@ pub fn lines_apply_where_asked()
     ensures { (h : HostOf) (line : LineOf) → (applies h line ≡ true) ↔ MayApply h line }
 {}
 
-/// Behind some lines a frame number is in the log exactly where it was in it, or one of the lines that is a `w`, `t`, `a`, `r` or
-/// `x` named it and applied, whether it changed something or not.
+/// Behind some lines a frame number is in the log exactly where it was in it, or a line `w`, `t`, `a`, `r` or `x` named
+/// it and applied. Whether that changed something doesn't matter.
 #[tactic(auto, using(crate::proofs::LinesNamed::logged))]
 pub fn lines_log_what_they_name()
     ensures { (pfn : ℕ) (h : HostOf) (lines : List LineOf) (log : Pfns) → (logged_after h lines log pfn ≡ true) ↔ ((log pfn ≡ true) ⊎ IsNamedIn pfn h lines) }

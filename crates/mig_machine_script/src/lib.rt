@@ -16,8 +16,8 @@
 //! - Else the first bad line is named, or that there are too many bytes.
 //!
 //! By laws bytes are the script of one list of lines at most, and they either are a script or have a first bad line,
-//! and never both. A line that doesn't apply changes nothing, and none takes memory; by a law lines change no more of
-//! a host's footprints than they put into the log, since a machine frame that a table names neither comes nor goes.
+//! and never both. A line that doesn't apply changes nothing, and none takes memory. By a law lines change no more of a
+//! host's footprints than they put into the log, since a machine frame that a table names neither comes nor goes.
 #![tactic(auto)]
 
 mod change;

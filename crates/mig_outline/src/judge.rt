@@ -51,9 +51,9 @@ fn judged(taken: Result<TakenImage, Stop<(Place, Cause)>>) -> Result<Tally, Stre
     }
 }
 
-/// Judges an image from its marker to its END record, and leaves what follows it unread. It keeps page tables, and no other
-/// pages. `Refused` has the place and the cause of the first fault, and then the source was read up to the end of the
-/// faulty part; `ReadFault` comes only where a read failed.
+/// Judges an image from its marker to its END record, and leaves what follows it unread. It keeps page tables, and no
+/// other pages. `Refused` has the place and the cause of the first fault, and then the source was read up to the end of
+/// the faulty part. `ReadFault` comes only where a read failed.
 pub fn judge_image<S: Source>(alloc: Global, src: &mut S) -> Result<Tally, StreamAnswer>
     ensures read { JudgesImage (S.left src.old) (S.left src.new) result }
     ensures faults { RisesOnReadFault (S.faults src.old) (S.faults src.new) (or_stop result) }

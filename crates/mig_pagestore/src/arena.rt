@@ -1,5 +1,5 @@
-//! Pages one behind another, in slabs. Each slab has room for 64 pages more than all before it, up to 16,384 (64 MiB): a
-//! small store takes little, and a large one is in few blocks, so that memory which isn't used stays untouched.
+//! Pages one behind another, in slabs. Each slab has room for 64 pages more than all before it, up to 16,384 (64 MiB).
+//! So a small store takes little, a large one is in few blocks, and memory which isn't used stays untouched.
 ghost use Rattle.std.specs.Prelude.{◌≡◌, ◌<◌, ◌≤◌, ◌+◌, ◌*◌, ◌^◌, min, [], ◌∷◌, ◌++◌, length, take, drop, flat_map, slice_get, slice_set, OnOk, OnErr, Some};
 ghost use Rattle.mig_pagestore.specs.Common.{sem};
 ghost use Rattle.mig_pagestore.specs.Packed.{IsFound, LieInOne, places_after};

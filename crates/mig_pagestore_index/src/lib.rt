@@ -4,7 +4,7 @@
 //! of what numbers and values stand for.
 //!
 //! What the layers above rely on: an index is a finite map from number to value and a number of spare numbers. Each
-//! call says what it does to the whole map; a call that finds no memory leaves the map as it was, and a value that is
+//! call says what it does to the whole map. A call that finds no memory leaves the map as it was, and a value that is
 //! set in spare room can't be refused.
 #![tactic(auto)]
 

@@ -42,10 +42,10 @@ fn comparison_of(
     }
 }
 
-/// Judges an image in a file, from its marker to its END record, and leaves what follows it unread. It keeps page tables, and
-/// no other pages: an entry behind a VERIFY is compared with the page of its frame where that stands in the file. `Refused`
-/// has the place and the cause of the first fault, and then the file was read up to the end of the faulty part; `ReadFault`
-/// comes only where a read failed, be it of a page that was compared.
+/// Judges an image in a file, from its marker to its END record, and leaves what follows it unread. It keeps page
+/// tables, and no other pages: an entry behind a VERIFY is compared with the page of its frame where that stands in the
+/// file. `Refused` has the place and the cause of the first fault, and then the file was read up to the end of the
+/// faulty part. `ReadFault` comes only where a read failed, be it of a page that was compared.
 pub fn compare_image<P: PageFile>(
     alloc: Global,
     src: &mut FileSource<'_, P>,

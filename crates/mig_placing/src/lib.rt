@@ -10,8 +10,8 @@
 //! Left to others: the reader of images (mig_restore), what is kept of the guest, which is its outline (mig_outline),
 //! the places and how they read (mig_placed), and files (mig_file).
 //!
-//! What the layers above rely on: `place_image` accepts and refuses what `judge_image` does, leaves what it leaves,
-//! and answers the outline of the guest that was sent, and places that read in the file as its frames. A page is read
+//! What the layers above rely on: `place_image` accepts and refuses what `judge_image` does, and leaves what it leaves.
+//! It answers the outline of the guest that was sent, and places that read in the file as its frames. A page is read
 //! where a table is judged, and passed over else. `Placing` does this for whoever takes entries. `compare_image`
 //! accepts and refuses the same, and answers the tally and how many entries behind a VERIFY differ, as `read_image`
 //! does, which keeps all pages.

@@ -6,8 +6,8 @@
 //! - what a record's head says, and what is wrong with a head or with the words of a PAGE_DATA
 //! - how long the body with these words is
 //! - the bytes of a written record
-//! - the layout of the bodies that set parts, a row for each code: tables of entries, single values and named parts,
-//!   the bodies of X86_PV_INFO, X86_PV_P2M_FRAMES and the records of vCPUs (libxc migration stream, "Records")
+//! - the layout of the bodies that set parts, a row for each code: tables of entries, single values and named parts
+//! - the bodies of X86_PV_INFO, X86_PV_P2M_FRAMES and the records of vCPUs (libxc migration stream, "Records")
 //!
 //! The words for the chain of an HVM context are here too, so that the table is whole.
 //!

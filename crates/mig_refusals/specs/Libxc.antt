@@ -209,8 +209,8 @@ pub record IsOpen (front : List ℕ) (o : Opening) (records : List StreamRecord)
   pub spelled : Spells (Follows o) bytes records
   pub not_ended : is_ended records ≡ false
 
--- the input is refused as an image at this place, for this cause, and rest follows the faulty part: in its marker, behind it in
--- the image header, in the domain header, or in a record behind others
+-- The input is refused as an image at this place, for this cause, and rest follows the faulty part. It is refused in
+-- its marker, behind it in the image header, in the domain header, or in a record behind others.
 pub data RefusedLibxcAt (input : List ℕ) (cause : Cause) (rest : List ℕ) : Place → Type 0 where
   in_marker : RefusedAs marker_form input cause rest → RefusedLibxcAt input cause rest places.ImageHeader
   in_header : (marker left : List ℕ) → BeginsAs marker_form input marker left → RefusedAs version_form left cause rest → RefusedLibxcAt input cause rest places.ImageHeader

@@ -1,5 +1,5 @@
--- Refusals of what only PV guests have, in the words of the format (libxc migration stream): where each cause stands, a line
--- for each; causes that have places stand at several, all others at place 0.
+-- Refusals of what only PV guests have, in the words of the format (libxc migration stream): where each cause stands, a
+-- line for each. Causes that have places stand at several, all others at place 0.
 use Rattle.std.specs.Prelude.{◌≡◌, ◌⊎◌, ℕ, ◌+◌, ◌*◌, ◌/◌, ◌%◌, ◌<◌, ◌≤◌, List, length, drop, filter, Option, Some, None, IsSome, slice_index}
 use Rattle.std.specs.FinMap as maps
 use Rattle.std.specs.Ordering.{is_lt}
@@ -47,8 +47,8 @@ pub data IsUsedField (id : ℕ) (context : List ℕ) : ℕ → ℕ → Type 0 wh
   tables : IsUsedField id context 17 (le64 context 5008 / 4096)
   user_tables : le64 context 4992 % 2 ≡ 1 → IsUsedField id context 18 (le64 context 4992 / 4096)
 
--- a frame of this type is one that the field may say: a control register says the root of page tables, a level 4 table, pinned
--- or not, and any other field a NOTAB frame ("X86_PV_VCPU_BASIC")
+-- A frame of this type is one that the field may say ("X86_PV_VCPU_BASIC"). A control register says the root of page
+-- tables, a level 4 table, pinned or not. Any other field says a NOTAB frame.
 pub data TakesType (field : ℕ) : Option PageType → Type 0 where
   plain : field ≤ 16 → TakesType field (Some Notab)
   root : 17 ≤ field → TakesType field (Some L4Tab)

@@ -31,8 +31,8 @@ pub fn libxc_never_both()
     ensures { IsNeverBoth RefusedLibxc Accepted }
 {}
 
-/// What is computed of each part of an image is, of the causes that stand in it in words, that of the least number, and of one
-/// cause that at its least place; and nothing is exactly where none stands. Of a page and of a whole guest the next two say it.
+/// What is computed of each part of an image is a cause that stands in it in words: that of the least number, at its
+/// least place. It is nothing exactly where none stands. Of a page and of a whole guest the next two say it.
 #[tactic(auto, using(crate::proofs::LibxcCauses::causes_stand))]
 pub fn libxc_causes_stand()
     ensures { LibxcCausesStand }

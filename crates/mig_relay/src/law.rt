@@ -13,8 +13,8 @@ pub fn lists_are_fronts()
     ensures { ListsAreFronts }
 {}
 
-/// How many bytes may wait in front of three parts, and how many may have been taken and not written: where a head comes next,
-/// where the 1024 words of a PAGE_DATA do, and where one of their pages does.
+/// How many bytes may wait in front of three parts, and how many may have been taken and not written. The parts are a
+/// head, the 1024 words of a PAGE_DATA, and one of their pages.
 pub fn worked_waiting()
     ensures at_head { (may_wait comes.LibxlHead 0 ≡ 512) × (most_waiting (AtLibxlHead []) ≡ 4608) }
     ensures at_words { (outer : Outer) (o : Opening) (records : List StreamRecord) (head : RecordHead) → (may_wait (comes.Words head 1024) 0 ≡ 512) × (most_waiting (InImage outer (AtWords o records head 1024)) ≡ 12800) }

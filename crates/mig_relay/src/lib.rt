@@ -4,8 +4,8 @@
 //!
 //! - which bytes may be passed on: a stream judged with those causes left out that need the whole guest or all pairs
 //!   of an emulator, and the laws of that
-//! - which part of a stream comes next, what is judged of it before it is written, and what is kept of it: a count, a
-//!   few facts, the words of one PAGE_DATA and the small state of one body
+//! - which part of a stream comes next, and what is judged of it before it is written
+//! - what is kept of it: a count, a few facts, the words of one PAGE_DATA and the small state of one body
 //! - which parts wait to be written with those behind them
 //!
 //! In either form of stream (libxc migration stream; libxl migration stream). Left to others: what is wrong with a
@@ -16,8 +16,8 @@
 //!
 //! - `relay` answers Ok exactly on a passable front, which it has taken and written then, and refuses with the open
 //!   refusal.
-//! - Whatever it answers, what was written is a front of what was taken, and no more than 8 bytes for each word of
-//!   the PAGE_DATA in hand and 4608 were taken and not written.
+//! - Whatever it answers, what was written is a front of what was taken. At most 4608 bytes, and 8 for each word of the
+//!   PAGE_DATA in hand, were taken and not written.
 //!
 //! Where no write fails, all that was passed on is written before it answers.
 #![tactic(auto)]

@@ -240,10 +240,10 @@ impl Relay {
         }
     }
 
-    /// Takes the next part, or a piece of it, and writes it: headers, heads, words and table pages only once they are
-    /// judged, a body piece by piece, and then it is judged. `Done` behind the last part, with nothing taken; the relay is
-    /// over then, as behind an error. `Refused` has the place and the cause of the first fault, and then the source was
-    /// read up to the end of the faulty part.
+    /// Takes the next part, or a piece of it, and writes it. Headers, heads, words and table pages are written only
+    /// once they are judged. A body is written piece by piece, and then judged. `Done` behind the last part, with
+    /// nothing taken; the relay is over then, as behind an error. `Refused` has the place and the cause of the first
+    /// fault, and then the source was read up to the end of the faulty part.
     pub fn step<S: Source, K: Sink>(
         &mut self,
         src: &mut S,

@@ -76,8 +76,8 @@ KnowsBegun (Params first) len begun = EndsInEntries (length begun) len
 KnowsBegun (Basic named) len begun = (length begun ≡ 4096) × (len ≡ 5176)
 KnowsBegun (Verdict fault) len begun = ⊤
 
--- These first bytes of a body of this length, which has this fault, were taken: in whatever way it goes on to its length,
--- its fault is the one that what is known tells of that way.
+-- These first bytes of a body of this length, which has this fault, were taken. In whatever way it goes on to its
+-- length, its fault is the one that what is known says of that way.
 pub record IsKnown (knows : Knows) (len : ℕ) (fault : List ℕ → Option Cause) (begun : List ℕ) : Type 0 where
   pub stands : KnowsBegun knows len begun
   pub says : (more : List ℕ) → length (begun ++ more) ≡ len → fault (begun ++ more) ≡ fault_behind knows begun more

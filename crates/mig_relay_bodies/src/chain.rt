@@ -7,8 +7,9 @@ ghost use Rattle.mig_relay_bodies.specs.ContextChain.{ChainSays, IsAhead, IsHead
 use mig_bytes::{u16_le, u32_le};
 use mig_headers::ContextFault;
 
-/// What is known of an HVM context once some first bytes of it were taken: a chain of entries, each a head of 8 bytes with the
-/// entry's typecode and length, and its data (Xen's public/arch-x86/hvm/save.h; libxc migration stream, "HVM_CONTEXT").
+/// What is known of an HVM context once some first bytes of it were taken. It is a chain of entries (Xen's
+/// public/arch-x86/hvm/save.h; libxc migration stream, "HVM_CONTEXT"). Each has a head of 8 bytes with the entry's
+/// typecode and length, and its data.
 #[derive(Clone, Copy, Debug, PartialEq, Eq)]
 pub enum Chain {
     /// Whole entries stand before this offset.

@@ -114,8 +114,8 @@ pub(crate) fn gdt_fault(piece: &[u8]) -> Option<Cause>
     None
 }
 
-/// What is known behind the first piece of an HVM_PARAMS of so many bytes: as many parameters stand in it as its first 4
-/// bytes say, or it has another length than these ask for.
+/// What is known behind the first piece of an HVM_PARAMS of so many bytes. It has as many parameters as its first 4
+/// bytes say, or another length than these ask for.
 fn behind_params(len: u32, piece: &[u8]) -> Knows
     requires { 8 ≤ length piece.now }
     ensures { length piece.now ≡ piece_of (Nothing HvmParams) 0 len → IsKnown result len (fault_of_form HvmParams) piece.now }

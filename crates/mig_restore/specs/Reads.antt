@@ -7,8 +7,8 @@ use Rattle.mig_headers.specs.declared.fault.Place.{Place}
 use Rattle.mig_restore.specs.declared.read.Reading.{Reading}
 use Rattle.mig_restore.specs.declared.read.TakenImage.{TakenImage}
 
--- what was taken of an image, where this is kept of frames: what is kept of the guest that its records send, its version, the
--- number of its records, and whether one is a VERIFY
+-- What was taken of an image, where this is kept of frames. It is what is kept of the guest that its records send, its
+-- version, the number of its records, and whether one is a VERIFY.
 pub record IsTaken (kept : FrameMap → FrameMap) (taken : TakenImage) (image : ImageOf) : Type 0 where
   pub guest : taken.guest ≡ kept_guest kept (sent image.opening.kind image.records)
   pub version : taken.version ≡ image.opening.version

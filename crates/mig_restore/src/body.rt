@@ -144,9 +144,9 @@ fn take_words<S: Source>(alloc: Global, src: &mut S, count: u32) -> Result<Vec<u
     }
 }
 
-/// Takes the pages of a PAGE_DATA whose words these are, one for each word of a type with data, and sets the frame of each
-/// word as its page comes: what is kept of it, and what the keeper notes. A table of a PV guest is judged before it is set.
-/// Behind an error the frames of the first words are set, and all else of the guest is as it was.
+/// Takes the pages of a PAGE_DATA whose words these are, one for each word of a type with data. Sets the frame of each
+/// word as its page comes: what is kept of it, and what the keeper notes. A table of a PV guest is judged before it is
+/// set. Behind an error the frames of the first words are set, and all else of the guest is as it was.
 pub fn take_entries<S: Source, F: KeepsFrames<S>>(
     src: &mut S,
     keeper: &mut F,

@@ -40,7 +40,7 @@ pub trait KeepsFrames<S: Source> {
         ensures count { (frames : FrameMap) → maps.len (kept frames) ≡ maps.len frames }
         ensures read_on { (keeper : Self) (all front rest : List ℕ) (frames : FrameMap) → notes keeper all (Some (front ++ rest)) frames → notes keeper all (Some rest) frames };
 
-    /// Takes the page that goes with the word at this place of its record, where its type has data, and puts the entry into
+    /// Takes the page that goes with the word at this place of its record, where its type has data. Puts the entry into
     /// the frames that are kept, and into those that are noted. A table of a PV guest is judged before.
     fn take_entry(
         &mut self,

@@ -14,10 +14,10 @@
 //!
 //! What the layers above rely on:
 //!
-//! - `read_image` answers the guest that the accepted front of the input means, or the first fault with its place,
-//!   and has taken just the accepted front, or all up to the end of the faulty part.
+//! - `read_image` answers the guest that the accepted front of the input means, or the first fault with its place. It
+//!   has taken just that front, or all up to the end of the faulty part.
 //! - Behind a VERIFY it compares frames with those of the guest, and answers how many entries differ.
-//! - `take_image` does the same with whatever is kept of the frames, and with a value that may note more of each, and
+//! - `take_image` does the same with whatever is kept of the frames. A second value may note more of each frame, and
 //!   may compare the entries behind a VERIFY with what it noted.
 //! - `take_entries` takes the pages of a batch of words, in a legacy stream too.
 #![tactic(auto)]

@@ -53,8 +53,8 @@ pub fn last_entry_decides()
         maps.get (sent kind records).frames pfn ≡ option_and_then (frame_in kind) (last_entry pfn (entries_of records)) }
 {}
 
-/// Of each part but the list of P2M frames the last content that says something of it decides what was sent; a policy body
-/// that isn't empty says of each part of its code whether it is there.
+/// Of each part but the list of P2M frames the last content that says something of it decides what was sent. A policy
+/// body that isn't empty says of each part of its code whether it is there.
 #[tactic(auto, using(crate::proofs::Meaning::last_content_is))]
 pub fn last_content_decides()
     ensures { (kind : Kind) (records : List StreamRecord) (key : PartKey) → key ≢ p2m_key →

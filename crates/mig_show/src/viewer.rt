@@ -79,7 +79,7 @@ fn see_all<S: Source>(
     Err(ShowAnswer::Memory)
 }
 
-/// Takes a stream up to its end, or up to the end of the part that is refused, and shows its records that stand whole in
+/// Takes a stream up to its end, or up to the end of the part that is refused. Shows its records that are whole in
 /// front of that part, as `tree_of` describes.
 pub fn show<S: Source>(alloc: Global, src: &mut S) -> Result<Shown, ShowAnswer>
     ensures shown { IfOk result (λ shown. Shows (S.left src.old) (S.left src.new) shown.refused (view shown.tree)) }

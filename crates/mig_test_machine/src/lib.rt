@@ -7,9 +7,9 @@
 //! - which call of a machine is which, how many there are, and when the first pages are written, of which no contract
 //!   tells as much
 //!
-//! They are in a crate of their own, since a crate with tests is proved twice. A function that holds a script, a
-//! host or a machine hands it to one that borrows it, and the tests hold plain values: a proof considers a drop
-//! wherever the function that holds it may end.
+//! They are in a crate of their own, since a crate with tests is proved twice. A function that holds a script, a host
+//! or a machine hands it to one that borrows it, and the tests hold plain values. The reason is that a proof considers
+//! a drop wherever the function that holds it may end.
 #![tactic(auto)]
 
 #[cfg(test)]

@@ -18,8 +18,8 @@ pub record Exercises (seed n : ℕ) (s : ExerciseSummary) : Type 0 where
   pub few : again ≤ most_rounds * data_count n
   pub canon : s.canon ≡ exercise_canon_len n
 
--- The stream of an exercise is what a saver has to write of its host while its script runs, and so many bytes has the
--- canonical stream of the guest that the host is seen as at the pause.
+-- The stream of an exercise is what a saver has to write of its host while its script runs. The canonical stream of the
+-- guest that the host is seen as at the pause has so many bytes.
 pub record ExerciseSaved (seed n : ℕ) (stream : List ℕ) (s : SaveSummary) (canon : ℕ) : Type 0 where
   pub wrote : WroteLive (host_of_exercise seed n) (script_of_exercise seed n) (Some []) (Some stream) s
   pub canon_is : canon ≡ length (canon_any (view (paused_host (host_of_exercise seed n) (script_of_exercise seed n) wrote.calls)))

@@ -35,8 +35,8 @@ paused_host host lines calls = after host (ran lines calls)
 
 -- ---- when a host isn't saved
 
--- A save of this host while a script of these lines runs, with its rounds and its pause: the host at the pause can't be seen
--- as a guest, and this is the first thing in the way.
+-- A save of this host while a script of these lines runs, with its rounds and its pause. The host at the pause can't be
+-- seen as a guest, and this is the first thing in the way.
 pub record PausesUnsound (host : HostOf) (lines : List LineOf) (unsound : Unsound) : Type 0 where
   pub rounds : ℕ
   pub calls : ℕ
@@ -81,10 +81,10 @@ pub record TellsPfns (host : HostOf) (text pfns : List ℕ) : Type 0 where
   pub others : AllByRecursion IsOtherRecord (before ++ behind)
   pub order : pfns_sent (all_told batches) ≡ pfns
 
--- What was written of a host while a script of these lines ran: a stream that is accepted, whatever follows it, with
--- exactly the guest that the host is seen as at the pause. The host and the script tell how many rounds there were, at
--- which call the pause came, and what the entries name in which order. These name every frame number below the width
--- first, then what the log behind each round names, and last what the lines touched up to the pause.
+-- What was written of a host while a script of these lines ran. It is a stream that is accepted, whatever follows it,
+-- with exactly the guest that the host is seen as at the pause. The host and the script tell how many rounds there
+-- were, at which call the pause came, and what the entries name in which order. These name every frame number below the
+-- width first, then what the log behind each round names, and last what the lines touched up to the pause.
 pub record WroteLive (host : HostOf) (lines : List LineOf) (old new : Option (List ℕ)) (summary : SaveSummary) : Type 0 where
   pub calls : ℕ
   pub again : ℕ

@@ -213,8 +213,8 @@ fn exercise_machine(alloc: Global, seed: u64, frames: u64) -> Result<ScriptMachi
     ScriptMachine::new(alloc, host, script)
 }
 
-/// Saves a machine live in memory whose host can be seen as a guest whenever it is paused, reads what was written, and says
-/// how long the canonical stream of its guest is.
+/// Saves live in memory a machine whose host can be seen as a guest whenever it is paused. Reads what was written, and
+/// says how long the canonical stream of its guest is, in bytes.
 fn saved_len(
     alloc: Global,
     machine: &mut ScriptMachine,
