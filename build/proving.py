@@ -6,7 +6,7 @@ again on each way through crates.txt, which took 16 of 40 minutes. And a library
 that those above it load no proofs: of 28 minutes that took five (docs/performance.md).
 
 A library stands in out/proof when it is proved, with the checksum of what it was made from, so that a later run proves what
-changed and what stands above it."""
+changed and what is above it."""
 import hashlib
 import os
 import shutil

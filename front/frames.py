@@ -137,7 +137,7 @@ class Frames:
                 self.set(numbers, states)
 
     def count(self, record: int, offset: int, numbers: 'Sequence[int]', states: bytes, head: int) -> None:
-        """Counts frames in their rounds, with the bytes of the head that stands before them."""
+        """Counts frames in their rounds, with the bytes of the head that is before them."""
         rounds = self.rounds
         if rounds.told is None:
             return

@@ -160,7 +160,7 @@ def legacy_place(source: 'Any', begins: int, words: 'List[str]') -> 'Optional[in
 # ---- the frames and the parts of a guest image
 
 def is_page_sent(word: int, is_newer: bool) -> bool:
-    """Whether a page stands behind a frame with this word. In version 2 bit 52 says that the page is left out."""
+    """Whether a page is behind a frame with this word. In version 2 bit 52 says that the page is left out."""
     return word >> 60 in WITH_A_PAGE and not word >> 52 & 1 if is_newer else word >> 28 & 15 in WITH_A_PAGE
 
 

@@ -88,7 +88,7 @@ def tell(words: 'Any', found: verdict.Verdict) -> None:
 
 
 def compared(words: 'Any', name: str, path: str) -> int:
-    """Says of each file of a list whether it has the digest that stands there; the status."""
+    """Says of each file of a list whether it has the digest that is there; the status."""
     try:
         lines = [listed(line) for line in files.text_of(name).splitlines()]
     except errors.Unreadable as why:

@@ -109,7 +109,7 @@ class View:
         return found
 
     def lines(self) -> 'Iterator[str]':
-        """What stands at the top of the page: what `info` tells, without what is told elsewhere on it."""
+        """What is at the top of the page: what `info` tells, without what is told elsewhere on it."""
         section = ''
         for line in self.told.lines():
             if line == self.told.found.line:

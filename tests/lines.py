@@ -1,7 +1,7 @@
 """The lines that the programs write on standard error, spelled once for the tests.
 
 Cases and runners name a line by what it says, as `refused record 3 BadLength 7`, and `line_of` spells it. So the wording of
-a line stands here, in docs/refusals.md and in the program with its definition, and no case repeats it. The texts were worked
+a line is here, in docs/refusals.md and in the program with its definition, and no case repeats it. The texts were worked
 out from docs/refusals.md, never copied from the program; names and numbers of causes are those of the table that it is made of.
 
 The names are those of the tests: a place in small letters, then a cause. A text that is changed here keeps its name.

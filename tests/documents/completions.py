@@ -39,7 +39,7 @@ def positionals(words):
 
 
 def takes_nothing_known(action):
-    """Whether what follows an option, or stands there without one, is no file's name."""
+    """Whether what follows an option, or is there without one, is no file's name."""
     return action.nargs != 0 and action.metavar not in FILES | FOLDERS
 
 

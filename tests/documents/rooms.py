@@ -26,7 +26,7 @@ def source_of(room):
 
 
 def duty_of(room):
-    """The first paragraph of what a crate says of itself, without what stands in brackets, nor behind a colon that follows words
+    """The first paragraph of what a crate says of itself, without what is in brackets, nor behind a colon that follows words
     enough."""
     lines = []
     for line in source_of(room).splitlines():

@@ -73,7 +73,7 @@ def used_without_the_repository():
 
 
 def moved():
-    """Links and scripts find each other from where they stand, so a prefix can be moved."""
+    """Links and scripts find each other from where they are, so a prefix can be moved."""
     with copy_and_prefix() as (copy, prefix):
         place = place_in(os.path.dirname(prefix), copy)
         copy.install('--prefix', prefix)

@@ -142,7 +142,7 @@ def verbs_and_options():
 
 
 def commands_and_lines():
-    """Each command has its words in mig_tool(1) and says what it does; each form of a line and each status stands there, the faults as one."""
+    """Each command has its words in mig_tool(1) and says what it does; each form of a line and each status is there, the faults as one."""
     text = page('mig_tool')
     synopsis, told = plain(section(text, 'SYNOPSIS')), section(text, 'COMMANDS')
     for name, words in commands().items():
@@ -165,7 +165,7 @@ def commands_and_lines():
 
 
 def check_lines():
-    """Each command of mig_check has its words in mig_check(1), which says what it does, and each form of its lines stands there."""
+    """Each command of mig_check has its words in mig_check(1), which says what it does, and each form of its lines is there."""
     text = page('mig_check')
     synopsis, told, lines = plain(section(text, 'SYNOPSIS')), section(text, 'COMMANDS'), plain(section(text, 'LINES'))
     for words in 'mig_check', *('mig_check ' + name for name in check_commands()):

@@ -181,7 +181,7 @@ def sources_sum():
 
 
 def once(folder, make):
-    """Makes what stands in a folder, where these sources didn't make it before."""
+    """Makes what is in a folder, where these sources didn't make it before."""
     done = os.path.join(folder, 'built')
     if os.path.exists(done):
         with open(done) as file:

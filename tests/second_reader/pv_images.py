@@ -40,7 +40,7 @@ def some_entry(dice, host):
 
 
 def changed_context(dice, host, data):
-    """A context with one number changed, most often to one that may stand there."""
+    """A context with one number changed, most often to one that may be there."""
     number = dice.choice((some_mfn(dice, host), some_mfn(dice, host) << 12 | dice.randrange(2), 512, 7169))
     return pv.with_number(data, dice.choice((pv.RDX, pv.GDT_FRAMES + 8, pv.GDT_ENTS, pv.CTRLREG1, pv.CTRLREG3, 16, 24)), number)
 

@@ -9,13 +9,13 @@ use Rattle.mig_bytes.specs.declared.stop.TakeFault.TheVariants as take_faults
 abbrev pub Rose : ℕ → ℕ → Type 0
 Rose before now = min (before + 1) (2 ^ 64 - 1) ≤ now
 
--- the count hasn't fallen; an error comes only where it rose, and `Ok` only where it stands as it was
+-- the count hasn't fallen; an error comes only where it rose, and `Ok` only where it is as it was
 pub record FaultHasCause {T E : Type 0} (before now : ℕ) (result : Result T E) : Type 0 where
   pub later : before ≤ now
   pub failed : OnErr result (Rose before now)
   pub quiet : OnOk result (now ≡ before)
 
--- A read fault is answered only where the count of the source rose, and every other answer only where it stands as it was.
+-- A read fault is answered only where the count of the source rose, and every other answer only where it is as it was.
 abbrev pub RisesOnReadFault : {X C : Type 0} → ℕ → ℕ → Result X (Stop C) → Type 0
 RisesOnReadFault before now (Ok x) = now ≡ before
 RisesOnReadFault before now (Err (Refused c)) = now ≡ before

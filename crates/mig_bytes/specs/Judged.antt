@@ -51,7 +51,7 @@ steps step (suc n) k x input = do
   y ← step k x input
   steps step n (k + 1) y.0 y.1
 
--- a cause, with the place where it stands
+-- a cause, with the place where it is
 abbrev pub placed : {P C X : Type 0} → P → Judged C X → Judged (P × C) X
 placed place (Passes x rest) = Passes x rest
 placed place (Faulty c rest) = Faulty (place, c) rest

@@ -11,7 +11,7 @@ pub data Spells {E : Type 0} (Follows : List E → E → List ℕ → Type 0) : 
 
 -- ---- judging
 
--- parts that stand whole and without fault, and the bytes behind them
+-- parts that are whole and without fault, and the bytes behind them
 pub record Front (E : Type 0) : Type 0 where
   pub parts : List E
   pub rest : List ℕ

@@ -51,7 +51,7 @@ NextEmulator parts pairs context (Some e) =
 unfoldable pub emulators_in_order : PartMap → List Part
 emulators_in_order parts = emulators_after parts None None
 
--- each part of an emulator stands there, and no other; the keys ascend by id, index and code
+-- each part of an emulator is there, and no other; the keys ascend by id, index and code
 pub record AreEmulatorsInOrder (parts : PartMap) (ps : List Part) : Type 0 where
   pub each : (p : Part) → Contains ps p ↔ ((maps.get parts p.0 ≡ Some p.1) × (is_emulator_code p.0.code ≡ true))
   pub ascend : T (is_sorted emulator_cmp ps)

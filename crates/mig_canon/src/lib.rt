@@ -7,7 +7,7 @@
 //! - frames in batches of 1024
 //! - the parts of each code, written by its shape with everything that a reader ignores zero
 //! - as definitions, what is around the image where a guest has emulators
-//! - that the records of a guest, one after another in their canonical order, may each stand where they stand and say
+//! - that the records of a guest, one after another in their canonical order, may each stand where they are and say
 //!   the guest's parts and frames
 //!
 //! Left to others:

@@ -134,7 +134,7 @@ pub fn write_canon_with<K: Sink, F: FrameSequence>(
     }
 }
 
-/// Appends the canonical image of the guest, in which nothing stands of emulators. After `WriteFailed` some first bytes of
+/// Appends the canonical image of the guest, which has nothing of emulators. After `WriteFailed` some first bytes of
 /// it are appended, but not all.
 pub fn write_canon<K: Sink>(sink: &mut K, guest: &Guest) -> Result<(), WriteFailed>
     requires { IsWhole guest.now }

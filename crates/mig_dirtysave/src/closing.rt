@@ -47,8 +47,8 @@ fn close_hvm<M: Machine, K: Sink>(
     Ok(())
 }
 
-/// Judges the host of a paused PV machine by the types that were seen last and what was found wrong with its tables, and
-/// makes the settings those of the guest that it is seen as. There is a mark for each type at least.
+/// Judges the host of a paused PV machine by the types that were seen last and what was found wrong with its tables.
+/// Makes the settings those of the guest that it is seen as. There is a mark for each type at least.
 fn settle<M: Machine>(
     machine: &mut M,
     settings: &mut Guest,

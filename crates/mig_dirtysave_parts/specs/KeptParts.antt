@@ -11,7 +11,7 @@ use Rattle.mig_guest.specs.PartCodes.{is_fixed}
 abbrev pub is_early : ℕ → Bool
 is_early code = is_fixed code && not (code == 258)
 
--- the codes of the parts that are behind the frames, without the context, which is written where it stands
+-- the codes of the parts that are behind the frames, without the context, which is written where it is
 abbrev pub is_setting : ℕ → Bool
 is_setting code = not (is_early code) && not (code == 9)
 

@@ -53,7 +53,7 @@ unsound_in (Err unsound) = Some unsound
 abbrev pub judged_with : Option Unsound → PartMap → Option Unsound
 judged_with tables parts = first_cause (absent parts context_key ∷ tables ∷ option_map (λ fault. unsounds.BadContext fault) (find_context_fault parts) ∷ [])
 
--- whatever records were written before, some may stand behind them now, and a part of one more, perhaps none
+-- whatever records were written before, some may come behind them now, and a part of one more, perhaps none
 abbrev pub StopsBehind : Option (List ℕ) → Option (List ℕ) → Type 0
 StopsBehind old new = (start : Option (List ℕ)) (rs : List Record) → WroteAll start old rs → (more : List Record) × WroteSome start new (rs ++ more)
 

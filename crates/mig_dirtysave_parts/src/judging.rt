@@ -6,8 +6,8 @@ use mig_guest::mig_machine_api::Machine;
 use mig_headers::{HVM_CONTEXT, Unsound};
 use mig_hvm::scan_context;
 
-/// What stands in the context of an HVM machine's host before its END, or the first thing that is wrong with the host, where
-/// `tables` is the first that is wrong with its tables.
+/// What is in the context of an HVM machine's host before its END, or the first thing that is wrong with the host.
+/// `tables` is the first thing that is wrong with its tables.
 pub fn judge<M: Machine>(machine: &M, tables: Option<Unsound>) -> Result<&[u8], Unsound>
     ensures front { IfOk result (λ front. IsContextFront (M.state machine.now).host.parts front.now) }
     ensures first { unsound_in result ≡ judged_with tables (M.state machine.now).host.parts }

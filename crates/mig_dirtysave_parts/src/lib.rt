@@ -19,7 +19,7 @@
 //!
 //! - What is before the frames is what the canonical image has there of a guest with the early parts.
 //! - What is behind them is what it has there of the host's view, where nothing is in the way of seeing it.
-//! - Where a write stopped behind the frames, whole records and a part of one more stand there, perhaps none.
+//! - Where a write stopped behind the frames, whole records and a part of one more are there, perhaps none.
 //!
 //! Only `copy_parts` and `make_marks` take memory.
 #![tactic(auto)]

@@ -6,14 +6,14 @@ use mig_guest::mig_machine_api::Machine;
 use mig_guest::{EMULATOR_PAIRS, Guest, PartKey, is_fixed};
 use mig_headers::HVM_CONTEXT;
 
-/// Whether a part of this code stands before the frames. Its bytes never change while a guest runs.
+/// Whether a part of this code is before the frames. Its bytes never change while a guest runs.
 pub(crate) fn is_early(code: u32) -> bool
     ensures { result ≡ is_early_code code }
 {
     is_fixed(code) && code != EMULATOR_PAIRS
 }
 
-/// Whether a part of this code stands behind the frames. The context isn't among them, which is written where it stands.
+/// Whether a part of this code is behind the frames. The context isn't among them, which is written where it is.
 pub(crate) fn is_setting(code: u32) -> bool
     ensures { result ≡ is_setting_code code }
 {

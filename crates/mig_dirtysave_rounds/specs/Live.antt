@@ -1,4 +1,4 @@
--- Where a save stands: while the guest runs, when the rounds are over, and in the end.
+-- Where a save is: while the guest runs, when the rounds are over, and in the end.
 use Rattle.std.specs.Prelude.{◌≡◌, ℕ, ◌+◌, ◌*◌, ◌^◌, ◌<◌, ◌≤◌, List, [], length, true, false, Option, Some, None, get_or}
 use Rattle.mig_dirtysave_rounds.specs.Common.{option_map, Kind, Unsound, PageType, FrameMap, HostFrame, HostFrames, FrameTold, all_told, BatchesWritten, AreSized, IsSent, Pfns, size, footprint, footprint_of, LogTook, nothing_asked, MachineState, IsSameShape, OfEachLog, GoesOn, AreCalls, Rounds, Tight, to_read, rounds_read, all_read, least_log, most_rounds}
 use Rattle.std.specs.FinMap as maps

@@ -12,7 +12,7 @@ pub(crate) fn next_number(number: u64) -> u64
     number.wrapping_mul(MULTIPLIER).wrapping_add(INCREMENT)
 }
 
-/// The number in front of number `count` behind the seed; in front of the first stands the seed.
+/// The number in front of number `count` behind the seed; in front of the first is the seed.
 pub(crate) fn number_before(seed: u64, count: u64) -> u64
     ensures { number_after result ≡ number seed count }
 {

@@ -21,7 +21,7 @@ pub struct StandardFile {
     size: u64,
 }
 
-/// The place at which the standard input stands, where the system tells it.
+/// The place at which the standard input is, in bytes from the file's beginning, where the system tells it.
 fn place_told(rt: &HostRuntime) -> Option<u64> {
     let told = fs::read_to_string(rt, TOLD).ok()?;
     let (_, behind) = told.split_once(PLACE)?;
@@ -29,7 +29,7 @@ fn place_told(rt: &HostRuntime) -> Option<u64> {
 }
 
 impl StandardFile {
-    /// The standard input and the place at which it stands, where it is a regular file with bytes that may be opened once
+    /// The standard input and the place at which it is, where it is a regular file with bytes that may be opened once
     /// more. Its own place isn't moved.
     pub fn of(rt: &HostRuntime) -> Option<(StandardFile, u64)> {
         if !fs::metadata(rt, NAME).ok()?.is_file() {

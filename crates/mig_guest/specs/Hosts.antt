@@ -1,4 +1,4 @@
--- What a host is: a guest as it stands in a machine, where each frame number has a machine frame.
+-- What a host is: a guest as it is in a machine, where each frame number has a machine frame.
 use Rattle.std.specs.Prelude.{◌≡◌, ℕ, ◌≤◌, ◌<◌, ◌^◌, true, List, length, Option, Some, is_some, refl, ◌==◌, find}
 use Rattle.mig_guest.specs.Common.{option_map, nat_cmp, Coded, code_by, coded×, coded_ℕ, coded_list, coded_option, Kind, Pv, PageType, type_has_data, top_limit, machine_limit}
 use Rattle.std.specs.FinMap as maps

@@ -41,7 +41,7 @@ pub record AreCanonicalPairs (bytes : List ℕ) : Type 0 where
 abbrev pub texts_in : List ℕ → List (List ℕ)
 texts_in bytes = slice_split (λ b. b == 0) bytes
 
--- a key that may stand behind this one
+-- a key that may come behind this one
 abbrev pub is_next_key : List ℕ → List ℕ → Bool
 is_next_key last key = list_all is_key_byte key && is_lt (slice_cmp nat_cmp last key)
 

@@ -23,7 +23,7 @@ pub enum ContextFault {
     NoEnd,
 }
 
-/// Why a part of a stream is refused. The variants stand in the order of their numbers, from 1.
+/// Why a part of a stream is refused. The variants are in the order of their numbers, from 1.
 #[derive(Clone, Copy, Debug, PartialEq, Eq)]
 pub enum Cause {
     Truncated,

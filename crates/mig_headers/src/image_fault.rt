@@ -10,7 +10,7 @@ pub enum ImagePlace {
     Part(u64),
 }
 
-/// Why a part of a guest image is refused. The variants stand in the order of their numbers, from 1.
+/// Why a part of a guest image is refused. The variants are in the order of their numbers, from 1.
 #[derive(Clone, Copy, Debug, PartialEq, Eq)]
 pub enum ImageCause {
     /// The file ends before this part does.
@@ -47,6 +47,6 @@ pub enum ImageCause {
     PartBytes,
     /// The padding isn't zero.
     PartPadding,
-    /// The page of this frame number is all zero, and stands there where the zero flag had to say so.
+    /// The page of this frame number is all zero, and is there where the zero flag had to say so.
     ZeroPage(u64),
 }

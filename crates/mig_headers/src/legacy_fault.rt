@@ -13,7 +13,7 @@ pub enum LegacyPlace {
     Device,
 }
 
-/// Why a part of a legacy stream is refused. The variants stand in the order of their numbers, from 1.
+/// Why a part of a legacy stream is refused. The variants are in the order of their numbers, from 1.
 #[derive(Clone, Copy, Debug, PartialEq, Eq)]
 pub enum LegacyCause {
     /// The stream ends before this part does.

@@ -1,6 +1,6 @@
 use crate::ContextFault;
 
-/// Why a guest that stands in a machine can't be seen as a guest. The variants stand in the order of their numbers, from
+/// Why a guest that is in a machine can't be seen as a guest. The variants are in the order of their numbers, from
 /// 1.
 #[derive(Clone, Copy, Debug, PartialEq, Eq)]
 pub enum Unsound {

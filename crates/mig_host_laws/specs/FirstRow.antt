@@ -1,4 +1,4 @@
--- What is in the way of seeing a guest where it stands, looked for row by row: each row's first cause, and the first of the rows.
+-- What is in the way of seeing a guest where it is, looked for row by row: each row's first cause, and the first of the rows.
 use Rattle.std.specs.Prelude.{◌≡◌, ◌<◌, ℕ, Bool, List, [], ◌∷◌, Option, find}
 use Rattle.mig_host_laws.specs.Common.{range_with_len, option_map, Unsound, Entry, NotPresent, p2m_key, first_some, first_cause, slots, find_misplaced, find_in_contexts, misses, needed_keys, absent, find_gdt, find_context_fault}
 use Rattle.std.specs.FinMap as maps

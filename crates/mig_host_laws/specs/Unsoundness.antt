@@ -1,4 +1,4 @@
--- What is in the way of seeing a guest where it stands, in words: a line for each row, with its places.
+-- What is in the way of seeing a guest where it is, in words: a line for each row, with its places.
 use Rattle.std.specs.Prelude.{◌≡◌, ◌⊎◌, Bool, true, false, ℕ, ◌+◌, ◌*◌, ◌<◌, ◌≤◌, List, length, filter, Option, Some, None, IsSome, IsTrue, IsFalse, Err}
 use Rattle.std.specs.Ordering.{is_lt}
 use Rattle.std.specs.FinMap as maps

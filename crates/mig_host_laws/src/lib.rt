@@ -2,7 +2,7 @@
 //!
 //! Responsible for:
 //!
-//! - what is wrong with a guest where it stands, a line for each row, and which of it is named first
+//! - what is wrong with a guest where it is, a line for each row, and which of it is named first
 //! - what a vCPU's context says once its fields have other names
 //! - worked examples of the smallest definitions that these laws share with the code
 //!

@@ -6,7 +6,7 @@ ghost use Rattle.mig_host_laws.specs.Unsoundness.{IsWrong, UnsoundHas, NamesFirs
 
 /// What a saver finds first with the types that it saw last is the host's unsoundness, where these are the host's
 /// types. So it is however it is found, also where it is looked for row by row. Whatever the types are, a row that
-/// doesn't speak of them stands there exactly where it stands in the host.
+/// doesn't speak of them is there exactly where it is in the host.
 pub fn saver_finds_unsoundness()
     ensures named { (h : HostOf) (seen : ℕ → Option PageType) (found : Option Unsound) → ((pfn : ℕ) → seen pfn ≡ type_at (guest_in h).frames pfn) → NamesFirstRow (before_saver h seen) found → found ≡ unsoundness h }
     ensures row { (h : HostOf) (seen : ℕ → Option PageType) (width : ℕ) → ((pfn : ℕ) → seen pfn ≡ type_at (guest_in h).frames pfn) → IsWide width (in_host h)

@@ -7,7 +7,7 @@ ghost use Rattle.mig_host_laws.specs.NamedFirst.{NamesFirst};
 ghost use Rattle.mig_host_laws.specs.Standing.{Standing, in_host};
 ghost use Rattle.mig_host_laws.specs.Unsoundness.{UnsoundHas, NamesFirstRow, IsWrongAtEnd};
 
-/// Of all that is wrong with a guest where it stands, one cause is named first, or none.
+/// Of all that is wrong with a guest where it is, one cause is named first, or none.
 #[tactic(auto, using(crate::proofs::Rows::one_row))]
 pub fn one_row_is_named()
     ensures { (s : Standing) (f g : Option Unsound) → NamesFirstRow s f → NamesFirstRow s g → f ≡ g }
@@ -24,8 +24,8 @@ pub fn guest_fault_is_least()
     ensures { (g : GuestOf) → g.kind ≡ Pv → NamesFirst number_of_cause (IsWrongAtEnd g) (fault_of_guest g) }
 {}
 
-/// A host is sound exactly where nothing is wrong with it, and a PV guest is whole exactly where it is well formed and nothing
-/// is wrong with it at the end of its stream.
+/// A host is sound exactly where nothing is wrong with it. A PV guest is whole exactly where it is well formed and
+/// nothing is wrong with it at the end of its stream.
 #[tactic(auto, using(crate::proofs::Nothing::nothing_at_end))]
 pub fn nothing_is_wrong()
     ensures host { (h : HostOf) → IsSound h ↔ ((place : ℕ) (cause : Unsound) → UnsoundHas h place cause → ⊥) }

@@ -1,4 +1,4 @@
--- A guest as it stands in a machine: its tables and the contexts of its vCPUs name machine frames (MFN), where in a stream
+-- A guest as it is in a machine: its tables and the contexts of its vCPUs name machine frames (MFN), where in a stream
 -- they name frame numbers (PFN).
 use Rattle.std.specs.Prelude.{ℕ, List, Option, Some, None, ◌==◌, if◌then◌else◌}
 use Rattle.mig_host_view.specs.Common.{option_map, Kind, Pv, Hvm, level_of, PartKey, FrameOf, GuestOf, PartMap, each_value, table_changed, place_of, p2m_page, renamed_table, Usage, is_used}

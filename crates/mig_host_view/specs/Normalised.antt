@@ -1,4 +1,4 @@
--- The form in a stream of a guest that stands in a machine.
+-- The form in a stream of a guest that is in a machine.
 use Rattle.std.specs.Prelude.{ℕ, List, Option, Result, Ok, Err, ◌==◌, if◌then◌else◌}
 use Rattle.mig_host_view.specs.Common.{ContextFault, Kind, Pv, Hvm, scan, cut_at, PartKey, GuestOf, each_value, blank_of, is_used_somewhere}
 use Rattle.mig_host_view.specs.Localised.{renamed}

@@ -26,7 +26,7 @@ FieldsName frames pfn_of parts =
     → (field : ℕ) → field ≤ 18 → is_used_somewhere key.key1 (gdt_ents context) field (field_value context field) ≡ true
     → fits_field field (machine_type frames pfn_of (frame_of_field field (field_value context field))) ≡ true
 
--- a guest that stands in a machine, where pfn_of gives the PFN of a machine frame, can be seen
+-- a guest that is in a machine, where pfn_of gives the PFN of a machine frame, can be seen
 pub record CanBeSeen (g : GuestOf) (pfn_of : ℕ → Option ℕ) : Type 0 where
   pub parts : AreThere g.parts (needed_keys g.kind)
   pub p2m : AreP2mFrames g.frames g.parts

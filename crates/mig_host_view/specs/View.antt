@@ -12,11 +12,11 @@ abbrev pub top_of : Kind → ℕ → ℕ
 top_of Pv width = width - 1
 top_of Hvm width = 0
 
--- the guest that stands in the host, as it stands there
+-- the guest that stands in the host, as it is there
 abbrev pub guest_in : HostOf → GuestOf
 guest_in h = record { kind = h.kind; top = top_of h.kind h.width; frames = each_value (λ pfn f. without_machine f) h.frames; parts = h.parts }
 
--- the guest that a host means: PFNs stand in place of machine frames, in blank form
+-- the guest that a host means: PFNs are in place of machine frames, in blank form
 abbrev pub view : HostOf → GuestOf
 view h = normalised (pfn_in h.frames) (guest_in h)
 

@@ -1,10 +1,10 @@
-//! A guest as it stands in a machine: its tables and the contexts of its vCPUs name machine frames.
+//! A guest as it is in a machine: its tables and the contexts of its vCPUs name machine frames.
 //!
 //! Responsible for:
 //!
-//! - bringing a whole guest to the form in which it stands in a machine and, of a PV guest, back to its form in a
+//! - bringing a whole guest to the form in which it is in a machine and, of a PV guest, back to its form in a
 //!   stream
-//! - what is in the way of seeing a guest that stands in a machine
+//! - what is in the way of seeing a guest that is in a machine
 //! - and, as a definition with its laws, the guest that a host means
 //!
 //! Left to others: what keeps the frames and their machine frames (mig_host).

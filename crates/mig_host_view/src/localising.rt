@@ -12,7 +12,7 @@ use mig_pvtables::{
     localise_table, p2m_page,
 };
 
-/// Machine frames stand in place of frame numbers in tables, and each P2M frame holds those of its range.
+/// Machine frames are in place of frame numbers in tables, and each P2M frame holds those of its range.
 #[derive(Drop)]
 struct Localising<'a, F> {
     frames: &'a F,

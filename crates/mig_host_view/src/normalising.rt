@@ -37,7 +37,7 @@ impl<F: Frames> TableStep for Normalising<'_, F> {
     }
 }
 
-/// Brings a PV guest that stands in a machine to its form in a stream: PFNs stand in place of machine frames, in blank
+/// Brings a PV guest that is in a machine to its form in a stream: PFNs are in place of machine frames, in blank
 /// form. What names no PFN stays. Takes no memory.
 pub fn normalise_guest<F: Frames>(guest: &mut Guest, machines: &F)
     requires pv { guest.old.kind ≡ Pv }

@@ -17,7 +17,7 @@ fn rename_context<N: FrameNames>(context: &mut [u8; 5168], id: u32, names: &N)
     }
 }
 
-/// Other names stand in place of frames in contexts.
+/// Other names are in place of frames in contexts.
 #[derive(Drop)]
 pub(crate) struct Renaming<'a, N> {
     pub(crate) names: &'a N,

@@ -100,7 +100,7 @@ fn bad_context<F: Frames>(frames: &FrameStore, parts: &Parts, machines: &F) -> O
     Some(Unsound::BadContext(fault))
 }
 
-/// The first cause, at its least place, that a guest which stands in a machine can't be seen as a guest; `machines` gives
+/// The first cause, at its least place, that a guest which is in a machine can't be seen as a guest; `machines` gives
 /// the PFN of a machine frame. Memory is taken for marks of listed P2M frames alone.
 pub fn unsoundness<F: Frames>(
     alloc: Global,

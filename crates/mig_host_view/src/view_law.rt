@@ -23,7 +23,7 @@ pub fn localised_guest_comes_back()
         → ((n : ℕ) → IsSome (maps.get g.frames n) → GoesBack mfn_of pfn_of n) → normalised pfn_of (localised mfn_of g) ≡ g }
 {}
 
-/// Nothing is in the way of seeing such a guest where it stands.
+/// Nothing is in the way of seeing such a guest where it is.
 pub fn localised_guest_can_be_seen()
     ensures { (g : GuestOf) → IsWhole g → blank g ≡ g → (mfn_of pfn_of : ℕ → Option ℕ)
         → ((n : ℕ) → IsSome (maps.get g.frames n) → GoesBack mfn_of pfn_of n) → CanBeSeen (localised mfn_of g) pfn_of }

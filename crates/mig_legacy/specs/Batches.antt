@@ -33,7 +33,7 @@ IsBatchFault ws (Some _) = ⊥
 abbrev pub IsTyped : ℕ → Type 0
 IsTyped w = (legacy_type w < 5) ⊎ (8 < legacy_type w)
 
--- the first word of 2^32 or more stands here
+-- the first word of 2^32 or more is here
 pub record IsFirstHigh (ws : List ℕ) (entry : ℕ) : Type 0 where
   pub within : entry < length ws
   pub high : 2 ^ 32 ≤ slice_index ws entry

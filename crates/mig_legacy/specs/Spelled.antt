@@ -66,7 +66,7 @@ pub record IsLegacyComplete (chunks : List LegacyChunk) : Type 0 where
   pub paired : has_value 32 chunks ≡ has_value 33 chunks
   pub few : IsFew (sent Hvm (image_records chunks)).frames
 
--- a chunk that may stand behind these chunks
+-- a chunk that may come behind these chunks
 pub record FollowsLegacy (chunks : List LegacyChunk) (c : LegacyChunk) (bytes : List ℕ) : Type 0 where
   pub is : IsChunk c bytes
   pub fits : StoreFits chunks c.content

@@ -31,14 +31,14 @@ fn is_high(word: u64) -> bool
     word >= 1 << 32
 }
 
-/// Where the first word with a reserved type stands.
+/// Where the first word with a reserved type is.
 fn first_reserved(words: &[u64]) -> Option<usize>
     ensures { result ≡ position reserved words.now }
 {
     words.iter().position(|word| is_reserved(*word))
 }
 
-/// Where the first word with high bits stands.
+/// Where the first word with high bits is.
 fn first_high(words: &[u64]) -> Option<usize>
     ensures { result ≡ position high words.now }
 {

@@ -4,7 +4,7 @@ ghost use Rattle.mig_legacy.specs.Judged.{is_name as name_is, entry_fault as fau
 
 use mig_bytes::u32_le;
 
-/// Where the first zero stands.
+/// Where the first zero is.
 fn first_zero(bytes: &[u8]) -> Option<usize>
     ensures { result ≡ position (λ b. b == 0) bytes.now }
 {
@@ -30,7 +30,7 @@ pub(crate) fn entry_len(bytes: &[u8]) -> usize
     32 + u32_le(bytes, 24) as usize
 }
 
-/// Where the first field of the entry at the front stands that is wrong.
+/// Where the first wrong field of the entry at the front is.
 #[tactic(auto, unfolding(crate::specs::Judged::entry_fault))]
 pub(crate) fn entry_fault(bytes: &[u8]) -> Option<usize>
     ensures value { result ≡ fault_of bytes.now }

@@ -32,8 +32,8 @@ fn placed_of<'a, P: PageFile>(
     })
 }
 
-/// Reads a legacy stream from a file as `read_legacy` does. Its pages stay in the file: the guest is an outline, with the parts
-/// of its device model, and where in the file each frame's page stands is noted.
+/// Reads a legacy stream from a file as `read_legacy` does. Its pages stay in the file. The guest is an outline, with
+/// the parts of its device model, and the place of each frame's page in the file is noted.
 pub fn place_legacy<'a, P: PageFile>(
     alloc: Global,
     src: &mut FileSource<'a, P>,

@@ -16,7 +16,7 @@ pub fn put(text: &mut Vec<u8>, bytes: &[u8]) -> Result<(), Memory>
     Ok(())
 }
 
-/// Where the first digit stands that isn't 0.
+/// Where the first digit is that isn't 0.
 fn first_but_zero(digits: &[u8]) -> Option<usize>
     ensures { result ≡ position (λ d. not (d == 48)) digits.now }
 {

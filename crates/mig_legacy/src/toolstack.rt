@@ -7,7 +7,7 @@ use crate::text::put_physmap;
 use mig_bytes::{Memory, u32_le};
 use std::alloc::Global;
 
-/// Where the first field stands that is wrong in so many entries behind the first 8 bytes, or what follows the last.
+/// Where the first wrong field is in so many entries behind the first 8 bytes, or what follows the last.
 #[tactic(auto, using(crate::proofs::Entries::entries_step, crate::proofs::Entries::entries_stop, crate::proofs::Entries::entries_end))]
 fn entries_place(body: &[u8], count: u32) -> Option<u64>
     requires { 8 ≤ length body.now }

@@ -4,8 +4,8 @@
 //!
 //! - which number each chunk has
 //! - the order of a clock's fields
-//! - which parameters stand in the tail
-//! - the names under which the memory of a device model stands in its store
+//! - which parameters are in the tail
+//! - the names under which the memory of a device model is in its store
 //!
 //! Left to others: to read them (mig_legacy), since here are laws alone.
 #![tactic(auto)]

@@ -441,8 +441,8 @@ pub fn judge_any<S: Source>(alloc: Global, src: &mut S) -> Result<Tally, StreamA
     }
 }
 
-/// Judges a stream of either form in a file, and leaves unread what `read_any` leaves. It answers the outline of the guest
-/// that was sent, and where in the file each frame's page stands: no page but a table's is read.
+/// Judges a stream of either form in a file, and leaves unread what `read_any` leaves. It answers the outline of the
+/// guest that was sent, and the place of each frame's page in the file. No page but a table's is read.
 pub fn place_any<'a, P: PageFile>(
     alloc: Global,
     src: &mut FileSource<'a, P>,
@@ -458,7 +458,7 @@ pub fn place_any<'a, P: PageFile>(
 }
 
 /// Judges a stream of either form in a file, and leaves unread what `read_any` leaves. It keeps emulators and page tables, and
-/// no other page: an entry behind a VERIFY is compared with the page of its frame where that stands in the file. A page that
+/// no other page: an entry behind a VERIFY is compared with the page of its frame where that is in the file. A page that
 /// can't be read there is a read fault.
 pub fn compare_any<'a, P: PageFile>(
     alloc: Global,

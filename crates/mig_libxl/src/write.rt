@@ -64,14 +64,14 @@ pub fn close_wrapper<K: Sink>(sink: &mut K) -> Result<(), WriteFailed>
     write_record(sink, LIBXL_END, &[])
 }
 
-/// Whether a part of the first key stands before one of the second: ids ascend, of an id indices, and of an index codes.
+/// Whether a part of the first key is before one of the second: ids ascend, of an id indices, and of an index codes.
 fn stands_before(first: PartKey, second: PartKey) -> bool
     ensures { result ≡ is_lt (emulator_cmp first second) }
 {
     (first.key1, first.key2, first.code) < (second.key1, second.key2, second.code)
 }
 
-/// The first of the emulators' parts that stand behind these keys, or of all.
+/// The first of the emulators' parts that are behind these keys, or of all.
 fn next_emulator(
     guest: &Guest,
     pairs: Option<PartKey>,
@@ -96,7 +96,7 @@ fn next_emulator(
     }
 }
 
-/// Appends the records of all emulators: ids ascend, of an id indices, and of an index pairs stand before a context.
+/// Appends the records of all emulators: ids ascend, of an id indices, and of an index pairs are before a context.
 fn write_emulators<K: Sink>(sink: &mut K, guest: &Guest) -> Result<(), WriteFailed>
     requires formed { IsFormed guest.now }
     ensures bytes { Puts (text_of_emulators (emulators_in_order guest.now.parts)) (K.written sink.old) (K.written sink.new) result }

@@ -34,7 +34,7 @@ is_pv (Some image) = is_pv_kind image.opening.kind
 abbrev pub is_miscounted : ℕ → Option ImageOf → Bool
 is_miscounted type image = ((type == libxc_context_type) && is_some image) || ((type == libxl_end_type) && is_none image)
 
--- the causes of a head of this type and length, whatever stands before it
+-- the causes of a head of this type and length, whatever is before it
 abbrev pub field_rows : ℕ → ℕ → List (Bool × Cause)
 field_rows type len =
     (nat_lt most_body len, BodyTooLong len)

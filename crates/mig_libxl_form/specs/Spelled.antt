@@ -43,7 +43,7 @@ pub record IsLibxlComplete (records : List LibxlRecord) : Type 0 where
   pub there : image_among records ≡ Some image
   pub emulators : image.opening.kind ≡ Pv → has_emulator records ≡ false
 
--- a record that may stand behind these records
+-- a record that may come behind these records
 pub record FollowsLibxl (records : List LibxlRecord) (r : LibxlRecord) (bytes : List ℕ) : Type 0 where
   pub is : IsLibxlRecord r bytes
   pub fits : EmulatorsFit records r.content

@@ -34,7 +34,7 @@ fn allows_length(kind: u32, len: u32) -> bool
     }
 }
 
-/// What is wrong with a head, whatever stands before it.
+/// What is wrong with a head, whatever is before it.
 #[tactic(auto, unfolding(crate::specs::Judging::fault_of_libxl_fields))]
 fn lone_fault(head: RecordHead) -> Option<Cause>
     ensures fault { result ≡ fault_of_libxl_fields head.kind head.len }

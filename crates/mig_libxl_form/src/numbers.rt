@@ -1,7 +1,7 @@
 /// The type of the record that ends a libxl stream.
 pub const LIBXL_END: u32 = 0;
 
-/// The type of the record that the image stands behind.
+/// The type of the record that the image is behind.
 pub const LIBXC_CONTEXT: u32 = 1;
 
 /// The type of a record with pairs of an emulator.

@@ -24,7 +24,7 @@ record_rank r =
     else if r.0 == 12 then 13 + 4 * le32 r.1 0
     else 2 ^ 40
 
--- no record stands behind one that comes after it
+-- no record is behind one that comes after it
 abbrev pub AscendByRank : List Record → Type 0
 AscendByRank [] = ⊤
 AscendByRank (r ∷ rs) = AllByRecursion (λ s. record_rank r ≤ record_rank s) rs × AscendByRank rs

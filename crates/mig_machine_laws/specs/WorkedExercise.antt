@@ -15,7 +15,7 @@ eight_types = Notab ∷ Notab ∷ L4Pinned ∷ L3Tab ∷ L2Tab ∷ L1Tab ∷ Not
 abbrev pub eight_machines : List ℕ
 eight_machines = 2000007 ∷ 2000006 ∷ 2000005 ∷ 2000004 ∷ 2000003 ∷ 2000002 ∷ 2000001 ∷ 2000000 ∷ []
 
--- what stands at each place of the vCPU's context: rdx at byte 616, gdt_frames[0] at byte 4832, how many descriptors the GDT has
+-- what is at each place of the vCPU's context: rdx at byte 616, gdt_frames[0] at byte 4832, how many descriptors the GDT has
 -- at byte 4960, and ctrlreg[3] at byte 5008
 abbrev pub eight_context : ℕ → ℕ
 eight_context place = if place == 616 / 8 then 2000007 else if place == 4832 / 8 then 2000006 else if place == 4960 / 8 then 512 else if place == 5008 / 8 then 2000005 * 4096 else 0

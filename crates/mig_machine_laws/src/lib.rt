@@ -3,8 +3,8 @@
 //! Responsible for:
 //!
 //! - how many rounds a save has, and which log ends them
-//! - how many entries stand in a record
-//! - in which order and batches the records of a canonical stream stand
+//! - how many entries are in a record
+//! - in which order and batches the records of a canonical stream are
 //! - what a slot of a table or of a P2M frame says
 //! - which types of frame a field of a vCPU may name
 //! - where a line of a script applies, what it leaves and what it logs

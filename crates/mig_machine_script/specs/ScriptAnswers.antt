@@ -19,7 +19,7 @@ abbrev pub ReadsScript : Option (List ℕ) → Option (List ℕ) → Result Scri
 ReadsScript None new result = ⊤
 ReadsScript (Some input) new result = AnswersInput input new result
 
--- a read fault is answered only where the count of the source rose, and every other answer only where it stands as it was
+-- a read fault is answered only where the count of the source rose, and every other answer only where it is as it was
 abbrev pub RisesOnScriptFault : ℕ → ℕ → Result Script ScriptAnswer → Type 0
 RisesOnScriptFault before now (Ok script) = now ≡ before
 RisesOnScriptFault before now (Err (BadLine number)) = now ≡ before

@@ -24,7 +24,7 @@ then_type earlier number = record {
   verify = earlier.verify || among (Verify ∷ []) number;
 }
 
--- a type has no fault exactly where it may stand there
+-- a type has no fault exactly where it may come there
 abbrev pub FaultlessIsInOrder : Type 0
 FaultlessIsInOrder =
     (version : ℕ) (kind : Kind) (types : List ℕ) (number : ℕ) → (fault_of_type version kind types number ≡ None) ↔ IsInOrder version kind types number

@@ -55,7 +55,7 @@ is_of these this = among these (type_number this)
 abbrev pub second_end : Earlier → RecordType → Bool
 second_end earlier this = is_of (StaticDataEnd ∷ []) this && earlier.static_data_end
 
--- rule 2: static records stand before STATIC_DATA_END, and both before all content
+-- rule 2: static records are before STATIC_DATA_END, and both before all content
 abbrev pub late_static : Earlier → RecordType → Bool
 late_static earlier this =
     (is_of static_records this && earlier.static_data_end) || (is_of (StaticDataEnd ∷ static_records) this && earlier.content)
@@ -132,7 +132,7 @@ pub record KeepsOrder (version : ℕ) (kind : Kind) (types : List ℕ) (this : R
   pub one_verify : this ≡ Verify → IsFalse (some_earlier types (Verify ∷ []))
   pub verify_before_vcpus : this ≡ Verify → IsFalse (some_earlier types vcpu_records)
 
--- a type's number may stand behind records of these types: it is optional, or a supported type of this kind that keeps the order
+-- a type's number may come behind records of these types: it is optional, or a supported type of this kind that keeps the order
 pub data IsInOrder (version : ℕ) (kind : Kind) (types : List ℕ) (number : ℕ) : Type 0 where
   optional : 2 ^ 31 ≤ number → IsInOrder version kind types number
   ordered : (this : RecordType) → number ≡ type_number this → IsTrue (record_row_of this).supported → IsTrue ((record_row_of this).of_kind kind) → KeepsOrder version kind types this → IsInOrder version kind types number

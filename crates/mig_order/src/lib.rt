@@ -1,7 +1,7 @@
 //! The order of the records of a stream.
 //!
-//! Responsible for: whether a record's type may stand behind the types of the records before it, in a stream of a
-//! version and a kind of guest, and which cause says why not. It knows no lengths, bodies or bytes, and takes no
+//! Responsible for: whether a record's type may come behind the types of the records before it, in a stream of a
+//! version and a kind of guest. Where it may not, a cause says why. It knows no lengths, bodies or bytes, and takes no
 //! memory.
 //!
 //! What the layers above rely on:

@@ -12,7 +12,7 @@
 //!
 //! What the layers above rely on:
 //!
-//! - `judge_image` answers Ok exactly where an image stands in front of the input, with its tally, and else the first
+//! - `judge_image` answers Ok exactly where an image is in front of the input, with its tally, and else the first
 //!   fault with its place, and has taken just what `read_image` takes.
 //! - It keeps an index of the frames, the tables and the parts, and of a record in hand its words or its body.
 //!

@@ -10,10 +10,10 @@
 //!
 //! It knows nothing of what types and pages mean, of guests or of streams.
 //!
-//! What the layers above rely on: a store is a finite map from frame number to a type and a page or none, or to 4096
-//! bytes alone, and a number of spare pages. Each call says what it does to the whole map. A call that finds no memory
-//! leaves the map as it was, and a put into a spare page can't be refused. Every frame number in a store is below 2^52.
-//! The memory of a slab isn't touched until a page is put there.
+//! What the layers above rely on: a store is a finite map from frame number, and a number of spare pages. The map leads
+//! to a type and a page or none, or to 4096 bytes alone. Each call says what it does to the whole map. A call that
+//! finds no memory leaves the map as it was, and a put into a spare page can't be refused. Every frame number in a
+//! store is below 2^52. The memory of a slab isn't touched until a page is put there.
 #![tactic(auto)]
 
 mod arena;

@@ -1,7 +1,7 @@
 -- The leaves of an index, of 512 places each, and what leads to them.
 use Rattle.std.specs.Prelude.{◌≡◌, ◌≢◌, ℕ, zero, suc, ◌+◌, ◌*◌, ◌/◌, ◌%◌, ◌<◌, ◌≤◌, List, length, slice_index}
 
--- what stands at place j of a leaf; leaves are numbered from 1, and 0 is none
+-- what is at place j of a leaf; leaves are numbered from 1, and 0 is none
 unfoldable pub step : List ℕ → ℕ → ℕ → ℕ
 step cells zero j = 0
 step cells (suc n) j = slice_index cells (n * 512 + j)

@@ -18,7 +18,7 @@ pub(crate) struct Level {
 }
 
 impl Level {
-    /// What stands at a place of a leaf; 0 where there is no leaf.
+    /// What is at a place of a leaf; 0 where there is no leaf.
     pub(crate) fn get(&self, node: u64, place: usize) -> u64
         requires sound { IsLevel self.now.cells.items self.now.used }
         requires node { node ≤ self.now.used }

@@ -6,8 +6,8 @@ use crate::{FrameWord, PageType};
 /// The word that stands for no frame.
 const PLACEHOLDER: u64 = 0xF000_0000;
 
-/// What a word of a batch of pages says in a legacy stream (Xen's xg_save_restore.h): the type stands in bits 31 to 28,
-/// the frame number in bits 27 to 0.
+/// What a word of a batch of pages says in a legacy stream (Xen's xg_save_restore.h). The type is in bits 31 to 28, the
+/// frame number in bits 27 to 0.
 #[derive(Clone, Copy, Debug, PartialEq, Eq)]
 pub enum LegacyWord {
     /// Nothing: 0xF0000000.

@@ -1,8 +1,12 @@
 //! Page types, and the frame words of PAGE_DATA records and of a legacy stream's batches.
 //!
-//! Responsible for: which numbers name a page type, which types come with a page, which are page tables of what
-//! level, and how a frame word holds a type and a frame number, also in a legacy stream. It leaves to others how many
-//! words a record or a batch has, which frame numbers a guest may have, and what the page of a table means.
+//! Responsible for:
+//!
+//! - which numbers name a page type, which types come with a page, and which are page tables of what level
+//! - how a frame word holds a type and a frame number, also in a legacy stream
+//!
+//! It leaves to others how many words a record or a batch has, which frame numbers a guest may have, and what the page
+//! of a table means.
 //!
 //! What the layers above rely on:
 //!

@@ -24,7 +24,7 @@ impl<P: PageFile> PlacedFrames<'_, P> {
     }
 }
 
-/// How many pages stand at a place that is counted from 1: none at 0.
+/// How many pages are at a place that is counted from 1: none at 0.
 fn pages_at(place: u64) -> u32
     ensures none { place ≡ 0 → result ≡ 0 }
     ensures one { 0 < place → result ≡ 1 }

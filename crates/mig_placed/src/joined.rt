@@ -3,7 +3,7 @@ ghost use Rattle.std.specs.Prelude.{◌≡◌};
 use mig_bytes::Failed;
 use mig_file::PageFile;
 
-/// A file behind another, as one file. Pages that are written in place of some in a file stand behind it so.
+/// A file behind another, as one file. Pages that are written in place of some in a file are behind it so.
 #[derive(Clone, Copy)]
 pub struct JoinedFiles<'a, P: PageFile, Q: PageFile> {
     first: &'a P,

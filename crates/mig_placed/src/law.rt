@@ -17,14 +17,14 @@ pub fn places_read_as_frames()
     ensures all { (file : Option (List ℕ)) (cells : ValueMap) → frames_after file cells 0 ≡ maps.entries (frames_in_file file cells) }
 {}
 
-/// Behind so many bytes of a file stands as a page what is there, where it is a whole page. At place 0 stands none.
+/// The page behind so many bytes of a file is what is there, where that is a whole page. At place 0 there is none.
 #[tactic(auto, using(crate::proofs::Seen::page_stands, crate::proofs::Seen::no_page_at_0))]
 pub fn page_is_where_it_stands()
     ensures there { (front page rest : List ℕ) → length page ≡ 4096 → page_in_file (Some (front ++ (page ++ rest))) (length front + 1) ≡ Some page }
     ensures none { (file : Option (List ℕ)) → page_in_file file 0 ≡ None }
 {}
 
-/// Places that end within a file read the same where more bytes stand behind it, and a place behind them as the page among
+/// Places that end within a file read the same where more bytes are behind it, and a place behind them as the page among
 /// those bytes.
 #[tactic(auto, using(crate::proofs::Patches::same_frames, crate::proofs::Patches::page_behind))]
 pub fn places_stay_where_more_is_behind()

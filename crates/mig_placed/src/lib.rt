@@ -7,7 +7,7 @@
 //! - that they read as frames do which are set one after another
 //! - these frames as a writer of PAGE_DATA records takes them, where pages that are one behind another in the file
 //!   are read at once
-//! - pages that are written in place of some in the file, which stand in another behind it
+//! - pages that are written in place of some in the file, which are in another behind it
 //!
 //! Left to others: what a file is (mig_file), where a page was found (a reader of streams), and which records are
 //! written of frames (mig_records_pages).
@@ -17,7 +17,7 @@
 //! - Places are a finite map from frame number to a cell, and each call says what it does to the whole map.
 //! - A call that finds no memory leaves it as it was.
 //! - With any file the places read as the frames that were set, each with the page that is at its place, also
-//!   where more bytes stand behind the file.
+//!   where more bytes are behind the file.
 //! - The frames that are written are these.
 //!
 //! A page that can't be read fails, and only where a frame has one.

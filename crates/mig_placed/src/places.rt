@@ -14,7 +14,7 @@ use std::marker::Model;
 /// How many bytes a page has.
 pub(crate) const PAGE: u64 = 4096;
 
-/// The cells of frames, by frame number (PFN): the type of each, and where in a file its page stands.
+/// The cells of frames, by frame number (PFN): the type of each, and where in a file its page is.
 #[derive(Drop)]
 pub struct Places {
     index: Index,
@@ -44,7 +44,7 @@ fn read_cell(cell: u64) -> FrameWord
     decode_word(cell).unwrap()
 }
 
-/// Where a page stands, counted from 1, where the type has data; else 0.
+/// Where a page is, counted from 1, where the type has data; else 0.
 fn place_for(kind: PageType, at: u64) -> u64
     requires { at < place_limit }
     ensures is { result ≡ place_for (type_has_data kind) at }

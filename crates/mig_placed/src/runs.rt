@@ -20,7 +20,7 @@ pub struct Run {
     pub behind: u64,
 }
 
-/// The run with one frame more, which is the first one behind it; none where the frame's page doesn't stand behind the others.
+/// The run with one frame more, which is the first one behind it; none where the frame's page isn't behind the others.
 fn longer(run: Run, next: (u64, FrameWord)) -> Option<Run>
     requires small { IsSmallRun run }
     requires few { run.frames + 1 < 2 ^ 32 }

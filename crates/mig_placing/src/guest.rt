@@ -7,7 +7,7 @@ use mig_placed::Places;
 pub struct PlacedGuest<'a, P: PageFile> {
     /// The outline of the guest that was sent; of a stream that has them with the parts of its emulators.
     pub outline: Guest,
-    /// Where in the file each frame's page stands.
+    /// Where in the file each frame's page is.
     pub places: Places,
     /// The file.
     pub file: &'a P,

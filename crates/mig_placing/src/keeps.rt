@@ -18,8 +18,8 @@ use std::alloc::Global;
 /// Places in a file are below this.
 const PLACE_LIMIT: u64 = (1 << 52) - 1;
 
-/// Of a guest its outline is kept, and of each frame is noted where in this file its page stands. Entries behind a VERIFY are
-/// passed over.
+/// Of a guest its outline is kept, and of each frame the place of its page in this file is noted. Entries behind a
+/// VERIFY are passed over.
 #[derive(Drop)]
 pub struct Placing<'a, P: PageFile> {
     pub(crate) file: &'a P,

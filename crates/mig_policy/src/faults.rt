@@ -6,14 +6,14 @@ use crate::pairs::may_be_in_key;
 use crate::texts::split_text;
 use mig_headers::Cause;
 
-/// Where the first byte stands that no key may have.
+/// Where the first byte is that no key may have.
 fn first_not_allowed(key: &[u8]) -> Option<usize>
     ensures { result ≡ position (λ b. not (is_key_byte b)) key.now }
 {
     key.iter().position(|byte| !may_be_in_key(*byte))
 }
 
-/// How many bytes stand before the first that no key may have.
+/// How many bytes are before the first that no key may have.
 fn allowed_len(key: &[u8]) -> usize
     ensures { result ≡ fine_len key.now }
 {
@@ -47,7 +47,7 @@ fn torn_place(bytes: &[u8]) -> Option<u64>
     }
 }
 
-/// Where the first byte of a key stands that isn't allowed, or the zero of an empty key.
+/// Where the first byte of a key is that isn't allowed, or the zero of an empty key.
 fn bad_key_place(bytes: &[u8]) -> Option<u64>
     ensures { result ≡ bad_key_at 0 (texts_in bytes.now) }
 {

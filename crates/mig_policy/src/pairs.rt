@@ -17,7 +17,7 @@ fn is_key(bytes: &[u8]) -> bool
     bytes.iter().all(|byte| may_be_in_key(*byte))
 }
 
-/// A key that may stand behind this last one.
+/// A key that may come behind this last one.
 #[tactic(auto, using(crate::proofs::PairSteps::next_key))]
 fn may_follow(last: &[u8], key: &[u8]) -> bool
     ensures { result ≡ is_next_key last.now key.now }
@@ -25,7 +25,7 @@ fn may_follow(last: &[u8], key: &[u8]) -> bool
     is_key(key) && last < key
 }
 
-/// The key of the first pair, where it may stand behind this last key, and what is behind the pair.
+/// The key of the first pair, where it may come behind this last key, and what is behind the pair.
 #[tactic(auto, using(crate::proofs::TextSteps::if_none, crate::proofs::PairSteps::no_value, crate::proofs::PairSteps::after_pair))]
 fn split_pair<'a>(last: &[u8], bytes: &'a [u8]) -> Option<(&'a [u8], &'a [u8])>
     requires { 0 < length bytes.now }

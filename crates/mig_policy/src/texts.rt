@@ -2,7 +2,7 @@ ghost use Rattle.std.specs.Prelude.{◌≡◌, ◌<◌, ◌+◌, ◌==◌, [], �
 ghost use Rattle.mig_policy.specs.Common.{position, texts_in};
 ghost use Rattle.mig_policy.specs.PairMaps.{pairs_in};
 
-/// Where the first zero stands.
+/// Where the first zero is.
 fn first_zero(bytes: &[u8]) -> Option<usize>
     ensures { result ≡ position (λ b. b == 0) bytes.now }
 {

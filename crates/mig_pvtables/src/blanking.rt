@@ -13,10 +13,10 @@ use mig_bytes::{put_u64_le, u64_le};
 use mig_guest::{Guest, PartCode, PartKey};
 use mig_headers::Kind;
 
-/// Where ctrlreg[1], the root of user space, stands in a vCPU's context.
+/// Where ctrlreg[1], the root of user space, is in a vCPU's context, in bytes.
 const USER_ROOT: usize = 4992;
 
-/// Where ctrlreg[3], the root, stands.
+/// Where ctrlreg[3], the root, is.
 const ROOT: usize = 5008;
 
 /// Where SHARED_INFO has pfn_to_mfn_frame_list_list, the frame of the root of the P2M lists.

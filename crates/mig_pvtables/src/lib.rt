@@ -8,11 +8,11 @@
 //! - bringing a guest to its blank form
 //! - bringing a table from frame numbers to machine frames and back
 //!
-//! Left to others: a whole guest that stands in a machine (mig_host_view).
+//! Left to others: a whole guest that is in a machine (mig_host_view).
 //!
-//! What the layers above rely on: a guest is whole exactly where no row of its faults finds anything, and its blank form is
-//! whole then, and is its own blank form. For those that look at a guest in a machine, the searches are here that are the
-//! same there: through the list of the P2M frames, through a table, and through the fields of a context.
+//! What the layers above rely on: a guest is whole exactly where no row of its faults finds anything, and its blank
+//! form is whole then, and is its own blank form. The searches that are the same of a guest in a machine are here:
+//! through the list of the P2M frames, through a table, and through the fields of a context.
 #![tactic(auto)]
 
 mod blanking;

@@ -11,7 +11,7 @@ pub const VCPU_BASIC: u32 = 4;
 /// How many fields of a context hold a frame.
 pub const FIELDS: u8 = 19;
 
-/// Where the number of the GDT's descriptors stands.
+/// Where the number of the GDT's descriptors is.
 const GDT_ENTS: usize = 4960;
 
 /// How many descriptors a vCPU's GDT has.
@@ -21,7 +21,7 @@ pub fn gdt_ents(context: &[u8; 5168]) -> u64
     u64_le(context, GDT_ENTS)
 }
 
-/// Where a field stands.
+/// Where a field is.
 fn place_of(field: u8) -> usize
     requires { field ≤ 18 }
     ensures value { result ≡ 8 * field_place field }

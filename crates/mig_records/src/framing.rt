@@ -19,7 +19,7 @@ pub fn take_head<S: Source>(src: &mut S) -> Result<RecordHead, Stop<Cause>>
     Ok(RecordHead::decode(&bytes))
 }
 
-/// Takes the bytes behind a body of this length that make it a multiple of 8; any bytes may stand there.
+/// Takes the bytes behind a body of this length that make it a multiple of 8; any bytes may be there.
 pub fn take_padding<S: Source>(src: &mut S, len: u32) -> Result<(), Stop<Cause>>
     ensures read { AgreesWithJudging (λ _ _. ⊤) (S.left src.old) (S.left src.new) (part Truncated (padding_len len)) result }
     ensures faults { RisesOnReadFault (S.faults src.old) (S.faults src.new) result }

@@ -33,7 +33,7 @@ pub fn read_single(guest: &mut Guest, code: PartCode, len: usize, body: &[u8]) -
 /// The bytes of a vCPU's basic context.
 const VCPU_CONTEXT: usize = 5168;
 
-/// Where in a vCPU's basic context the number of its GDT entries stands.
+/// Where in a vCPU's basic context the number of its GDT entries is, in bytes.
 pub const GDT_ENTS: usize = 4960;
 
 /// What is refused of a part's bytes.

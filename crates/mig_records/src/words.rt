@@ -48,14 +48,14 @@ fn has_page(word: u64) -> bool
     }
 }
 
-/// Where the first word with a reserved type stands.
+/// Where the first word with a reserved type is.
 fn first_reserved(words: &[u64]) -> Option<usize>
     ensures { result ≡ position has_reserved_type words.now }
 {
     words.iter().position(|word| is_reserved(*word))
 }
 
-/// Where the first word that names a frame outside the guest stands.
+/// Where the first word that names a frame outside the guest is.
 fn first_outside(kind: Kind, top: u64, words: &[u64]) -> Option<usize>
     ensures { result ≡ position (names_outside kind top) words.now }
 {

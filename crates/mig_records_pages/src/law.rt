@@ -6,7 +6,7 @@ ghost use Rattle.mig_records_pages.specs.Told.{FrameTold, all_told};
 ghost use Rattle.mig_records_pages.specs.Written.{WroteAll, WroteSome};
 ghost use Rattle.mig_records_pages.specs.Batches.{AreSized, AreFull, IsSent, IsBehind};
 
-/// Before anything is written there are no records. Records that were written behind others stand behind them, and so do
+/// Before anything is written there are no records. Records that were written behind others are behind them. So are
 /// records with a part of one more, which may be none of it.
 #[tactic(auto, using(crate::proofs::Written::nothing_written, crate::proofs::Written::all_behind, crate::proofs::Written::some_behind, crate::proofs::Written::none_of_next))]
 pub fn records_stand_behind_records()

@@ -39,7 +39,7 @@ padded records head content input = do
 abbrev pub with_body : Opening → List StreamRecord → RecordHead → Judged Cause Content → Judged (Place × Cause) ImageOf
 with_body o records head judged = with_record o records (judged >>= λ body. padded records head body.0 body.1)
 
--- the pages of these words, behind entries that stand whole
+-- the pages of these words, behind entries that are whole
 abbrev pub pages_behind : Opening → List StreamRecord → RecordHead → List (ℕ × ℕ) → List FrameEntry → List ℕ → Judged (Place × Cause) ImageOf
 pages_behind o records head coming stood input = with_body o records head (do
   entries ← each (entry_at o.kind (before o records).top) coming input

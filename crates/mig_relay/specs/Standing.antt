@@ -77,7 +77,7 @@ abbrev pub IsRefusedBehind : List ℕ → Option (List ℕ) → Option (List ℕ
 IsRefusedBehind bytes None new place cause = ⊤
 IsRefusedBehind bytes (Some left) new place cause = (rest : List ℕ) × (open_stream_at (bytes ++ left) ≡ Faulty (place, cause) rest) × (new ≡ Some rest)
 
--- some first bytes of what was taken were written, none of a part that is judged first, and no stream stands whole in them;
+-- some first bytes of what was taken were written, none of a part that is judged first, and no stream is whole in them;
 -- and the place of the part is this one
 abbrev pub WritesSomeBehind : Spot → List ℕ → List ℕ → Option (List ℕ) → Option (List ℕ) → Option (List ℕ) → Option (List ℕ) → Place → Type 0
 WritesSomeBehind here begun bytes old new before now place = (wrote : List ℕ) × WritesFront here begun old new before now wrote × (is_judged_first here ≡ true → wrote ≡ []) × IsUnfinished (open_stream_at (bytes ++ wrote)) × (place_of_spot here ≡ Some place)

@@ -53,7 +53,7 @@ const WAITING: usize = 512;
 pub struct Relay {
     pub(crate) alloc: Global,
     pub(crate) coming: Coming,
-    /// What is known of the records of a libxl stream; nothing where an image stands alone.
+    /// What is known of the records of a libxl stream; nothing where an image is alone.
     pub(crate) wrapper: Option<RecordsBehind>,
     /// What is known of the image's records.
     pub(crate) seen: RecordsSeen,

@@ -122,7 +122,7 @@ impl BodySeen {
         ensures len { result.len ≡ len }
         ensures taken { result.taken ≡ 0 }
 
-        // Both frame numbers of an X86_PV_P2M_FRAMES stand in its first piece.
+        // Both frame numbers of an X86_PV_P2M_FRAMES are in its first piece.
         ensures p2m { kind ≡ 3 → piece_len result ≡ min len 4096 }
     {
         BodySeen {

@@ -12,7 +12,7 @@ use mig_headers::ContextFault;
 /// typecode and length, and its data.
 #[derive(Clone, Copy, Debug, PartialEq, Eq)]
 pub enum Chain {
-    /// Whole entries stand before this offset.
+    /// Whole entries are before this offset.
     Entry(u64),
     /// The chain ended, or a fault was found.
     Judged(Option<ContextFault>),

@@ -45,7 +45,7 @@ fn p2m_fault(len: u32, front: &[u8]) -> Option<Cause>
     None
 }
 
-/// What the id of a vCPU's record tells: what is wrong with the record where nothing stands behind its id.
+/// What the id of a vCPU's record tells: what is wrong with the record where nothing is behind its id.
 fn id_fault(code: PartCode, front: &[u8]) -> Option<Cause>
     requires front { 8 ≤ length front.now }
     requires no_chain { is_chain (shape_of code) ≡ false }
@@ -98,7 +98,7 @@ pub(crate) fn params_fault(bytes: &[u8]) -> Option<Cause>
     None
 }
 
-/// What is wrong with the number of GDT entries of a vCPU's basic context, which stands in the second of its pieces.
+/// What is wrong with the number of GDT entries of a vCPU's basic context, which is in the second of its pieces.
 #[tactic(auto, using(crate::proofs::Fronts::many_entries, crate::proofs::Fronts::few_entries))]
 pub(crate) fn gdt_fault(piece: &[u8]) -> Option<Cause>
     ensures { (front : List ℕ) → length front ≡ 4096 → length piece.now ≡ 1080 → result ≡ fault_of_content VcpuBasic (drop 8 (front ++ piece.now)) }

@@ -14,8 +14,8 @@ pub(crate) const FRONT: usize = 8;
 /// The bytes of an HVM parameter: its index and its value, of 8 bytes each.
 pub(crate) const PARAM: usize = 16;
 
-/// A body of whose first 8 bytes something has to be asked: by its record (libxc migration stream, "Records"; libxl
-/// migration stream, the emulator records), what stands in them and behind them.
+/// A body whose first 8 bytes are judged, by its record (libxc migration stream, "Records"; libxl migration stream, the
+/// emulator records): what is in them and behind them.
 #[derive(Clone, Copy, Debug, PartialEq, Eq)]
 pub enum BodyForm {
     /// X86_PV_INFO: the guest's width in bytes and the levels of its page tables, a byte each, and nothing behind.

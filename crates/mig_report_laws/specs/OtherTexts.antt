@@ -14,7 +14,7 @@ use Rattle.mig_tool_report.specs.declared.outcome.WalkEnd.TheVariants as walk
 use Rattle.mig_tool_report.specs.declared.status.Status.{Status}
 use Rattle.mig_tool_report.specs.declared.status.Status.TheVariants as statuses
 
--- where a refusal stands
+-- where a refusal is
 abbrev pub place_texts : List (Refusal × List ℕ)
 place_texts =
     (refusals.Stream places.ImageHeader stream.BadId, codes "ImageHeader") ∷ (refusals.Stream places.DomainHeader stream.Truncated, codes "DomainHeader")

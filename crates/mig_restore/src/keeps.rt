@@ -61,7 +61,7 @@ pub trait KeepsFrames<S: Source> {
             (S.left src.old) (S.left src.new) (entry_at guest.old.kind guest.old.top (place, word)) result };
 
     /// Takes the page that goes with the word at this place of its record, where its type has data, and keeps nothing of the
-    /// entry: its record stands behind a VERIFY. A table of a PV guest is judged. Says whether the entry differs from the
+    /// entry: its record is behind a VERIFY. A table of a PV guest is judged. Says whether the entry differs from the
     /// frames that are noted, where values of the type compare.
     fn check_entry(
         &self,

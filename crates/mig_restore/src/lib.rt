@@ -1,7 +1,7 @@
 //! Reads the image of a guest from a stream (libxc migration stream).
 //!
-//! Responsible for: taking the headers and the records of an image, one after another, and the guest that they mean,
-//! of whose frames as much is kept as the caller says (`KeepsFrames`).
+//! Responsible for: taking the headers and the records of an image, one after another, and the guest that they mean.
+//! The caller says how much is kept of its frames (`KeepsFrames`).
 //!
 //! Left to others:
 //!

@@ -9,7 +9,7 @@ use mig_pagetypes::PageType;
 use mig_restore_form::{page_fault, type_in, type_in_guest};
 
 /// The page of a frame of this type, with its word at this place of its record, in a guest with this top: what is taken is
-/// judged where it stands.
+/// judged where it is.
 #[derive(Clone, Copy)]
 pub(crate) struct EntryPage {
     pub(crate) kind: PageType,

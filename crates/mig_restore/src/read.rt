@@ -306,7 +306,7 @@ fn reading_of(taken: Result<TakenImage, Stop<(Place, Cause)>>) -> Result<Reading
 
 /// Reads an image from its marker to its END record, and leaves what follows it unread. The guest is in its blank form.
 /// `Refused` has the place and the cause of the first fault, and then the source was read up to the end of the faulty
-/// part; `ReadFault` comes only where a read failed.
+/// part. `ReadFault` comes only where a read failed.
 pub fn read_image<S: Source>(alloc: Global, src: &mut S) -> Result<Reading, StreamAnswer>
     ensures read { ReadsImage (S.left src.old) (S.left src.new) result }
     ensures streamed { IfOk result (λ reading. IsStreamedBare reading.guest) }

@@ -63,7 +63,7 @@ abbrev pub IsComplete : Kind → GuestOf → Type 0
 IsComplete Hvm g = IsSome (maps.get g.parts context_key) × IsFew g.frames
 IsComplete Pv g = IsCompletePv g
 
--- a record that may stand behind these records
+-- a record that may come behind these records
 pub record Follows (o : Opening) (records : List StreamRecord) (r : StreamRecord) (bytes : List ℕ) : Type 0 where
   pub body : List ℕ
   pub is : IsRecord r.type body bytes

@@ -16,7 +16,7 @@ pub struct RecordsSeen {
     pub records: u32,
     /// The kind in the domain header.
     pub kind: Kind,
-    /// Which type may stand next.
+    /// Which type may come next.
     pub gate: Gate,
     ghost same_kind: { gate.kind ≡ kind },
 }

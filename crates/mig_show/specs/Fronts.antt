@@ -1,4 +1,4 @@
--- What stands whole in front of a place of a stream (libxc migration stream, "Headers" and "Records"; libxl migration stream,
+-- What is whole in front of a place of a stream (libxc migration stream, "Headers" and "Records"; libxl migration stream,
 -- "Header" and "Records").
 use Rattle.std.specs.Prelude.{◌≡◌, ◌≢◌, ◌+◌, ◌*◌, ℕ, Bool, true, false, List, [], ◌∷◌, ◌++◌, length, count_by, Option, Some, None, if◌then◌else◌}
 use Rattle.mig_bytes.specs.Fields.{le32, be32}
@@ -58,11 +58,11 @@ with_shown front shown = record front { records = front.records ++ shown ∷ [] 
 abbrev pub libxl_number : ShownFront → ℕ
 libxl_number front = count_by (λ shown. shown.wrapped) front.records
 
--- the place behind an image that stands whole: the next record of the libxl stream around it, or none
+-- the place behind an image that is whole: the next record of the libxl stream around it, or none
 abbrev pub behind_image : ShownFront → Option Place
 behind_image front = if front.wrapper then Some (LibxlRecord (libxl_number front)) else None
 
--- These bytes stand in front of this place, or are a whole stream where no place follows; and so much is shown of them. An
+-- These bytes are in front of this place, or are a whole stream where no place follows; and so much is shown of them. An
 -- image has an image header, a domain header, and its records up to END. A libxl stream has a header, and its records up to
 -- END; the image follows its LIBXC_CONTEXT, in front of which there was none.
 pub data StandsBefore : List ℕ → ShownFront → Option Place → Type 0 where

@@ -11,7 +11,7 @@ use Rattle.mig_show.specs.declared.record.Seen1.{Seen1}
 use Rattle.mig_show.specs.declared.viewer.ShowAnswer.{ShowAnswer}
 use Rattle.mig_show.specs.declared.viewer.ShowAnswer.TheVariants.{ReadFault, Memory}
 
--- what stands whole, and the record in hand, whose head was passed on
+-- what is whole, and the record in hand, whose head was passed on
 pub record SeenState : Type 0 where
   pub front : ShownFront
   pub hand : Option Seen1
@@ -33,7 +33,7 @@ with_step seen Words ws = record seen { hand = option_map (counted_record ws) se
 with_step seen Piece ws = seen
 with_step seen Done ws = seen
 
--- a record whose bytes all came stands whole
+-- a record whose bytes all came is whole
 abbrev pub with_hand : ShownFront → Option Seen1 → ShownFront
 with_hand front None = front
 with_hand front (Some shown) = with_shown front shown

@@ -48,7 +48,7 @@ Shows told left None tree = ShowsWhole told left tree
 Shows None left (Some refused) tree = (front : ShownFront) × (tree ≡ front_tree front (Some refused))
 Shows (Some input) left (Some refused) tree = ShowsRefused input left refused.0 refused.1 tree
 
--- a read fault is answered only where the count of the source rose, and every other answer only where it stands as it was
+-- a read fault is answered only where the count of the source rose, and every other answer only where it is as it was
 abbrev pub RisesOnShow : {X : Type 0} → ℕ → ℕ → Result X ShowAnswer → Type 0
 RisesOnShow reads read (Ok x) = read ≡ reads
 RisesOnShow reads read (Err ReadFault) = (reads ≤ read) × Rose reads read

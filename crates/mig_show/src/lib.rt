@@ -2,7 +2,7 @@
 //!
 //! Responsible for:
 //!
-//! - which records stand whole in front of the part that is refused, and what is shown of each
+//! - which records are whole in front of the part that is refused, and what is shown of each
 //! - the members of the tree, the names of record types in Xen's documents, and the text of a refusal as the tree has
 //!   it
 //!

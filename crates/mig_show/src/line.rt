@@ -20,7 +20,7 @@ fn put_value(line: &mut String, alloc: Global, value: &Value) -> Result<(), Allo
     line.push_str(text.as_str())
 }
 
-/// Puts the text of a record, behind a comma where others stand before it.
+/// Puts the text of a record, behind a comma where others are before it.
 fn put_record(line: &mut String, alloc: Global, later: bool, shown: Seen1) -> Result<(), AllocError>
     ensures { OnOk result (string_bytes line.new ≡ string_bytes line.old ++ (comma_if later ++ compact_text (record_tree shown))) }
 {

@@ -17,7 +17,7 @@ pub(crate) struct Seen {
     pub(crate) wrapper: bool,
     pub(crate) version: Option<u32>,
     pub(crate) kind: Option<Kind>,
-    /// The records that stand whole.
+    /// The records that are whole.
     pub(crate) records: Vec<Seen1>,
     /// The record whose head was passed on, and of which bytes are still to come.
     hand: Option<Seen1>,
@@ -98,7 +98,7 @@ impl Seen {
         }
     }
 
-    /// Behind a step: the record in hand stands whole, unless some of its bytes are still to come.
+    /// Behind a step: the record in hand is whole, unless some of its bytes are still to come.
     pub(crate) fn end(&mut self, is_in_record: bool) -> Result<(), AllocError>
         ensures { OnOk result (self.new ≡ with_end is_in_record self.old) }
     {

@@ -51,7 +51,7 @@ fn ended(answer: RelayAnswer) -> Result<Option<(Place, Cause)>, ShowAnswer>
     }
 }
 
-/// Takes a stream up to its end, or up to the end of the part that is refused, and sees what stands whole in front of that.
+/// Takes a stream up to its end, or up to the end of the part that is refused, and sees what is whole in front of that.
 fn see_all<S: Source>(
     alloc: Global,
     seen: &mut Seen,

@@ -65,7 +65,7 @@ const ONE_FRAME: [u8; 24] = [
     1, 0, 0, 0, 16, 16, 0, 0, 1, 0, 0, 0, 0, 0, 0, 0, 7, 0, 0, 0, 0, 0, 0, 0,
 ];
 
-// Where the first byte of that page stands, behind the headers and STATIC_DATA_END.
+// Where the first byte of that page is, behind the headers and STATIC_DATA_END.
 const PAGE_AT: u64 = 48 + 24;
 
 // The smallest stream with one frame.

@@ -10,7 +10,7 @@ use std::test::Fail;
 const WIDEST: u64 = 1 << 28;
 
 // The image of a PV host with the width 16, whose frames 1 to 9 have the machine frames 5000 (136, 19) to 5008: bytes, and the
-// byte that stands behind them so many times. Frame 2 is a P2M frame, 4 a table of level 1, and so on up to 7, the root; the
+// byte that is behind them so many times. Frame 2 is a P2M frame, 4 a table of level 1, and so on up to 7, the root; the
 // fields of the vCPU that are used name frames 1, 3 and 7.
 const WORKED: [(&[u8], u8, usize); 16] = [
     (

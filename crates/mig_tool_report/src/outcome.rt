@@ -26,7 +26,7 @@ pub enum Refusal {
     BadLine(u64),
     /// A script has too many bytes.
     TooLong,
-    /// A host can't be seen as a guest as it stands at the pause.
+    /// A host can't be seen as a guest as it is at the pause.
     Pause(Unsound),
     /// A host can't be seen as a guest.
     Host(Unsound),

@@ -6,8 +6,8 @@ use std::io::ErrorKind;
 /// How much of standard input a program reads at once.
 pub const INPUT_BUFFER: usize = 131072;
 
-/// The words behind a program's name; None where there is no memory. For words that aren't UTF-8 an empty one stands, which
-/// names nothing.
+/// The words behind a program's name; None where there is no memory. For words that aren't UTF-8 there is an empty one,
+/// which names nothing.
 pub fn words_of(alloc: Global, args: io::Result<Args>) -> Option<Vec<String>> {
     let mut words = Vec::new(alloc);
     match args {
