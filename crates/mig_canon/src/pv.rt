@@ -8,7 +8,7 @@ use mig_guest::{Guest, P2M_KEY, PartCode, PartKey};
 use mig_headers::{Kind, VCPU_LIMIT, X86_PV_INFO};
 use mig_records::{shape_of, write_head, write_numbers, write_padding, write_record};
 
-/// Appends the X86_PV_INFO of a PV guest; nothing for HVM.
+/// Appends the X86_PV_INFO of a PV guest; nothing for HVM. After `WriteFailed` some first bytes are appended, but not all.
 #[tactic(auto, using(mig_bytes::proofs::Texts::puts_same, mig_records::proofs::RecordTexts::text_one))]
 pub fn write_info<K: Sink>(sink: &mut K, guest: &Guest) -> Result<(), WriteFailed>
     ensures bytes { Puts (text_of (info_records guest.now.kind)) (K.written sink.old) (K.written sink.new) result }
@@ -34,7 +34,8 @@ fn write_p2m_list<K: Sink>(sink: &mut K, top: u32, frames: &[u8]) -> Result<(), 
     write_padding(sink, len)
 }
 
-/// Appends the record of a PV guest's P2M frames; nothing for HVM.
+/// Appends the record of a PV guest's P2M frames; nothing for HVM. After `WriteFailed` some first bytes are appended, but
+/// not all.
 #[tactic(auto, using(mig_bytes::proofs::Texts::puts_same, mig_records::proofs::RecordTexts::text_one, crate::proofs::PvRecords::top_small, crate::proofs::PvRecords::p2m_short))]
 pub fn write_p2m_frames<K: Sink>(sink: &mut K, guest: &Guest) -> Result<(), WriteFailed>
     requires { IsFormed guest.now }
@@ -87,7 +88,7 @@ fn write_vcpu<K: Sink>(sink: &mut K, guest: &Guest, id: u32) -> Result<(), Write
     write_vcpu_part(sink, guest, id, PartCode::VcpuMsrs)
 }
 
-/// Appends the records of all vCPUs, by ascending id.
+/// Appends the records of all vCPUs, by ascending id. After `WriteFailed` some first bytes are appended, but not all.
 #[tactic(auto, using(mig_bytes::proofs::Texts::puts_same, crate::proofs::PvRecords::vcpu_next, crate::proofs::PvRecords::vcpu_stop, crate::proofs::PvRecords::vcpus_end))]
 pub fn write_vcpus<K: Sink>(sink: &mut K, guest: &Guest) -> Result<(), WriteFailed>
     requires { IsFormed guest.now }

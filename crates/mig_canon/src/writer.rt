@@ -14,7 +14,8 @@ use mig_headers::{DomainHeader, ImageHeader, Kind, STATIC_DATA_END};
 use mig_records::write_record;
 use mig_records_pages::{CopyFailed, FrameSequence, page_buffer, write_end};
 
-/// Appends the headers of a canonical image of a guest of this kind.
+/// Appends the headers of a canonical image of a guest of this kind. After `WriteFailed` some first bytes are appended, but
+/// not all.
 #[tactic(auto, using(mig_bytes::proofs::Texts::puts_then))]
 pub fn write_headers<K: Sink>(sink: &mut K, kind: Kind) -> Result<(), WriteFailed>
     ensures bytes { Puts (headers kind) (K.written sink.old) (K.written sink.new) result }
@@ -37,7 +38,8 @@ fn write_opening<K: Sink>(sink: &mut K, guest: &Guest) -> Result<(), WriteFailed
     write_headers(sink, guest.kind())
 }
 
-/// Appends the records of the parts of these codes, one code after another.
+/// Appends the records of the parts of these codes, one code after another. After `WriteFailed` some first bytes are
+/// appended, but not all.
 pub fn write_codes<K: Sink>(
     sink: &mut K,
     guest: &Guest,
@@ -53,7 +55,8 @@ pub fn write_codes<K: Sink>(
     Ok(())
 }
 
-/// Appends the policies, where they have entries, and STATIC_DATA_END.
+/// Appends the policies, where they have entries, and STATIC_DATA_END. After `WriteFailed` some first bytes are appended,
+/// but not all.
 #[tactic(auto, using(mig_bytes::proofs::Texts::puts_then, mig_bytes::proofs::Texts::puts_stop, mig_bytes::proofs::Texts::puts_same, crate::proofs::Spelling::codes_text))]
 pub fn write_static<K: Sink>(sink: &mut K, guest: &Guest) -> Result<(), WriteFailed>
     requires { IsFormed guest.now }

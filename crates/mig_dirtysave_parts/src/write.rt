@@ -14,7 +14,8 @@ use mig_headers::HVM_CONTEXT;
 use mig_records::{write_head, write_padding};
 use mig_records_pages::write_end;
 
-/// Appends what is before the frames: the headers, the policies, and of a PV guest its P2M frames.
+/// Appends what is before the frames: the headers, the policies, and of a PV guest its P2M frames. After `WriteFailed` some
+/// first bytes are appended, but not all.
 pub fn write_before<K: Sink>(sink: &mut K, early: &Guest) -> Result<(), WriteFailed>
     requires { IsFormed early.now }
     ensures bytes { Puts (text_before early.now) (K.written sink.old) (K.written sink.new) result }
@@ -50,7 +51,8 @@ fn write_behind<K: Sink>(sink: &mut K, settings: &Guest, front: &[u8]) -> Result
     write_context(sink, front)
 }
 
-/// Appends the settings and the context of an HVM guest, and END.
+/// Appends the settings and the context of an HVM guest, and END. After `WriteFailed` some whole records
+/// are appended and a part of one more, perhaps none of either.
 pub fn write_last<K: Sink>(sink: &mut K, settings: &Guest, front: &[u8]) -> Result<(), WriteFailed>
     requires formed { IsFormed settings.now }
     requires short { length front.now + 8 ≤ most_body }
@@ -72,7 +74,8 @@ fn write_settings<K: Sink>(sink: &mut K, settings: &Guest) -> Result<(), WriteFa
     write_vcpus(sink, settings)
 }
 
-/// Appends the settings of a PV guest, and END.
+/// Appends the settings of a PV guest, and END. After `WriteFailed` some whole records are appended and a part
+/// of one more, perhaps none of either.
 pub fn write_pv_last<K: Sink>(sink: &mut K, settings: &Guest) -> Result<(), WriteFailed>
     requires { IsFormed settings.now }
     ensures closed { OnOk result (Appends (K.written sink.old) (K.written sink.new) (text_of (last_records Pv settings.now ++ (0, []) ∷ []))) }

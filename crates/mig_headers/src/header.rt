@@ -59,7 +59,8 @@ impl ImageHeader {
         None
     }
 
-    /// Reads the 16 bytes behind the marker.
+    /// Reads the 16 bytes behind the marker: the header, or its first fault in the order of the causes (libxc migration
+    /// stream, "Image Header").
     pub fn decode(rest: &[u8; 16]) -> Result<ImageHeader, Cause>
         ensures value { result ≡ image_header_in rest.now }
         ensures spelled { (header : ImageHeader) → (result ≡ Ok header) ↔ IsImageHeader (behind_marker rest.now) header.version }
@@ -100,7 +101,8 @@ impl ImageHeader {
 impl DomainHeader {
     ghost use Rattle.mig_headers.specs.HeaderValues.{domain_header_in};
 
-    /// Reads the 16 bytes behind the image header.
+    /// Reads the 16 bytes behind the image header: the header, or its first fault in the order of the causes (libxc
+    /// migration stream, "Domain Header").
     #[tactic(auto, using(crate::proofs::HeaderLaws::domain_decoded))]
     pub fn decode(bytes: &[u8; 16]) -> Result<DomainHeader, Cause>
         ensures value { result ≡ domain_header_in bytes.now }
@@ -150,7 +152,8 @@ impl LibxlHeader {
         u64_be(bytes, 0) == LIBXL_IDENT
     }
 
-    /// Reads the 8 bytes behind the ident.
+    /// Reads the 8 bytes behind the ident: the header, or its first fault in the order of the causes (libxl migration
+    /// stream, "Header").
     pub fn decode(rest: &[u8; 8]) -> Result<LibxlHeader, Cause>
         ensures value { result ≡ libxl_header_in rest.now }
         ensures spelled { (header : LibxlHeader) → (result ≡ Ok header) ↔ IsLibxlHeader (behind_ident rest.now) header.legacy }

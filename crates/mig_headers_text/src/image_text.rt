@@ -34,7 +34,8 @@ impl Printed for ImageCause {
     }
 }
 
-/// Writes a place of a guest image's refusal as it is printed.
+/// Writes a place of a guest image's refusal as it is printed. After `WriteFailed` some first bytes are appended, but not
+/// all.
 pub fn put_image_place<K: Sink>(sink: &mut K, place: ImagePlace) -> Result<(), WriteFailed>
     ensures bytes { Puts (text_of_image_place place) (K.written sink.old) (K.written sink.new) result }
     ensures cause { FaultHasCause (K.faults sink.old) (K.faults sink.new) result }
@@ -47,8 +48,8 @@ pub fn put_image_place<K: Sink>(sink: &mut K, place: ImagePlace) -> Result<(), W
     }
 }
 
-/// Writes a cause of a guest image's refusal as it is printed: its number, its name and its argument, parted by one
-/// space.
+/// Writes a cause of a guest image's refusal as it is printed: its number, its name and its argument, parted by one space.
+/// After `WriteFailed` some first bytes are appended, but not all.
 pub fn put_image_cause<K: Sink>(sink: &mut K, cause: ImageCause) -> Result<(), WriteFailed>
     ensures bytes { Puts (text_of_image_cause cause) (K.written sink.old) (K.written sink.new) result }
     ensures cause { FaultHasCause (K.faults sink.old) (K.faults sink.new) result }

@@ -39,7 +39,8 @@ impl Printed for LegacyCause {
     }
 }
 
-/// Writes a place of a legacy stream's refusal as it is printed.
+/// Writes a place of a legacy stream's refusal as it is printed. After `WriteFailed` some first bytes are appended, but not
+/// all.
 pub fn put_legacy_place<K: Sink>(sink: &mut K, place: LegacyPlace) -> Result<(), WriteFailed>
     ensures bytes { Puts (text_of_legacy_place place) (K.written sink.old) (K.written sink.new) result }
     ensures cause { FaultHasCause (K.faults sink.old) (K.faults sink.new) result }
@@ -53,7 +54,7 @@ pub fn put_legacy_place<K: Sink>(sink: &mut K, place: LegacyPlace) -> Result<(),
 }
 
 /// Writes a cause of a legacy stream's refusal as it is printed: its number, its name and its arguments, parted by one
-/// space.
+/// space. After `WriteFailed` some first bytes are appended, but not all.
 pub fn put_legacy_cause<K: Sink>(sink: &mut K, cause: LegacyCause) -> Result<(), WriteFailed>
     ensures bytes { Puts (text_of_legacy_cause cause) (K.written sink.old) (K.written sink.new) result }
     ensures cause { FaultHasCause (K.faults sink.old) (K.faults sink.new) result }

@@ -102,7 +102,7 @@ impl Printed for Cause {
     }
 }
 
-/// Writes a place of a refusal as it is printed.
+/// Writes a place of a refusal as it is printed. After `WriteFailed` some first bytes are appended, but not all.
 pub fn put_place<K: Sink>(sink: &mut K, place: Place) -> Result<(), WriteFailed>
     ensures bytes { Puts (text_of_place place) (K.written sink.old) (K.written sink.new) result }
     ensures cause { FaultHasCause (K.faults sink.old) (K.faults sink.new) result }
@@ -129,7 +129,8 @@ pub(crate) fn put_numbered<K: Sink>(
     put_number(sink, number)
 }
 
-/// Writes a cause as it is printed: its number, its name and its arguments, parted by one space.
+/// Writes a cause as it is printed: its number, its name and its arguments, parted by one space. After `WriteFailed` some
+/// first bytes are appended, but not all.
 pub fn put_cause<K: Sink>(sink: &mut K, cause: Cause) -> Result<(), WriteFailed>
     ensures bytes { Puts (text_of_cause cause) (K.written sink.old) (K.written sink.new) result }
     ensures cause { FaultHasCause (K.faults sink.old) (K.faults sink.new) result }
@@ -218,7 +219,7 @@ fn put_word<K: Sink>(sink: &mut K, word: &str) -> Result<(), WriteFailed>
     put_all(sink, word.as_bytes())
 }
 
-/// Writes a number in decimal digits.
+/// Writes a number in decimal digits. After `WriteFailed` some first bytes are appended, but not all.
 pub fn put_number<K: Sink>(sink: &mut K, number: u64) -> Result<(), WriteFailed>
     ensures bytes { Puts (decimal number) (K.written sink.old) (K.written sink.new) result }
     ensures cause { FaultHasCause (K.faults sink.old) (K.faults sink.new) result }

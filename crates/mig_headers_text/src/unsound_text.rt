@@ -23,7 +23,8 @@ impl Printed for Unsound {
     }
 }
 
-/// Writes why a host isn't sound as it is printed: its number, its name and its arguments, parted by one space.
+/// Writes why a host isn't sound as it is printed: its number, its name and its arguments, parted by one space. After
+/// `WriteFailed` some first bytes are appended, but not all.
 pub fn put_unsound<K: Sink>(sink: &mut K, unsound: Unsound) -> Result<(), WriteFailed>
     ensures bytes { Puts (text_of_unsound unsound) (K.written sink.old) (K.written sink.new) result }
     ensures cause { FaultHasCause (K.faults sink.old) (K.faults sink.new) result }

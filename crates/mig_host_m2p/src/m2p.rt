@@ -54,7 +54,8 @@ impl M2p {
         self.tree.get(machine)
     }
 
-    /// Makes ready room for at least `more` machine frames, those included that are spare already.
+    /// Makes ready room for at least `more` machine frames, those included that are spare already. Where no memory is
+    /// found, all stays, and nothing that was spare is lost.
     pub fn reserve(&mut self, more: usize) -> Result<(), Memory>
         ensures values { self.new.values ≡ self.old.values }
         ensures ready { OnOk result (more ≤ self.new.spare) }

@@ -20,8 +20,8 @@ use mig_libxl_form::{LIBXC_CONTEXT, LIBXL_END};
 use mig_records::{write_head, write_padding, write_record};
 use mig_records_pages::{CopyFailed, FrameSequence};
 
-/// Appends the header of a libxl stream, and the record that an image follows. `legacy` says that the stream is made from
-/// a legacy one.
+/// Appends the header of a libxl stream, and the record that an image follows. `legacy` says that the stream is made from a
+/// legacy one. After `WriteFailed` some first bytes are appended, but not all.
 #[tactic(auto, using(mig_bytes::proofs::Texts::puts_then, mig_bytes::proofs::Texts::puts_stop))]
 pub fn open_wrapper<K: Sink>(sink: &mut K, legacy: bool) -> Result<(), WriteFailed>
     ensures bytes { Puts (opening_text legacy) (K.written sink.old) (K.written sink.new) result }
@@ -41,7 +41,8 @@ fn front_of(key: PartKey) -> [u8; 8]
     front
 }
 
-/// Appends the record of an emulator's part: its id and its index, and the part's bytes.
+/// Appends the record of an emulator's part: its id and its index, and the part's bytes. After `WriteFailed` some first
+/// bytes are appended, but not all.
 #[tactic(auto, using(mig_bytes::proofs::Texts::puts_then, mig_bytes::proofs::Texts::puts_stop, mig_bytes::proofs::Texts::puts_same, crate::proofs::EmulatorTexts::emulator_text))]
 pub fn write_emulator<K: Sink>(sink: &mut K, key: PartKey, bytes: &[u8]) -> Result<(), WriteFailed>
     requires code { is_emulator_code key.code ≡ true }
@@ -56,7 +57,7 @@ pub fn write_emulator<K: Sink>(sink: &mut K, key: PartKey, bytes: &[u8]) -> Resu
     write_padding(sink, len)
 }
 
-/// Appends the record that ends a libxl stream.
+/// Appends the record that ends a libxl stream. After `WriteFailed` some first bytes are appended, but not all.
 pub fn close_wrapper<K: Sink>(sink: &mut K) -> Result<(), WriteFailed>
     ensures bytes { Puts (spelled 0 []) (K.written sink.old) (K.written sink.new) result }
     ensures cause { FaultHasCause (K.faults sink.old) (K.faults sink.new) result }
@@ -162,7 +163,8 @@ fn write_behind<K: Sink>(sink: &mut K, guest: &Guest) -> Result<(), WriteFailed>
 }
 
 /// Appends what is before the image of a guest with these parts. Where the guest has a part of an emulator, that is the
-/// header of a libxl stream and the record that an image follows; else nothing.
+/// header of a libxl stream and the record that an image follows; else nothing. After `WriteFailed` some first bytes are
+/// appended, but not all.
 #[tactic(auto, using(mig_bytes::proofs::Texts::puts_same, crate::proofs::Around::opening_some, crate::proofs::Around::opening_none))]
 pub fn write_opening<K: Sink>(sink: &mut K, guest: &Guest) -> Result<(), WriteFailed>
     ensures bytes { Puts (wrapper_opening guest.now.parts) (K.written sink.old) (K.written sink.new) result }
@@ -175,8 +177,9 @@ pub fn write_opening<K: Sink>(sink: &mut K, guest: &Guest) -> Result<(), WriteFa
     }
 }
 
-/// Appends what is behind the image of a guest with these parts. Where it has a part of an emulator, that is the
-/// records of its emulators and the record that ends a libxl stream; else nothing.
+/// Appends what is behind the image of a guest with these parts. Where it has a part of an emulator, that is the records of
+/// its emulators and the record that ends a libxl stream; else nothing. After `WriteFailed` some first bytes are appended,
+/// but not all.
 #[tactic(auto, using(mig_bytes::proofs::Texts::puts_same, crate::proofs::Around::closing_some, crate::proofs::Around::closing_none))]
 pub fn write_closing<K: Sink>(sink: &mut K, guest: &Guest) -> Result<(), WriteFailed>
     requires { IsFormed guest.now }

@@ -505,7 +505,8 @@ impl FrameStore {
         Some((pfn, kind, page))
     }
 
-    /// Makes ready room for at least `more` frames with pages, those included that are spare already.
+    /// Makes ready room for at least `more` frames with pages, those included that are spare already. Where no memory is
+    /// found, all stays, and nothing that was spare is lost.
     pub fn reserve(&mut self, more: usize) -> Result<(), Memory>
         ensures frames { self.new.frames ≡ self.old.frames }
         ensures ready { OnOk result (more ≤ self.new.spare) }

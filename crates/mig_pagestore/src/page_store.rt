@@ -83,7 +83,8 @@ impl PageStore {
         Some(pfn)
     }
 
-    /// Makes ready at least `more` spare pages, those included that are spare already.
+    /// Makes ready at least `more` spare pages, those included that are spare already. Where no memory is found, all stays,
+    /// and nothing that was spare is lost.
     pub fn reserve(&mut self, more: usize) -> Result<(), Memory>
         ensures pages { self.new.pages ≡ self.old.pages }
         ensures ready { OnOk result (more ≤ self.new.spare) }

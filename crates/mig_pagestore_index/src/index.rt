@@ -85,7 +85,8 @@ impl Index {
         tree.next(from)
     }
 
-    /// Makes ready room for at least `more` numbers, those included that are spare already.
+    /// Makes ready room for at least `more` numbers, those included that are spare already. Where no memory is found, all
+    /// stays, and nothing that was spare is lost.
     pub fn reserve(&mut self, more: usize) -> Result<(), AllocError>
         ensures values { self.new.values ≡ self.old.values }
         ensures ready { OnOk result (more ≤ self.new.spare) }

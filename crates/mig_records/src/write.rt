@@ -7,7 +7,7 @@ ghost use Rattle.mig_records.specs.Records.{head_of, spelled};
 use crate::RecordHead;
 use mig_bytes::{Sink, WriteFailed, pad_len, put_all, put_u64_le};
 
-/// Appends the head of a record.
+/// Appends the head of a record. After `WriteFailed` some first bytes are appended, but not all.
 pub fn write_head<K: Sink>(sink: &mut K, kind: u32, len: u32) -> Result<(), WriteFailed>
     ensures bytes { Puts (head_of kind len) (K.written sink.old) (K.written sink.new) result }
     ensures cause { FaultHasCause (K.faults sink.old) (K.faults sink.new) result }
@@ -15,7 +15,8 @@ pub fn write_head<K: Sink>(sink: &mut K, kind: u32, len: u32) -> Result<(), Writ
     put_all(sink, &RecordHead { kind, len }.encode())
 }
 
-/// Appends the padding behind a body of this length, in zeros.
+/// Appends the padding behind a body of this length, in zeros. After `WriteFailed` some first bytes are appended, but not
+/// all.
 pub fn write_padding<K: Sink>(sink: &mut K, len: u32) -> Result<(), WriteFailed>
     ensures bytes { Puts (replicate (padding_len len) 0) (K.written sink.old) (K.written sink.new) result }
     ensures cause { FaultHasCause (K.faults sink.old) (K.faults sink.new) result }
@@ -24,7 +25,7 @@ pub fn write_padding<K: Sink>(sink: &mut K, len: u32) -> Result<(), WriteFailed>
     put_all(sink, &zeros[..pad_len(len)])
 }
 
-/// Appends a record: head, body and padding in zeros.
+/// Appends a record: head, body and padding in zeros. After `WriteFailed` some first bytes are appended, but not all.
 pub fn write_record<K: Sink>(sink: &mut K, kind: u32, body: &[u8]) -> Result<(), WriteFailed>
     requires { length body.now ≤ most_body }
     ensures bytes { Puts (spelled kind body.now) (K.written sink.old) (K.written sink.new) result }
@@ -36,7 +37,8 @@ pub fn write_record<K: Sink>(sink: &mut K, kind: u32, body: &[u8]) -> Result<(),
     write_padding(sink, len)
 }
 
-/// Appends the lowest bytes of two numbers, of each the lowest first.
+/// Appends the lowest bytes of two numbers, of each the lowest first. After `WriteFailed` some first bytes are appended,
+/// but not all.
 #[tactic(auto, using(mig_bytes::proofs::Texts::puts_same, crate::proofs::RecordTexts::numbers_text))]
 pub fn write_numbers<K: Sink>(
     sink: &mut K,
@@ -56,7 +58,7 @@ pub fn write_numbers<K: Sink>(
     put_all(sink, &bytes[..first + second])
 }
 
-/// Appends a count, and 4 zero bytes.
+/// Appends a count, and 4 zero bytes. After `WriteFailed` some first bytes are appended, but not all.
 pub fn write_count<K: Sink>(sink: &mut K, count: u32) -> Result<(), WriteFailed>
     ensures bytes { Puts (little_bytes 4 count ++ replicate 4 0) (K.written sink.old) (K.written sink.new) result }
     ensures cause { FaultHasCause (K.faults sink.old) (K.faults sink.new) result }

@@ -206,7 +206,8 @@ fn put_refusal<R: Sink>(report: &mut R, refusal: Refusal) -> Result<(), WriteFai
     put_all(report, b"\n")
 }
 
-/// Puts the line of an outcome on the report. It takes no memory.
+/// Puts the line of an outcome on the report. It takes no memory. After `WriteFailed` some first bytes are appended, but
+/// not all.
 pub fn put_line<R: Sink>(report: &mut R, outcome: Outcome) -> Result<(), WriteFailed>
     ensures bytes { Puts (line_of outcome) (R.written report.old) (R.written report.new) result }
     ensures cause { FaultHasCause (R.faults report.old) (R.faults report.new) result }
@@ -287,7 +288,7 @@ fn put_stream<R: Sink>(
     put_field(report, b" records ", records)
 }
 
-/// Puts what an accepted stream is on the report.
+/// Puts what an accepted stream is on the report. After `WriteFailed` some first bytes are appended, but not all.
 pub fn put_ok<R: Sink>(report: &mut R, summary: Summary) -> Result<(), WriteFailed>
     ensures bytes { Puts (ok_line summary) (R.written report.old) (R.written report.new) result }
     ensures cause { FaultHasCause (R.faults report.old) (R.faults report.new) result }
@@ -303,7 +304,8 @@ pub fn put_ok<R: Sink>(report: &mut R, summary: Summary) -> Result<(), WriteFail
     put_all(report, b"\n")
 }
 
-/// Puts what an accepted stream is that was checked on the report.
+/// Puts what an accepted stream is that was checked on the report. After `WriteFailed` some first bytes are appended, but
+/// not all.
 pub fn put_checked<R: Sink>(report: &mut R, summary: CheckSummary) -> Result<(), WriteFailed>
     ensures bytes { Puts (checked_line summary) (R.written report.old) (R.written report.new) result }
     ensures cause { FaultHasCause (R.faults report.old) (R.faults report.new) result }
@@ -319,7 +321,8 @@ pub fn put_checked<R: Sink>(report: &mut R, summary: CheckSummary) -> Result<(),
     put_all(report, b"\n")
 }
 
-/// Puts how many frames the guest of a legacy stream has on the report.
+/// Puts how many frames the guest of a legacy stream has on the report. After `WriteFailed` some first bytes are appended,
+/// but not all.
 pub fn put_checked_legacy<R: Sink>(report: &mut R, frames: u64) -> Result<(), WriteFailed>
     ensures bytes { Puts (checked_legacy_line frames) (R.written report.old) (R.written report.new) result }
     ensures cause { FaultHasCause (R.faults report.old) (R.faults report.new) result }
@@ -345,7 +348,7 @@ fn put_two_fields<R: Sink>(
     put_all(report, b"\n")
 }
 
-/// Puts how a host was saved on the report.
+/// Puts how a host was saved on the report. After `WriteFailed` some first bytes are appended, but not all.
 pub fn put_saved<R: Sink>(report: &mut R, summary: SaveSummary) -> Result<(), WriteFailed>
     ensures bytes { Puts (saved_line summary) (R.written report.old) (R.written report.new) result }
     ensures cause { FaultHasCause (R.faults report.old) (R.faults report.new) result }
@@ -359,7 +362,7 @@ pub fn put_saved<R: Sink>(report: &mut R, summary: SaveSummary) -> Result<(), Wr
     )
 }
 
-/// Puts how the host of `exercise` was saved on the report.
+/// Puts how the host of `exercise` was saved on the report. After `WriteFailed` some first bytes are appended, but not all.
 pub fn put_exercised<R: Sink>(report: &mut R, summary: ExerciseSummary) -> Result<(), WriteFailed>
     ensures bytes { Puts (exercised_line summary) (R.written report.old) (R.written report.new) result }
     ensures cause { FaultHasCause (R.faults report.old) (R.faults report.new) result }
@@ -371,7 +374,7 @@ pub fn put_exercised<R: Sink>(report: &mut R, summary: ExerciseSummary) -> Resul
     put_all(report, b"\n")
 }
 
-/// Puts which frame an address means on the report.
+/// Puts which frame an address means on the report. After `WriteFailed` some first bytes are appended, but not all.
 pub fn put_walked<R: Sink>(report: &mut R, summary: WalkSummary) -> Result<(), WriteFailed>
     ensures bytes { Puts (walked_line summary) (R.written report.old) (R.written report.new) result }
     ensures cause { FaultHasCause (R.faults report.old) (R.faults report.new) result }
@@ -379,7 +382,8 @@ pub fn put_walked<R: Sink>(report: &mut R, summary: WalkSummary) -> Result<(), W
     put_two_fields(report, b"ok frame ", summary.frame, b" type ", summary.kind)
 }
 
-/// Puts how many records and bytes of a stream were passed on on the report.
+/// Puts how many records and bytes of a stream were passed on on the report. After `WriteFailed` some first bytes are
+/// appended, but not all.
 pub fn put_relayed<R: Sink>(report: &mut R, summary: RelaySummary) -> Result<(), WriteFailed>
     ensures bytes { Puts (relayed_line summary) (R.written report.old) (R.written report.new) result }
     ensures cause { FaultHasCause (R.faults report.old) (R.faults report.new) result }
