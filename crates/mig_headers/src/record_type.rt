@@ -69,7 +69,7 @@ pub const STATIC_DATA_END: u32 = RecordType::StaticDataEnd as u32;
 impl RecordType {
     ghost use Rattle.mig_headers.specs.RecordTypes.{type_number, type_of_number, record_row_of};
 
-    /// The type of this number.
+    /// The type of this number, or `None` above 0x12 (libxc migration stream, "Records").
     pub fn from_number(number: u32) -> Option<RecordType>
         ensures value { result ≡ type_of_number number }
         ensures none { IsNone result ↔ (0x12 < number) }

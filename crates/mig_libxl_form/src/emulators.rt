@@ -30,7 +30,7 @@ impl Model for Emulators {
 }
 
 impl Emulators {
-    /// None of either.
+    /// No emulators: neither pairs nor contexts.
     pub fn new(alloc: Global) -> Emulators
         ensures { result ≡ no_emulators }
     {

@@ -64,7 +64,7 @@ fn put_text(text: &mut Vec<u8>, key: &[u8], value: &[u8]) -> Result<(), Memory>
 }
 
 impl PairMap {
-    /// No pairs.
+    /// A map without pairs.
     pub fn new(alloc: Global) -> PairMap
         ensures { result ≡ maps.empty }
     {

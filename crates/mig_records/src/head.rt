@@ -17,7 +17,8 @@ pub struct RecordHead {
 impl RecordHead {
     ghost use Rattle.mig_records.specs.Heads.{head_in};
 
-    /// Reads a head.
+    /// Reads a head: the type in 4 bytes and the body's length in 4, both with the lowest byte first (libxc migration stream,
+    /// "Records").
     pub fn decode(bytes: &[u8; 8]) -> RecordHead
         ensures value { result ≡ head_in bytes.now }
     {
@@ -27,7 +28,7 @@ impl RecordHead {
         }
     }
 
-    /// The head's bytes.
+    /// The head's 8 bytes: type and length, both with the lowest byte first.
     #[tactic(auto, unfolding(crate::specs::Records::head_of))]
     pub fn encode(&self) -> [u8; 8]
         ensures bytes { result ≡ head_of self.now.kind self.now.len }

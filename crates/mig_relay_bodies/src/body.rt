@@ -166,7 +166,7 @@ impl BodySeen {
         }
     }
 
-    /// With the next piece more.
+    /// Takes in the next piece, which has just `piece_len` bytes.
     pub fn pass(&mut self, piece: &[u8])
         requires some { self.old.taken < self.old.len }
         requires whole { length piece.now ≡ piece_len self.old }

@@ -24,7 +24,7 @@ pub struct RecordsSeen {
 impl RecordsSeen {
     ghost use Rattle.mig_restore_form.specs.Seen.{IsSeen};
 
-    /// Before the first record.
+    /// What is known before the first record: no record was seen.
     pub fn new(version: u32, kind: Kind) -> RecordsSeen
         ensures seen { IsSeen result (opening_of version kind) [] }
         ensures count { result.records ≡ 0 }
