@@ -149,7 +149,7 @@ fn mark_for(needed: bool) -> u64
     if needed { NEEDED } else { EMPTY }
 }
 
-/// The type of a frame.
+/// The type of the frame with this number, or `None` where there is none.
 pub fn frame_type(frames: &FrameStore, pfn: u64) -> Option<PageType>
     ensures value { result ≡ type_at frames.now.frames pfn }
     ensures small { IsSome result → pfn < pfn_limit }
