@@ -5,7 +5,7 @@
 //! - bringing a whole guest to the form in which it is in a machine and, of a PV guest, back to its form in a
 //!   stream
 //! - what is in the way of seeing a guest that is in a machine
-//! - and, as a definition with its laws, the guest that a host means
+//! - as a definition with its laws, the guest that a host means
 //!
 //! Left to others: what keeps the frames and their machine frames (mig_host).
 //!

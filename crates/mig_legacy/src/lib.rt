@@ -23,8 +23,8 @@
 //! - `read_legacy` answers the guest that the accepted front of the input means, or the first fault with its place. It
 //!   has taken just that front, or all up to the end of the faulty part.
 //! - `judge_legacy` does the same without keeping pages, and answers how many frames the guest has.
-//! - `place_legacy` does it of a file, where the pages stay, and answers the outline of the guest and where in the
-//!   file they stand.
+//! - `place_legacy` does it of a file, where the pages stay, and answers the outline of the guest and where in the file
+//!   they are.
 //!
 //! The tests of chunks read from no source and know no guest. Each answers the first cause of its rows, with the least
 //! place. The data of a toolstack have no wrong field exactly where they are spelled as entries.

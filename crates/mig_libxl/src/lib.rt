@@ -21,7 +21,8 @@
 //! - `read_any` answers the guest that the accepted front of the input means, or the first fault with its place. It has
 //!   taken just that front, or all up to the end of the faulty part.
 //! - `judge_any` accepts and refuses the same, and keeps no page but those of tables.
-//! - Nor does `compare_any`, which answers of a file how many entries behind a VERIFY differ, as `read_any` does.
+//! - `compare_any` keeps no other page either, and answers of a file how many entries behind a VERIFY differ, as
+//!   `read_any` does.
 //! - `write_any` appends exactly the canonical stream of a guest, which is accepted with this guest, and that of no
 //!   other, and takes no memory.
 #![tactic(auto)]

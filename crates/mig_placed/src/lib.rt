@@ -15,7 +15,7 @@
 //! What the layers above rely on:
 //!
 //! - Places are a finite map from frame number to a cell, and each call says what it does to the whole map.
-//! - A call that finds no memory leaves it as it was.
+//! - A call that finds no memory leaves the map as it was.
 //! - With any file the places read as the frames that were set, each with the page that is at its place, also
 //!   where more bytes are behind the file.
 //! - The frames that are written are these.

@@ -22,7 +22,7 @@
 //! What the layers above rely on:
 //!
 //! - Each test answers the first cause of its rows in specs/Faults, and None exactly where no row holds.
-//! - Of words it names the least place.
+//! - A test of words names the least place.
 //! - A record that is written whole has the canonical spelling of specs/Records.
 //! - A body is answered by its first fault.
 //! - A contract says which parts of a guest a faultless body sets; all else stays.
