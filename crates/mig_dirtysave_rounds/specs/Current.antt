@@ -26,7 +26,7 @@ noted p found notes = record {
   types = λ q. if q == p then type_found found else notes.types q;
 }
 
--- Of each PFN that is neither unread in this round nor in the log: the last entry is what its footprint says now. It is
+-- Of each PFN that is neither unread in this round nor in the log: the last entry is what its footprint says now. The PFN is
 -- deferred exactly where no stream can have its frame as it is now. The type that was seen last is its frame's type
 -- now.
 pub record Current (unread log : Pfns) (frames : HostFrames) (sent : List FrameTold) (notes : Notes) : Type 0 where

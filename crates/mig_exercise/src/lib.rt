@@ -4,7 +4,6 @@
 //!
 //! - the host of the exercise, a PV guest with one tree of page tables whose other frames hold numbers
 //! - its script, which writes into these frames: both follow from a seed and the number of frames
-//! - both follow from a seed and the number of frames
 //! - the law that this host stays one that can be seen as a guest
 //! - the laws of the length of the guest's canonical stream, and of how many entries a save of it has at most
 //!

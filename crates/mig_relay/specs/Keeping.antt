@@ -27,7 +27,7 @@ pub record KeepsRecords (r : Relay) (o : Opening) (records : List StreamRecord) 
 abbrev pub KeepsHead : Relay → Opening → List StreamRecord → RecordHead → ℕ → Type 0
 KeepsHead r o records head top = KeepsRecords r o records (types_of records ++ head.kind ∷ []) top
 
--- of a body with these causes whose first bytes, these, were taken
+-- of a body with these causes, once these first bytes of it were taken
 pub record KeepsBody (r : Relay) (head : RecordHead) (fault : List ℕ → Option Cause) (begun : List ℕ) : Type 0 where
   pub len : r.body.len ≡ head.len
   pub known : IsBegunBody r.body fault begun

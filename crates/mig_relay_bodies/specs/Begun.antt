@@ -82,7 +82,7 @@ pub record IsKnown (knows : Knows) (len : ℕ) (fault : List ℕ → Option Caus
   pub stands : KnowsBegun knows len begun
   pub says : (more : List ℕ) → length (begun ++ more) ≡ len → fault (begun ++ more) ≡ fault_behind knows begun more
 
--- a body with this fault whose first bytes, these, were taken
+-- a body with this fault, once these first bytes of it were taken
 pub record IsBegunBody (seen : BodySeen) (fault : List ℕ → Option Cause) (begun : List ℕ) : Type 0 where
   pub taken : seen.taken ≡ length begun
   pub known : IsKnown seen.knows seen.len fault begun
