@@ -1,36 +1,14 @@
-ghost use Rattle.std.specs.Prelude.{◌≡◌, IfOk};
-ghost use Rattle.mig_legacy.specs.Common.{or_stop, RisesOnReadFault, AgreesWithJudging, Hvm, IsStreamed, IsStreamedBare, with_emulators, AreEmulators};
+ghost use Rattle.std.specs.Prelude.{IfOk};
+ghost use Rattle.mig_legacy.specs.Common.{or_stop, RisesOnReadFault, AgreesWithJudging, IsStreamed};
 ghost use Rattle.mig_file.specs.Files.{failed_in, left_in};
 ghost use Rattle.mig_legacy.specs.Placed.{IsPlacedLegacy};
 ghost use Rattle.mig_legacy.specs.Stream.{legacy_at};
 
-use crate::read::{ChunksSeen, LegacyAnswer, take_parts};
+use crate::read::{LegacyAnswer, take_parts};
 use mig_bytes::{Memory, answer_for};
 use mig_file::{FileSource, PageFile};
 use mig_placing::{PlacedGuest, Placing};
 use std::alloc::Global;
-
-/// What was taken of a stream, with the places that were noted.
-fn placed_of<'a, P: PageFile>(
-    seen: ChunksSeen,
-    placing: Placing<'a, P>,
-) -> Result<PlacedGuest<'a, P>, Memory>
-    requires plain { IsStreamedBare seen.guest }
-    requires hvm { seen.guest.kind ≡ Hvm }
-    requires emulators { AreEmulators seen.emulators }
-    ensures outline { IfOk result (λ placed. placed.outline ≡ with_emulators seen.guest seen.emulators) }
-    ensures streamed { IfOk result (λ placed. IsStreamed placed.outline) }
-    ensures places { IfOk result (λ placed. placed.places ≡ placing.entry.places) }
-    ensures file { IfOk result (λ placed. placed.file.now ≡ placing.entry.file.now) }
-{
-    let outline = seen.finish()?;
-    let file = placing.file();
-    Ok(PlacedGuest {
-        outline,
-        places: placing.into_places(),
-        file,
-    })
-}
 
 /// Reads a legacy stream from a file as `read_legacy` does. Its pages stay in the file. The guest is an outline, with
 /// the parts of its device model, and the place of each frame's page in the file is noted.
@@ -44,8 +22,8 @@ pub fn place_legacy<'a, P: PageFile>(
 {
     let mut placing = Placing::new(alloc, src.file());
     match take_parts(alloc, src, &mut placing) {
-        Ok(seen) => match placed_of(seen, placing) {
-            Ok(placed) => Ok(placed),
+        Ok(seen) => match seen.finish() {
+            Ok(outline) => Ok(placing.into_guest(outline)),
             Err(Memory) => Err(LegacyAnswer::Memory),
         },
         Err(stop) => Err(answer_for(stop)),

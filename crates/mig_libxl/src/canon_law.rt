@@ -22,8 +22,8 @@ pub fn twice_is_once()
     ensures { (guest other : GuestOf) (rest : List ℕ) → IsCarried guest → AcceptedStream (canon_any guest) other rest → (canon_any other ≡ canon_any guest) × (rest ≡ []) }
 {}
 
-/// A list is that of the emulators' parts, as the canonical stream has them, exactly in one case. Each part of an
-/// emulator is in it, no other is, and their keys ascend by id, index and code.
+/// A list is that of the emulators' parts, as the canonical stream has them, exactly where it has each part of an emulator
+/// and no other, and their keys ascend by id, index and code.
 pub fn emulators_ascend()
     ensures { (parts : PartMap) (ps : List Part) → (ps ≡ emulators_in_order parts) ↔ AreEmulatorsInOrder parts ps }
 {}

@@ -1,4 +1,4 @@
-ghost use Rattle.std.specs.Prelude.{◌≡◌, IfOk};
+ghost use Rattle.std.specs.Prelude.{IfOk};
 ghost use Rattle.mig_bytes.specs.Answers.{or_stop};
 ghost use Rattle.mig_bytes.specs.Faults.{RisesOnReadFault};
 ghost use Rattle.mig_bytes.specs.Judged.{AgreesWithJudging};
@@ -11,22 +11,8 @@ use crate::guest::PlacedGuest;
 use crate::keeps::Placing;
 use mig_bytes::answer_for;
 use mig_file::{FileSource, PageFile};
-use mig_restore::{StreamAnswer, TakenImage, take_image, take_image_rest};
+use mig_restore::{StreamAnswer, take_image, take_image_rest};
 use std::alloc::Global;
-
-/// What was taken of an image, with the places that were noted.
-fn placed_of<'a, P: PageFile>(taken: TakenImage, placing: Placing<'a, P>) -> PlacedGuest<'a, P>
-    ensures outline { result.outline ≡ taken.guest }
-    ensures places { result.places ≡ placing.entry.places }
-    ensures file { result.file.now ≡ placing.entry.file.now }
-{
-    let file = placing.file();
-    PlacedGuest {
-        outline: taken.guest,
-        places: placing.into_places(),
-        file,
-    }
-}
 
 /// Takes an image from a file, from its marker to its END record, and leaves what follows it unread. Its pages stay in the file.
 /// `Refused` has the place and the cause of the first fault, and then the file was read up to the end of the faulty part.
@@ -40,7 +26,7 @@ pub fn place_image<'a, P: PageFile>(
 {
     let mut placing = Placing::new(alloc, src.file());
     match take_image(alloc, src, &mut placing) {
-        Ok(taken) => Ok(placed_of(taken, placing)),
+        Ok(taken) => Ok(placing.into_guest(taken.guest)),
         Err(stop) => Err(answer_for(stop)),
     }
 }
@@ -56,7 +42,7 @@ pub fn place_image_rest<'a, P: PageFile>(
 {
     let mut placing = Placing::new(alloc, src.file());
     match take_image_rest(alloc, src, &mut placing) {
-        Ok(taken) => Ok(placed_of(taken, placing)),
+        Ok(taken) => Ok(placing.into_guest(taken.guest)),
         Err(stop) => Err(answer_for(stop)),
     }
 }

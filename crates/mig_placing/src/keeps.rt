@@ -4,6 +4,7 @@ ghost use Rattle.mig_file.specs.Files.{left_at};
 ghost use Rattle.mig_outline.specs.Outline.{outline_frames, put_outline_entry};
 ghost use Rattle.mig_placing.specs.Places.{ArePlaced};
 
+use crate::guest::PlacedGuest;
 use mig_bytes::Stop;
 use mig_file::{FileSource, PageFile};
 use mig_guest::Guest;
@@ -45,11 +46,17 @@ impl<'a, P: PageFile> Placing<'a, P> {
         self.file
     }
 
-    /// The places that are noted.
-    pub fn into_places(self) -> Places
-        ensures { result ≡ self.entry.places }
+    /// The guest of this outline, with the places that were noted.
+    pub fn into_guest(self, outline: Guest) -> PlacedGuest<'a, P>
+        ensures outline { result.outline ≡ outline }
+        ensures places { result.places ≡ self.entry.places }
+        ensures file { result.file.now ≡ self.entry.file.now }
     {
-        self.places
+        PlacedGuest {
+            outline,
+            places: self.places,
+            file: self.file,
+        }
     }
 }
 

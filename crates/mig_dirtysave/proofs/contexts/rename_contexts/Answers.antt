@@ -1,9 +1,14 @@
-use Rattle.mig_dirtysave.proofs.Common.{◌≡◌, ℕ, List, Some, Bool, refl, ap, subst, ◌∙◌, IfSome, find, option_map, VcpuFrame, GuestOf, HostOf, pfn_in, Part, parts_after, length_longs, field_numbers, first_some, is_used_somewhere, in_fields, contexts_start, renamed_context, names_ill, standing_seen, code_start, code_next, code_long, code_fewer, code_end}
+use Rattle.mig_dirtysave.proofs.Common.{◌≡◌, ℕ, List, Option, Some, Bool, refl, ap, subst, ◌∙◌, IfSome, find, option_map, VcpuFrame, GuestOf, HostOf, pfn_in, Part, PartKey, PartMap, PageType, parts_after, length_longs, field_numbers, first_some, is_used_somewhere, in_fields, contexts_start, renamed_context, names_ill, standing_seen, code_start, code_next, code_long, code_fewer, code_end}
 use Rattle.mig_pvtables.proofs.BlankParts.{OnlyPart}
 use Rattle.mig_dirtysave.proofs.Looks.{looks_none, looks_on}
 use Rattle.mig_dirtysave.proofs.ContextSteps.{behind_stays, next_found, next_fine, found_in_next}
 use Rattle.std.specs.FinMap as maps
 use Rattle.mig_dirtysave.proofs.contexts.rename_contexts.Goals as goal
+
+-- what was found in a context is found by the host of the machine as it was at first, since look-ups change no host
+found_at_first : (types : List (Option PageType)) (parts : PartMap) (key : PartKey) (field : Option ℕ) {first later : HostOf} → later ≡ first
+    → IfSome (maps.get parts key) (λ context. field ≡ find (names_ill (standing_seen later types) key.key1 context) field_numbers) → IfSome (maps.get parts key) (λ context. field ≡ find (names_ill (standing_seen first types) key.key1 context) field_numbers)
+found_at_first types parts key field same = subst (λ (h : HostOf). IfSome (maps.get parts key) (λ context. field ≡ find (names_ill (standing_seen h types) key.key1 context) field_numbers)) same
 
 pub loop-key-init : goal.loop-key-init
 loop-key-init g c = record {
@@ -22,9 +27,7 @@ returns-in-Some-2-clause-found g c =
     let host : HostOf = (g.M.Machine.state c.args.machine.now).host in
     let bad : ℕ → List ℕ → ℕ → Bool = names_ill (standing_seen host c.args.types.now) in
     let e : Part = (c.in-Some.key, c.in-Some.field-0-1.now) in
-    let found : IfSome (maps.get c.loop-key.guest.parts e.0) (λ context. c.in_ok-field.field-0 ≡ find (bad e.0.key1 context) field_numbers) =
-    subst (λ (h : HostOf). IfSome (maps.get c.loop-key.guest.parts e.0) (λ context. c.in_ok-field.field-0 ≡ find (names_ill (standing_seen h c.args.types.now) e.0.key1 context) field_numbers))
-    c.loop-key.invariant.looks.host c.in_ok-field.ensures.found in
+    let found = found_at_first c.args.types.now c.loop-key.guest.parts e.0 c.in_ok-field.field-0 c.loop-key.invariant.looks.host c.in_ok-field.ensures.found in
     (λ i. Some (VcpuFrame (c.from.ensures i) (c.from-in-Some-2.ensures i)))
     ∙ ap (option_map (λ (at : ℕ × ℕ). VcpuFrame at.0 at.1))
     (next_found (in_fields bad) (c.in-Some.key.key1, c.in-Some-2.field) c.in-Some.ensures.next c.loop-key.invariant.so
@@ -38,9 +41,7 @@ loop-key-preserved g c =
     let host : HostOf = (g.M.Machine.state c.args.machine.now).host in
     let bad : ℕ → List ℕ → ℕ → Bool = names_ill (standing_seen host c.args.types.now) in
     let e : Part = (c.in-Some.key, c.in-Some.field-0-1.now) in
-    let found : IfSome (maps.get c.loop-key.guest.parts e.0) (λ context. c.in_ok-field.field-0 ≡ find (bad e.0.key1 context) field_numbers) =
-    subst (λ (h : HostOf). IfSome (maps.get c.loop-key.guest.parts e.0) (λ context. c.in_ok-field.field-0 ≡ find (names_ill (standing_seen h c.args.types.now) e.0.key1 context) field_numbers))
-    c.loop-key.invariant.looks.host c.in_ok-field.ensures.found in
+    let found = found_at_first c.args.types.now c.loop-key.guest.parts e.0 c.in_ok-field.field-0 c.loop-key.invariant.looks.host c.in_ok-field.ensures.found in
     let one : c.rename_vcpu.new.guest ≡ OnlyPart (renamed_context is_used_somewhere (pfn_in host.frames) e.0.key1) c.loop-key.guest e.0 =
     subst (λ (h : HostOf). c.rename_vcpu.new.guest ≡ OnlyPart (renamed_context is_used_somewhere (pfn_in h.frames) e.0.key1) c.loop-key.guest e.0)
     c.loop-key.invariant.looks.host (c.in_ok-field.ensures.renamed c.in_default-2.is) in

@@ -6,7 +6,7 @@ use Rattle.mig_placing.proofs.image.place_image_rest.Goals as goal
 pub returns-in-Ok-clause-read : goal.returns-in-Ok-clause-read
 returns-in-Ok-clause-read g c =
     let bytes = g.P.PageFile.bytes in
-    image_placed (λ keeper all left frames. ArePlaced (bytes keeper.file.now) keeper.places all left frames) bytes c.new-placing.result c.take_image_rest.new.keeper c.placed_of.result c.in-Ok.taken c.args.src.now.at _ _
-    (λ all frames noted. (ap bytes c.placed_of.ensures.file ∙ noted.told, search rules)) c.placed_of.ensures.outline
+    image_placed (λ keeper all left frames. ArePlaced (bytes keeper.file.now) keeper.places all left frames) bytes c.new-placing.result c.take_image_rest.new.keeper c.into_guest.result c.in-Ok.taken c.args.src.now.at _ _
+    (λ all frames noted. (ap bytes c.into_guest.ensures.file ∙ noted.told, search rules)) c.into_guest.ensures.outline
     (bytes c.args.src.now.file.now)
     (λ all told. subst (λ file. ArePlaced (bytes c.new-placing.result.file.now) c.new-placing.result.places all (left_at (bytes file) c.args.src.now.at) maps.empty) c.file.ensures (c.new-placing.ensures.begun all c.args.src.now.at (ap bytes c.file.ensures ∙ told))) c.in-Ok.ensures.read c.in-Ok.ensures.noted
