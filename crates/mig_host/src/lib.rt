@@ -22,6 +22,6 @@ pub use law::{
     hosted_is_seen, hosted_is_sound, hosted_is_valid, hosted_p2m_frames_are_filled,
     hvm_hosted_is_seen,
 };
-pub use restore::{HostAnswer, host_of, is_outside};
+pub use restore::{HostAnswer, host_of, is_outside, localise_counted};
 pub use seeing::guest_of;
 pub use sound::SoundAnswer;

@@ -1,7 +1,9 @@
-ghost use Rattle.std.specs.Prelude.{◌≡◌, ◌⊎◌, ℕ, ◌+◌, ◌<◌, ◌≤◌, ◌↔◌, true, false, IfOk, Err, IsSome, length};
+ghost use Rattle.std.specs.Prelude.{◌≡◌, ◌⊎◌, ℕ, ◌+◌, ◌<◌, ◌≤◌, ◌↔◌, true, false, IfOk, OnOk, OnErr, Err, IsSome, length};
 ghost use Rattle.std.specs.FinMap as maps;
 ghost use Rattle.mig_host.specs.Common.{option_map, top_limit, machine_limit, IsWhole};
-ghost use Rattle.mig_host.specs.Hosted.{hosted, hosted_width, rank_in, least_width, IsBaseOutside};
+ghost use Rattle.mig_guest.specs.Formed.{IsFormed};
+ghost use Rattle.mig_host.specs.Hosted.{hosted, hosted_width, rank_in, mfn_in, least_width, IsBaseOutside};
+ghost use Rattle.mig_host_view.specs.Localised.{localised};
 ghost use Rattle.mig_host.specs.declared.restore.HostAnswer.TheVariants.{BaseRange};
 
 use crate::host::Host;
@@ -85,4 +87,23 @@ pub fn host_of(alloc: Global, guest: Guest, base: u64) -> Result<Host, HostAnswe
     localise_guest(&mut guest, &machines);
     let (frames, parts) = guest.into_frames_and_parts();
     Ok(Host::of(kind, width, frames, machines, parts))
+}
+
+/// Brings a guest to the form in which it stands in the machine as `host_of` puts it there: the frame of rank i gets machine
+/// frame base + i. Its pages and parts are changed where they are. After an error it stays.
+#[tactic(auto, using(crate::proofs::InOrder::entries_counted))]
+pub fn localise_counted(alloc: Global, guest: &mut Guest, base: u64) -> Result<(), HostAnswer>
+    requires formed { IsFormed guest.old }
+    ensures localised { OnOk result (guest.new ≡ localised (mfn_in guest.old.frames base) guest.old) }
+    ensures outside { (result ≡ Err BaseRange) ↔ IsBaseOutside guest.old base }
+    ensures kept { OnErr result (guest.new ≡ guest.old) }
+{
+    if is_outside(base, guest.frames()) {
+        return Err(HostAnswer::BaseRange);
+    }
+    let Ok((machines, _)) = count_up(alloc, guest, base) else {
+        return Err(HostAnswer::Memory);
+    };
+    localise_guest(guest, &machines);
+    Ok(())
 }

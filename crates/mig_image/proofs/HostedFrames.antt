@@ -1,5 +1,5 @@
 -- The frames of the host that an HVM guest becomes, written from frames that come from elsewhere.
-use Rattle.mig_image.proofs.Common.{◌≡◌, ℕ, ◌+◌, ◌-◌, ◌*◌, ◌<◌, ◌≤◌, ◌^◌, zero, suc, List, [], ◌∷◌, ◌++◌, length, take, drop, Option, Some, None, refl, sym, ap, subst, ◌∙◌, arith, append_assoc, drop-drop, length-append, take-append-drop, flat_map, codes, little_bytes, Hvm, HostFrame, kind_number, each_entry, nat_cmp, nat_cmp_total, nat_cmp-IsAntisymmetric, common_steps, ◌%◌, IsFormed, GuestOf, with_machine, parts_text, frame_head_of, frame_text, guest_image, page_text, AreFrames, HoldsPages, Two}
+use Rattle.mig_image.proofs.Common.{◌≡◌, ℕ, ◌+◌, ◌-◌, ◌*◌, ◌<◌, ◌≤◌, ◌^◌, zero, suc, List, [], ◌∷◌, ◌++◌, length, take, drop, Option, Some, None, refl, sym, ap, subst, ◌∙◌, arith, append_assoc, drop-drop, length-append, take-append-drop, flat_map, codes, little_bytes, Hvm, Pv, Kind, HostFrame, HostOf, PartMap, kind_number, each_entry, nat_cmp, nat_cmp_total, nat_cmp-IsAntisymmetric, common_steps, ◌%◌, IsFormed, GuestOf, with_machine, parts_text, frame_head_of, frame_text, guest_image, page_text, AreFrames, HoldsPages, Two}
 use Rattle.std.proofs.Math.Seq.{drop-append_seam, take-append_seam}
 use Rattle.std.proofs.lemmas.List.{drop-take}
 use Rattle.std.proofs.Common.{Bor}
@@ -8,10 +8,13 @@ use Rattle.std.specs.FinMap as maps
 use Rattle.std.specs.Option.{MatchOption}
 use Rattle.std.specs.Ordering.{ord_max}
 use Rattle.std.specs.Prelude.{max, ◌≢◌}
-use Rattle.mig_guest.specs.Frames.{FrameOf, IsFrame}
-use Rattle.mig_host.proofs.CountedUp.{counted_behind, counted_length, hosted_frames, hosted_parts, hosted_wide}
+use Rattle.mig_guest.specs.Frames.{FrameMap, FrameOf, IsFrame}
+use Rattle.mig_host.proofs.CountedUp.{counted_behind, counted_length, frames_hosted, hosted_frames, hosted_parts, hosted_wide}
 use Rattle.mig_host.proofs.HostedGuests.{base_inside}
-use Rattle.mig_host.specs.Hosted.{CanBeHosted, hosted, least_width, with_machines_from}
+use Rattle.mig_host.specs.Hosted.{CanBeHosted, hosted, hosted_width, least_width, mfn_in, with_machines_from}
+use Rattle.mig_host_view.proofs.LocalisedGuests.{count_localised, from_localised}
+use Rattle.mig_host_view.specs.Localised.{localised, localised_of}
+use Rattle.mig_image.specs.Behind.{counted_image}
 use Rattle.mig_image.proofs.FrameHeads.{head_len}
 use Rattle.mig_image.proofs.Writers.{image_is}
 use Rattle.mig_records_pages.specs.PageData.{Frame, page_in, pages_of}
@@ -103,17 +106,30 @@ some_frames (e ∷ es) some = omega (arith, length-append (frame_text Two e) (fl
 pub guest_frames : (g : GuestOf) → IsFormed g → AreFrames (maps.entries g.frames)
 guest_frames g formed = each_entry nat_cmp_total nat_cmp-IsAntisymmetric (λ pfn f. IsFrame f) g.frames (λ pfn f found. (formed.frames pfn f found).is)
 
+-- what is written piece by piece is the image of frames with machine frames counted up
+pub pieces_are : (kind : Kind) (width base : ℕ) (fs : List Frame) (parts : PartMap) (head : List ℕ) (frames : ℕ)
+    → head ≡ codes "XGIMAGE2" ++ (little_bytes 4 (kind_number kind) ++ (little_bytes 4 0 ++ (little_bytes 8 width ++ little_bytes 8 frames))) → frames ≡ length fs
+    → counted_image kind width base fs parts ≡ head ++ (flat_map (frame_text Two) (with_machines_from base fs) ++ parts_text parts)
+pieces_are kind width base fs parts head frames is many =
+    ap (λ (l : List ℕ). l ++ (flat_map (frame_text Two) (with_machines_from base fs) ++ parts_text parts))
+    (ap (λ n. codes "XGIMAGE2" ++ (little_bytes 4 (kind_number kind) ++ (little_bytes 4 0 ++ (little_bytes 8 width ++ little_bytes 8 n)))) (sym many) ∙ sym is)
+
+-- it is the image of a host with these numbers, frames and parts
+counted_host : (h : HostOf) (kind : Kind) (width base : ℕ) (fs : List Frame) (parts : PartMap) → kind ≡ h.kind → width ≡ h.width → maps.entries h.frames ≡ with_machines_from base fs → h.parts ≡ parts
+    → guest_image Two h ≡ counted_image kind width base fs parts
+counted_host h kind width base fs parts k w all same =
+    let count : length fs ≡ maps.len h.frames = sym (counted_length base fs) ∙ ap length (sym all) ∙ sym (maps.len-entries h.frames) in
+    let head = codes "XGIMAGE2" ++ (little_bytes 4 (kind_number kind) ++ (little_bytes 4 0 ++ (little_bytes 8 width ++ little_bytes 8 (length fs)))) in
+    image_is h head kind width (length fs) refl k w count
+    ∙ ap (λ (es : List (ℕ × HostFrame)). head ++ (flat_map (frame_text Two) es ++ parts_text h.parts)) all
+    ∙ ap (λ ps. head ++ (flat_map (frame_text Two) (with_machines_from base fs) ++ parts_text ps)) same
+
 -- the image of the host that an HVM guest becomes
-pub hosted_image : (g : GuestOf) (base : ℕ) (fs : List Frame) (head : List ℕ) (width frames : ℕ) → g.kind ≡ Hvm → fs ≡ maps.entries g.frames
-    → head ≡ codes "XGIMAGE2" ++ (little_bytes 4 (kind_number Hvm) ++ (little_bytes 4 0 ++ (little_bytes 8 width ++ little_bytes 8 frames)))
-    → width ≡ least_width fs → frames ≡ length fs
-    → guest_image Two (hosted g base) ≡ head ++ (flat_map (frame_text Two) (with_machines_from base fs) ++ parts_text g.parts)
-hosted_image g base fs head width frames hvm is head_is wide many =
-    let all = hosted_frames g base hvm ∙ ap (with_machines_from base) (sym is) in
-    let count : frames ≡ maps.len (hosted g base).frames = many ∙ sym (counted_length base fs) ∙ ap length (sym all) ∙ sym (maps.len-entries (hosted g base).frames) in
-    image_is (hosted g base) head Hvm width frames head_is (sym hvm) (wide ∙ ap least_width is ∙ sym (hosted_wide g base hvm)) count
-    ∙ ap (λ (es : List (ℕ × HostFrame)). head ++ (flat_map (frame_text Two) es ++ parts_text (hosted g base).parts)) all
-    ∙ ap (λ parts. head ++ (flat_map (frame_text Two) (with_machines_from base fs) ++ parts_text parts)) (hosted_parts g base hvm)
+pub hosted_image : (g : GuestOf) (base : ℕ) (fs : List Frame) (width : ℕ) (parts : PartMap) → g.kind ≡ Hvm → fs ≡ maps.entries g.frames → width ≡ least_width fs → parts ≡ g.parts
+    → guest_image Two (hosted g base) ≡ counted_image Hvm width base fs parts
+hosted_image g base fs width parts hvm is wide same =
+    counted_host (hosted g base) Hvm width base fs parts (sym hvm) (wide ∙ ap least_width is ∙ sym (hosted_wide g base hvm))
+    (hosted_frames g base hvm ∙ ap (with_machines_from base) (sym is)) (hosted_parts g base hvm ∙ sym same)
 
 -- ---- where it can be hosted
 
@@ -124,3 +140,26 @@ module _ (g : GuestOf) (base : ℕ) (fs : List Frame) (is : fs ≡ maps.entries 
   -- machine frames have 64 bits
   pub machines_fit : base + length fs ≤ 2 ^ 64
   machines_fit = let inside = base_inside g base fits.inside in omega (arith, inside.1, ap length is)
+
+-- ---- a PV guest as it stands in the machine
+
+module _ (g there : GuestOf) (base : ℕ) (map : FrameMap) (fs : List Frame) (is : fs ≡ maps.entries map) (same : record there { frames = map } ≡ localised (mfn_in g.frames base) g) where
+  -- the image of the host that the guest becomes
+  pub localised_image : g.kind ≡ Pv → (width : ℕ) (parts : PartMap) → width ≡ there.top + 1 → parts ≡ there.parts → guest_image Two (hosted g base) ≡ counted_image Pv width base fs parts
+  localised_image pv width parts wide alike =
+      let top : there.top ≡ g.top = ap (λ (h : GuestOf). h.top) same ∙ ap (λ (k : Kind). (localised_of k (mfn_in g.frames base) g).top) pv in
+      counted_host (hosted g base) Pv width base fs parts (sym pv) (wide ∙ ap (λ n. n + 1) top ∙ sym (ap (λ k. hosted_width k g) pv))
+      (frames_hosted g base ∙ ap (λ (h : GuestOf). with_machines_from base (maps.entries h.frames)) (sym same) ∙ ap (with_machines_from base) (sym is))
+      (sym (ap (λ (h : GuestOf). h.parts) same) ∙ sym alike)
+
+  module _ (fits : CanBeHosted base g) where
+    pub are_localised : AreFrames fs
+    are_localised =
+        subst AreFrames (ap (λ (h : GuestOf). maps.entries h.frames) (sym same) ∙ sym is)
+        (each_entry nat_cmp_total nat_cmp-IsAntisymmetric (λ pfn f. IsFrame f) (localised (mfn_in g.frames base) g).frames (λ pfn y found.
+        let (x, at, type, keeps) = from_localised (mfn_in g.frames base) g.kind g pfn y found in keeps (fits.whole.formed.frames pfn x at).is))
+
+    pub machines_localised : base + length fs ≤ 2 ^ 64
+    machines_localised =
+        let inside = base_inside g base fits.inside in
+        omega (arith, inside.1, ap length is, ap (λ (h : GuestOf). length (maps.entries h.frames)) same, count_localised (mfn_in g.frames base) g.kind g)

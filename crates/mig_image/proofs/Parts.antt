@@ -5,7 +5,13 @@ use Rattle.mig_bytes.specs.Fields.{le32}
 use Rattle.mig_headers.specs.Pairs.{are_canonical_pairs, AreCanonicalPairs}
 use Rattle.mig_headers.proofs.PairTexts.{canonical_pairs_are_computed}
 use Rattle.mig_guest.proofs.PartRows.{host_part}
-use Rattle.mig_guest.specs.Formed.{IsFormed, IsPart, width_of}
+use Rattle.mig_guest.specs.Formed.{IsFormed, IsPart, IsTop, width_of}
+use Rattle.mig_guest.specs.Hosts.{most_width}
+use Rattle.mig_host_view.proofs.LocalisedGuests.{renamed_is_part, renamed_policy}
+use Rattle.mig_host_view.specs.Localised.{localised, localised_of, renamed_part}
+use Rattle.mig_pvtables.proofs.EachValue.{from_each}
+use Rattle.mig_pvtables.specs.Blank.{each_value}
+use Rattle.mig_pvtables.specs.VcpuContexts.{is_used}
 use Rattle.mig_guest.specs.declared.part_code.PartCode.{PartCode}
 use Rattle.mig_guest.specs.declared.part_code.PartCode.TheVariants.{EmulatorPairs, CpuidLeaf, Msr, P2mFrames}
 use Rattle.mig_guest.specs.PartCodes.{code_number, code_of_number, row_of}
@@ -312,21 +318,40 @@ parts_of_host h valid = record {
   short = λ key bytes found. let part = valid.parts key bytes found in len_small part.code h.kind h.width (length bytes) (valid_narrow h valid) part.of_kind part.len;
 }
 
--- so do those of an HVM guest, which a host may have
-pub parts_of_guest : (g : GuestOf) → g.kind ≡ Hvm → IsFormed g → HaveRoom g.parts
-parts_of_guest g hvm formed =
-    let none = valid_empty Hvm 0 (omega arith) (λ is. let no : Hvm ≡ Pv = is in cc) (λ is. let no : Hvm ≡ Pv = is in cc) in
-    parts_of_host (record { kind = Hvm; width = 0; frames = maps.empty; parts = g.parts }) (record {
+-- so do parts that a host of this kind and width may have
+parts_alone : (kind : Kind) (width : ℕ) (parts : PartMap) → width ≤ most_width → (kind ≡ Pv → 0 < width) → (kind ≡ Pv → width ≤ top_limit)
+    → ((key : PartKey) (bytes : List ℕ) → maps.get parts key ≡ Some bytes → IsHostPart kind width key bytes) → FitsPolicy 17 parts → FitsPolicy 18 parts → HaveRoom parts
+parts_alone kind width parts small some most are leaves msrs =
+    let none = valid_empty kind width small some most in
+    parts_of_host (record { kind = kind; width = width; frames = maps.empty; parts = parts }) (record {
       width = none.width;
       some_width = none.some_width;
       pv_width = none.pv_width;
       frames = none.frames;
       one_to_one = none.one_to_one;
       few = none.few;
-      parts = λ key bytes found. host_part (width_of g) 0 key bytes (subst (λ (k : Kind). IsPart k (width_of g) key bytes) hvm (formed.parts key bytes found));
-      leaves = formed.policies 17 refl;
-      msrs = formed.policies 18 refl;
+      parts = are;
+      leaves = leaves;
+      msrs = msrs;
     })
+
+-- those of an HVM guest
+pub parts_of_guest : (g : GuestOf) → g.kind ≡ Hvm → IsFormed g → HaveRoom g.parts
+parts_of_guest g hvm formed =
+    parts_alone Hvm 0 g.parts (omega arith) (λ is. let no : Hvm ≡ Pv = is in cc) (λ is. let no : Hvm ≡ Pv = is in cc)
+    (λ key bytes found. host_part (width_of g) 0 key bytes (subst (λ (k : Kind). IsPart k (width_of g) key bytes) hvm (formed.parts key bytes found))) (formed.policies 17 refl) (formed.policies 18 refl)
+
+-- and those of a PV guest as it stands in a machine
+pub parts_localised : (g : GuestOf) (f : ℕ → Option ℕ) → g.kind ≡ Pv → IsFormed g → HaveRoom (localised f g).parts
+parts_localised g f pv formed = subst (λ (k : Kind). HaveRoom (localised_of k f g).parts) (sym pv)
+    (parts_alone Pv (width_of g) (each_value (renamed_part is_used f) g.parts) (omega (arith, top)) (λ _. omega arith) (λ _. omega (arith, top))
+    (λ key bytes found.
+    let (x, at, same) = from_each part_total part_exact (renamed_part is_used f) g.parts key bytes found in
+    subst (IsHostPart Pv (width_of g) key) same (renamed_is_part is_used f Pv (width_of g) key x (subst (λ (k : Kind). IsPart k (width_of g) key x) pv (formed.parts key x at))))
+    (renamed_policy is_used f 17 g.parts (formed.policies 17 refl)) (renamed_policy is_used f 18 g.parts (formed.policies 18 refl)))
+  where
+    top : g.top < top_limit
+    top = subst (λ (k : Kind). IsTop k g.top) pv formed.top
 
 -- ---- a head
 

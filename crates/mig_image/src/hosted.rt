@@ -3,9 +3,12 @@ ghost use Rattle.std.specs.FinMap as maps;
 ghost use Rattle.std.specs.Option.{option_copied};
 ghost use Rattle.mig_guest.specs.Formed.{IsFormed};
 ghost use Rattle.mig_guest.specs.Frames.{FrameMap};
-ghost use Rattle.mig_headers.specs.declared.kind.Kind.TheVariants.{Hvm};
-ghost use Rattle.mig_host.specs.Hosted.{CanBeHosted, with_machines_from, hosted, least_width};
-ghost use Rattle.mig_image.specs.Common.{flat_map};
+ghost use Rattle.mig_guest.specs.Guests.{GuestOf};
+ghost use Rattle.mig_headers.specs.declared.kind.Kind.TheVariants.{Hvm, Pv};
+ghost use Rattle.mig_host.specs.Hosted.{CanBeHosted, with_machines_from, hosted, least_width, mfn_in};
+ghost use Rattle.mig_host_view.specs.Localised.{localised};
+ghost use Rattle.mig_image.specs.Behind.{HaveRoom, counted_image};
+ghost use Rattle.mig_image.specs.Common.{flat_map, top_limit};
 ghost use Rattle.mig_image.specs.GuestImage.{frame_text, guest_image};
 ghost use Rattle.mig_image.specs.PagesHeld.{AreFrames, HoldsPages};
 ghost use Rattle.mig_image.specs.declared.version.GuestImageVersion.TheVariants.{Two};
@@ -13,7 +16,7 @@ ghost use Rattle.mig_records_pages.specs.Copied.{Copies, CopyHasCause};
 
 use crate::write::{GATHERED, head_bytes, no_bytes, put_frame, write_behind};
 use mig_bytes::{Sink, put_all};
-use mig_guest::Guest;
+use mig_guest::{Guest, Parts};
 use mig_headers::Kind;
 use mig_records_pages::{CopyFailed, FrameSequence, page_buffer};
 
@@ -115,6 +118,35 @@ fn write_frames<K: Sink, F: FrameSequence>(
     Ok(())
 }
 
+/// Appends the image, of version 2, of a host of this kind and width with these parts, whose frames come from elsewhere. The
+/// first has this machine frame, and each later one the next.
+fn write_counted<K: Sink, F: FrameSequence>(
+    sink: &mut K,
+    kind: Kind,
+    width: u64,
+    frames: &F,
+    base: u64,
+    parts: &Parts,
+) -> Result<(), CopyFailed>
+    requires room { HaveRoom parts.now }
+    ensures bytes { F.told frames.now ≡ true → AreFrames (F.frames_from frames.now 0) → base + length (F.frames_from frames.now 0) ≤ 2 ^ 64
+        → Copies (counted_image kind width base (F.frames_from frames.now 0) parts.now) (K.written sink.old) (K.written sink.new) result }
+    ensures cause { CopyHasCause (K.faults sink.old) (K.faults sink.new) (F.fails frames.now) result }
+{
+    let head = head_bytes(kind, width, frames.frame_count());
+    let Ok(()) = put_all(sink, &head) else {
+        return Err(CopyFailed::Write);
+    };
+    match write_frames(sink, frames, base) {
+        Ok(()) => {}
+        Err(failed) => return Err(failed),
+    }
+    match write_behind(sink, parts) {
+        Ok(()) => Ok(()),
+        Err(_) => Err(CopyFailed::Write),
+    }
+}
+
 /// Appends the image, of version 2, of the host that an HVM guest becomes whose frames come from elsewhere: it is the image
 /// that `write_host` appends of what `host_of` makes of the guest with these frames. All else is this guest's, whose own
 /// frames don't count. It takes no memory. After an error some first bytes of the image are appended, but not all.
@@ -130,16 +162,26 @@ pub fn write_hosted<K: Sink, F: FrameSequence>(
         → Copies (guest_image Two (hosted (record guest.now { frames = map }) base)) (K.written sink.old) (K.written sink.new) result }
     ensures cause { CopyHasCause (K.faults sink.old) (K.faults sink.new) (F.fails frames.now) result }
 {
-    let head = head_bytes(Kind::Hvm, width_for(frames), frames.frame_count());
-    let Ok(()) = put_all(sink, &head) else {
-        return Err(CopyFailed::Write);
-    };
-    match write_frames(sink, frames, base) {
-        Ok(()) => {}
-        Err(failed) => return Err(failed),
-    }
-    match write_behind(sink, guest.parts()) {
-        Ok(()) => Ok(()),
-        Err(_) => Err(CopyFailed::Write),
-    }
+    let width = width_for(frames);
+    write_counted(sink, Kind::Hvm, width, frames, base, guest.parts())
+}
+
+/// Appends the image, of version 2, of the host that a PV guest becomes, where this guest is that one as it stands in the
+/// machine, but that its frames come from elsewhere: they hold machine frames already. It takes no memory. After an error
+/// some first bytes of the image are appended, but not all.
+pub fn write_localised<K: Sink, F: FrameSequence>(
+    sink: &mut K,
+    guest: &Guest,
+    frames: &F,
+    base: u64,
+) -> Result<(), CopyFailed>
+    requires top { guest.now.top < top_limit }
+    requires room { HaveRoom guest.now.parts }
+    ensures bytes { (meant : GuestOf) (map : FrameMap) → F.frames_from frames.now 0 ≡ maps.entries map → F.told frames.now ≡ true → meant.kind ≡ Pv → CanBeHosted base meant
+        → record guest.now { frames = map } ≡ localised (mfn_in meant.frames base) meant
+        → Copies (guest_image Two (hosted meant base)) (K.written sink.old) (K.written sink.new) result }
+    ensures cause { CopyHasCause (K.faults sink.old) (K.faults sink.new) (F.fails frames.now) result }
+{
+    let width = guest.top() + 1;
+    write_counted(sink, Kind::Pv, width, frames, base, guest.parts())
 }

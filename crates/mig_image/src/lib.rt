@@ -18,14 +18,14 @@ mod version;
 mod write;
 mod zeros;
 
-pub use hosted::write_hosted;
+pub use hosted::{write_hosted, write_localised};
 pub use law::{
     frames_ascend, guest_images_have_sizes, hosts_have_guest_images, image_is_judged,
     judged_is_image, one_image, zero_pages_are_left_out,
 };
 pub use mig_host::{
     Host, HostAnswer, SoundAnswer, guest_of, host_of, hosted_is_seen, hosted_is_sound,
-    hosted_is_valid, hosted_p2m_frames_are_filled, hvm_hosted_is_seen,
+    hosted_is_valid, hosted_p2m_frames_are_filled, hvm_hosted_is_seen, localise_counted,
 };
 pub use read::{ImageAnswer, read_host};
 pub use version::GuestImageVersion;
