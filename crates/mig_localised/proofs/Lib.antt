@@ -1,0 +1,3 @@
+pub mod Localised
+pub mod Over
+pub mod Seated
