@@ -12,3 +12,4 @@ pub mod Tallied
 pub mod Placed
 pub mod PlacedImages
 pub mod BlankTexts
+pub mod LocalTexts

@@ -80,22 +80,6 @@ pub image_comes : (base : ℕ) (e : Effects) (outcome : Outcome) → RestoreCome
     → InputRises (status_of outcome) e.input.failed e.input.failed_now → OutputRises (status_of outcome) e.out.failed e.out.failed_now → ComesTo (restore_file_promise base) e outcome
 image_comes base e outcome said answers read write = record { said = said; known = never_usage outcome answers; kept = λ never. absurd (never (may_write outcome answers)); read = read; write = write }
 
--- what is restored with all pages kept comes to the same
-pub kept_restored : (base : ℕ) (e : Effects) (outcome : Outcome) → ComesTo (restore_promise base) e outcome → ComesTo (restore_file_promise base) e outcome
-kept_restored base e outcome came = record { said = came.said; known = came.known; kept = λ never. came.kept (λ may. never (by may)); read = came.read; write = came.write }
-  where
-    by : (status_of outcome ≡ statuses.Done) ⊎ (status_of outcome ≡ statuses.WriteFault) → (restore_file_promise base).MayWrite (status_of outcome)
-    by (inl is) = inl is
-    by (inr is) = inr (inl is)
-
--- and then nothing was written where a read failed
-pub kept_unwritten : (base : ℕ) (e : Effects) (outcome : Outcome) → ComesTo (restore_promise base) e outcome → outcome ≡ outcomes.ReadFault → e.out.Untouched
-kept_unwritten base e outcome came failed = came.kept (by (ap status_of failed))
-  where
-    by : status_of outcome ≡ statuses.ReadFault → (status_of outcome ≡ statuses.Done) ⊎ (status_of outcome ≡ statuses.WriteFault) → ⊥
-    by is (inl done) = cc
-    by is (inr fault) = cc
-
 -- ---- the image that is written
 
 -- what a writer does with the frames of these places in this file, it does with those that they read as there

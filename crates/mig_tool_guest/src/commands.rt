@@ -121,12 +121,7 @@ fn write_restored<K: Sink>(alloc: Global, guest: Guest, base: u64, out: &mut K) 
 }
 
 /// Reads a stream, and writes the image of its guest, with machine frames counted up from the base.
-pub(crate) fn restored<S: Source, K: Sink>(
-    alloc: Global,
-    base: u64,
-    input: &mut S,
-    out: &mut K,
-) -> Outcome
+fn restored<S: Source, K: Sink>(alloc: Global, base: u64, input: &mut S, out: &mut K) -> Outcome
     requires { IsBase base }
     ensures { ComesTo (restore_promise base) (effects (input_effect S.left S.faults input.old input.new) (sink_effect K.written K.faults out.old out.new) unreached) result }
 {

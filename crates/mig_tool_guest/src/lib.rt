@@ -18,6 +18,7 @@ mod checks;
 mod commands;
 mod comparing;
 mod files;
+mod localised;
 mod passing;
 mod restoring;
 mod shown;

@@ -6,7 +6,8 @@ ghost use Rattle.mig_tool_guest.specs.Fronts.{PartWritten, restored_text};
 ghost use Rattle.mig_tool_guest.specs.Promises.{restore_file_promise};
 ghost use Rattle.mig_tool_report.specs.declared.outcome.Outcome.TheVariants as outcomes;
 
-use crate::commands::{restored, unread};
+use crate::commands::unread;
+use crate::localised::restore_taken_pv;
 use mig_bytes::Sink;
 use mig_file::{FileSource, PageFile};
 use mig_headers::Kind;
@@ -48,26 +49,25 @@ fn write_placed_image<P: PageFile, K: Sink>(
     }
 }
 
-/// Writes the image of a guest that was taken of a file up to here, with its pages in the file. A PV guest is read once more,
-/// with all pages.
+/// Writes the image of a guest that was taken of a file up to here, with its pages in the file.
 fn restored_taken<'a, P: PageFile, K: Sink>(
     alloc: Global,
     base: u64,
-    placed: &PlacedGuest<'a, P>,
+    placed: &mut PlacedGuest<'a, P>,
     taken: FileSource<'a, P>,
     input: &mut FileSource<'a, P>,
     out: &mut K,
 ) -> Outcome
     requires base { IsBase base }
-    requires read { AgreesWithJudging {C = Place × Cause} (IsPlacedStream P.bytes) (left_in P.bytes input.old) (left_in P.bytes taken) stream_at (Ok placed.now) }
-    requires formed { IsFormed placed.now.outline }
+    requires read { AgreesWithJudging {C = Place × Cause} (IsPlacedStream P.bytes) (left_in P.bytes input.old) (left_in P.bytes taken) stream_at (Ok placed.old) }
+    requires formed { IsFormed placed.old.outline }
     requires bytes { IfSome (P.bytes input.old.file.now) AreBytes }
     requires faults { failed_in taken ≡ failed_in input.old }
     ensures came { ComesTo (restore_file_promise base) (effects (input_effect (left_in P.bytes) failed_in input.old input.new) (sink_effect K.written K.faults out.old out.new) unreached) result }
     ensures part { result ≡ outcomes.ReadFault → (out.new ≡ out.old) ⊎ IsPartCopied (PartWritten AcceptedStream (restored_text base)) (effects (input_effect (left_in P.bytes) failed_in input.old input.new) (sink_effect K.written K.faults out.old out.new) unreached) }
 {
     match placed.outline.kind() {
-        Kind::Pv => restored(alloc, base, input, out),
+        Kind::Pv => restore_taken_pv(alloc, base, placed, taken, input, out),
         Kind::Hvm => {
             *input = taken;
             write_placed_image(base, placed, input, out)
@@ -75,8 +75,8 @@ fn restored_taken<'a, P: PageFile, K: Sink>(
     }
 }
 
-/// Reads a stream in a file, and writes the image of its guest, with machine frames counted up from the base. Of an HVM guest
-/// it keeps no page: each is read again where it is written.
+/// Reads a stream in a file, and writes the image of its guest, with machine frames counted up from the base. It keeps
+/// page tables and no other page: each is read again where it is written.
 fn restored_file<P: PageFile, K: Sink>(
     alloc: Global,
     base: u64,
@@ -90,7 +90,7 @@ fn restored_file<P: PageFile, K: Sink>(
     input.file().has_bytes();
     let mut taken = input.again();
     match place_any(alloc, &mut taken) {
-        Ok(placed) => restored_taken(alloc, base, &placed, taken, input, out),
+        Ok(mut placed) => restored_taken(alloc, base, &mut placed, taken, input, out),
         Err(answer) => {
             *input = taken;
             unread(answer)

@@ -1,13 +1,7 @@
-use Rattle.mig_tool_guest.proofs.Common.{Effects, InputRises, List, Option, effects, inl, inr, input_effect, sink_effect, status_of, subst, sym, unreached, ℕ, ◌∙◌, failed_in, left_in}
+use Rattle.mig_tool_guest.proofs.Common.{Effects, InputRises, List, Option, effects, inr, input_effect, sink_effect, status_of, subst, sym, unreached, ℕ, ◌∙◌, failed_in, left_in}
 use Rattle.mig_tool_guest.proofs.Placed.{told_bytes}
-use Rattle.mig_tool_guest.proofs.PlacedImages.{FindsGuest, came_image, found_guest, image_comes, image_part, kept_restored, kept_unwritten}
+use Rattle.mig_tool_guest.proofs.PlacedImages.{FindsGuest, came_image, found_guest, image_comes, image_part}
 use Rattle.mig_tool_guest.proofs.restoring.restored_taken.Goals as goal
-
-pub returns-in-Pv-clause-came : goal.returns-in-Pv-clause-came
-returns-in-Pv-clause-came g c = kept_restored _ _ _ c.restored.ensures
-
-pub returns-in-Pv-clause-part : goal.returns-in-Pv-clause-part
-returns-in-Pv-clause-part g c = λ failed. inl (kept_unwritten _ _ _ c.restored.ensures failed)
 
 pub returns-in-Hvm-clause-came : goal.returns-in-Hvm-clause-came
 returns-in-Hvm-clause-came g c =
