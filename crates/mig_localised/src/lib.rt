@@ -3,8 +3,7 @@
 //! Responsible for: bringing the outline of a guest to the form in which it stands in a machine, with machine frames counted
 //! up from a base and with pages for its P2M frames; and its frames as a writer takes them: the pages of page tables and of
 //! P2M frames come from the outline, and all others from their places in the file. Left to others: what that form is
-//! (mig_host_view), which machine frames there are (mig_host), the outline and the places (mig_outline, mig_placed), and the
-//! image (mig_image).
+//! (mig_host_view), which machine frames there are (mig_host), and the outline and the places (mig_outline, mig_placed).
 //!
 //! What the layers above rely on: the outline in this form, with these frames, is the guest that was sent as it stands in the
 //! machine. A page table is never read again: what is written of it was judged.
