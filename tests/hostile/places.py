@@ -66,8 +66,8 @@ def of_many_pages():
     for words in ['normalise'], ['restore', '4096']:
         yield 'HVM', words, hvm
     yield 'HVM, sent again behind a VERIFY', ['verify'], again
-    yield 'PV', ['normalise'], pv
-    yield 'PV', ['verify'], pv
+    for words in ['normalise'], ['restore', '4096'], ['verify']:
+        yield 'PV', words, pv
 
 
 def limited():
