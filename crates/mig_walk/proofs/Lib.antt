@@ -2,6 +2,7 @@ pub mod Common
 pub mod HostFrames
 pub mod Reaching
 pub mod OneAnswer
+pub mod Outlines
 pub mod Steps
 pub mod SomeAnswer
 pub mod Standings

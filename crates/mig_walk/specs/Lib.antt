@@ -1,3 +1,4 @@
 mod Common
+pub mod Outlined
 pub mod Walks
 pub mod WalkSteps

@@ -1,4 +1,5 @@
-ghost use Rattle.std.specs.Prelude.{◌≡◌, ◌⊎◌, ◌≤◌, ◌<◌, ◌+◌, ◌-◌, ◌*◌, ◌/◌, ◌%◌, ◌^◌, ℕ, IsSome};
+ghost use Rattle.std.specs.Prelude.{◌≡◌, ◌⊎◌, ◌≤◌, ◌<◌, ◌+◌, ◌-◌, ◌*◌, ◌/◌, ◌%◌, ◌^◌, ℕ, List, IsSome};
+ghost use Rattle.std.specs.declared.option.Option.{Option};
 ghost use Rattle.std.specs.FinMap as maps;
 ghost use Rattle.mig_headers.specs.declared.kind.Kind.TheVariants.{Hvm};
 ghost use Rattle.mig_guest.specs.Guests.{GuestOf};
@@ -7,6 +8,10 @@ ghost use Rattle.mig_walk.specs.Common.{vcpu_key, IsWhole, IsSound, Standing, in
 ghost use Rattle.mig_pvtables.specs.Blank.{blank};
 ghost use Rattle.mig_host.specs.Hosted.{hosted, rank_in, IsBaseOutside};
 ghost use Rattle.mig_walk.specs.Walks.{slot_of, IsCanonical, IsWalked, IsWalkedOnce, at_machine};
+ghost use Rattle.mig_outline.specs.Outline.{outline};
+ghost use Rattle.mig_pagestore_index.specs.Indexed.{ValueMap};
+ghost use Rattle.mig_placed.specs.InFile.{frames_in_file};
+ghost use Rattle.mig_walk.specs.Outlined.{StandForGuest};
 ghost use Rattle.mig_walk.specs.declared.walk.Walked.{Walked as Answer};
 ghost use Rattle.mig_walk.specs.declared.walk.Walked.TheVariants.{NoVcpu, Absent};
 
@@ -58,4 +63,11 @@ pub fn blank_slot_is_absent()
 pub fn translation_commutes()
     ensures { (g : GuestOf) (base vcpu address : ℕ) (answer there : Answer) → IsWhole g → blank g ≡ g → (IsBaseOutside g base → ⊥)
         → IsWalked (in_stream g) vcpu address answer → IsWalked (in_host (hosted g base)) vcpu address there → there ≡ at_machine (λ pfn. base + rank_in g.frames pfn) answer }
+{}
+
+/// The outline of a guest in its blank form stands for the blank form of the guest, with places that read in a file as the
+/// guest's frames: names, types, entries of tables and parts are the same.
+#[tactic(auto, using(crate::proofs::Outlines::stands_for_guest))]
+pub fn outline_has_levels_of_its_guest()
+    ensures { (g : GuestOf) (file : Option (List ℕ)) (cells : ValueMap) → frames_in_file file cells ≡ g.frames → StandForGuest (blank (outline g)) cells (blank g) }
 {}

@@ -41,7 +41,7 @@ pub(crate) trait Levels {
 }
 
 /// The key of a vCPU's context.
-fn key_of(vcpu: u32) -> PartKey
+pub(crate) fn key_of(vcpu: u32) -> PartKey
     ensures { result ≡ vcpu_key vcpu }
 {
     PartKey {
@@ -52,7 +52,7 @@ fn key_of(vcpu: u32) -> PartKey
 }
 
 /// What ctrlreg[3] names in the context of a vCPU, where that is there.
-fn root_in(context: Option<&[u8]>, vcpu: u32) -> Option<u64>
+pub(crate) fn root_in(context: Option<&[u8]>, vcpu: u32) -> Option<u64>
     requires { IfSome (option_copied context) (λ bytes. length bytes ≡ 5168) }
     ensures { result ≡ option_map (said_by Root) (option_copied context.entry) }
 {
@@ -60,7 +60,7 @@ fn root_in(context: Option<&[u8]>, vcpu: u32) -> Option<u64>
 }
 
 /// What a slot of a frame of this type says, where that is a table of this level. One without a page says nothing.
-fn entry_in(
+pub(crate) fn entry_in(
     kind: Option<PageType>,
     page: Option<&[u8; 4096]>,
     level: u8,

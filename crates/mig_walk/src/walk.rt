@@ -1,12 +1,18 @@
-ghost use Rattle.std.specs.Prelude.{◌≡◌, ◌≤◌, ◌<◌, true};
-ghost use Rattle.mig_walk.specs.Common.{IsWhole, IsSound, in_stream, in_host};
+ghost use Rattle.std.specs.Prelude.{◌≡◌, ◌≤◌, ◌<◌, ℕ, List, Some, length, true};
+ghost use Rattle.std.specs.FinMap as maps;
+ghost use Rattle.mig_guest.specs.Formed.{IsFormed};
+ghost use Rattle.mig_guest.specs.Guests.{GuestOf};
+ghost use Rattle.mig_walk.specs.Common.{IsWhole, IsSound, in_stream, in_host, vcpu_key};
+ghost use Rattle.mig_walk.specs.Outlined.{StandForGuest};
 ghost use Rattle.mig_walk.specs.Walks.{slot_of, IsCanonical, IsWalked};
 ghost use Rattle.mig_walk.specs.WalkSteps.{CanBeWalked, IsReached};
 
 use crate::levels::Levels;
+use crate::outlined::OutlinedLevels;
 use mig_guest::{Entry, Guest};
 use mig_host::Host;
 use mig_pagetypes::PageType;
+use mig_placed::Places;
 
 /// Which frame an address means to a vCPU, or why it means none.
 #[derive(Clone, Copy, Debug, PartialEq, Eq)]
@@ -43,17 +49,18 @@ fn slot(address: u64, level: u8) -> usize
     ((address >> (3 + 9 * u32::from(level))) % 512) as usize
 }
 
-/// Where the way of a canonical address ends that begins at the root that this number names.
+/// Where the way of a canonical address ends that begins at the root that this number names. What is answered of a guest in
+/// which addresses can't be walked says nothing.
 fn walk_from<L: Levels>(levels: &L, root: u64, vcpu: u32, address: u64) -> Walked
-    requires ready { CanBeWalked (L.standing levels.now) vcpu }
     requires canonical { IsCanonical address }
-    requires root { IsReached (L.standing levels.now) vcpu address 4 root }
-    ensures { IsWalked (L.standing levels.now) vcpu address result }
+    ensures { CanBeWalked (L.standing levels.now) vcpu → IsReached (L.standing levels.now) vcpu address 4 root → IsWalked (L.standing levels.now) vcpu address result }
 {
     let mut number = root;
     let mut level = 4;
     while level > 0 {
-        let pfn = levels.named(number).unwrap();
+        let Some(pfn) = levels.named(number) else {
+            return Walked::Absent(level);
+        };
         let Some(entry) = levels.entry_of(pfn, level, slot(address, level)) else {
             return Walked::NotTable(level);
         };
@@ -63,17 +70,22 @@ fn walk_from<L: Levels>(levels: &L, root: u64, vcpu: u32, address: u64) -> Walke
         number = named;
         level -= 1;
     }
-    let pfn = levels.named(number).unwrap();
-    Walked::Frame {
-        frame: number,
-        kind: levels.kind_of(pfn).unwrap(),
+    let Some(pfn) = levels.named(number) else {
+        return Walked::Absent(level);
+    };
+    match levels.kind_of(pfn) {
+        Some(kind) => Walked::Frame {
+            frame: number,
+            kind,
+        },
+        None => Walked::Absent(level),
     }
 }
 
-/// Which frame an address means to a vCPU.
+/// Which frame an address means to a vCPU, where addresses can be walked.
 fn walk<L: Levels>(levels: &L, vcpu: u32, address: u64) -> Walked
-    requires { CanBeWalked (L.standing levels.now) vcpu }
-    ensures { IsWalked (L.standing levels.now) vcpu address result }
+    requires size { (context : List ℕ) → maps.get (L.standing levels.now).parts (vcpu_key vcpu) ≡ Some context → length context ≡ 5168 }
+    ensures { CanBeWalked (L.standing levels.now) vcpu → IsWalked (L.standing levels.now) vcpu address result }
 {
     let Some(root) = levels.root(vcpu) else {
         return Walked::NoVcpu;
@@ -101,4 +113,15 @@ pub fn walk_host(host: &Host, vcpu: u32, address: u64) -> Walked
 {
     host.width();
     walk(host, vcpu, address)
+}
+
+/// The frame, by its number (PFN), that an address means to a vCPU of the guest that an outline and the places of its pages
+/// stand for, as `walk_guest` says it. No page is read: tables are in the outline. Where they stand for no whole guest, the
+/// answer says nothing. It takes no memory.
+pub fn walk_outlined(outline: &Guest, places: &Places, vcpu: u32, address: u64) -> Walked
+    requires formed { IsFormed outline.now }
+    ensures walked { (g : GuestOf) → StandForGuest outline.now places.now g → IsWhole g → IsWalked (in_stream g) vcpu address result }
+{
+    let levels = OutlinedLevels { outline, places };
+    walk(&levels, vcpu, address)
 }
