@@ -13,3 +13,4 @@ pub mod Placed
 pub mod PlacedImages
 pub mod BlankTexts
 pub mod LocalTexts
+pub mod WalkedFiles

@@ -8,7 +8,6 @@ use Rattle.mig_legacy.specs.Legacy.{LegacyStream, device_model, image_records, m
 use Rattle.mig_pvtables.specs.Blank.{blank_of}
 use Rattle.mig_tool_report.specs.Promises.{copies_text}
 use Rattle.mig_tool_report.specs.declared.outcome.Outcome.TheVariants as outcomes
-use Rattle.mig_tool_report.specs.declared.status.Status.TheVariants as statuses
 use Rattle.std.proofs.lemmas.List.Elements.{All-drop}
 use Rattle.std.specs.FinMap as maps
 use Rattle.std.specs.Option.{option_map}

@@ -12,6 +12,12 @@ abbrev pub EndsWalk : Standing → ℕ → ℕ → Outcome → Type 0
 EndsWalk s id at (outcomes.Refused (refusals.Walk end)) = MeansNone s id at end
 EndsWalk s id at _ = ⊥
 
+-- the same where there may be no memory
+abbrev pub EndsOrStarves : Standing → ℕ → ℕ → Outcome → Type 0
+EndsOrStarves s id at (outcomes.Refused (refusals.Walk end)) = MeansNone s id at end
+EndsOrStarves s id at outcomes.Memory = ⊤
+EndsOrStarves s id at _ = ⊥
+
 -- the same in a host, which may not be sound, and of which that isn't found out where there is no memory
 abbrev pub EndsInHost : HostOf → ℕ → ℕ → Outcome → Type 0
 EndsInHost h id at (outcomes.Refused (refusals.Host unsound)) = unsoundness h ≡ Some unsound

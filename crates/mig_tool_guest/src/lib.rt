@@ -23,7 +23,7 @@ mod passing;
 mod restoring;
 mod shown;
 
-pub use addresses::{walk, walk_image};
+pub use addresses::{walk, walk_file, walk_image};
 pub use checks::{check, check_legacy};
 pub use commands::{convert, normalise, restore, verify};
 pub use files::{convert_file, normalise_file, verify_file};
