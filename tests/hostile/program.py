@@ -89,7 +89,7 @@ def passes_on(words):
 
 def reads_by_place(words):
     """Whether the command reads a file by place, and passes over what it has no need of."""
-    return words in OF_CHECK or words in (['verify'], ['show']) or copies(words)
+    return words in OF_CHECK or words in (['verify'], ['show']) or words[:1] == ['walk'] or copies(words)
 
 
 def copies(words):

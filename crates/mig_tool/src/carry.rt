@@ -9,7 +9,7 @@ use mig_bytes::{Sink, Source};
 use mig_file::{FileSource, PageFile};
 use mig_tool_guest::{
     convert, convert_file, normalise, normalise_file, relay, restore, restore_file, show, verify,
-    verify_file, walk, walk_image,
+    verify_file, walk, walk_file, walk_image,
 };
 use mig_tool_report::{Command, Status};
 use mig_tool_save::{exercise_told, save};
@@ -60,6 +60,7 @@ pub(crate) fn carry_out_file<P: PageFile, K: Sink, R: Sink>(
         Command::Convert => convert_file(alloc, input, out, report),
         Command::Restore(base) => restore_file(alloc, base, input, out, report),
         Command::Verify => verify_file(alloc, input, report),
+        Command::Walk { vcpu, address } => walk_file(alloc, vcpu, address, input, report),
         _ => carry_out(alloc, command, input, out, report),
     }
 }

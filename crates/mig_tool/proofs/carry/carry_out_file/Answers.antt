@@ -1,4 +1,4 @@
-use Rattle.mig_tool.proofs.Common.{refl, sym, sink_effect, HasStreamRefusal, AcceptedStream, beside, ok_line, Verified, HasFront}
+use Rattle.mig_tool.proofs.Common.{refl, sym, sink_effect, HasStreamRefusal, AcceptedStream, beside, ok_line, Verified, HasFront, HasWalkRefusal, walked_line, AddressReported, FrameInStream, StreamHasFrame}
 use Rattle.mig_tool_report.specs.declared.command.Command.TheVariants as commands
 use Rattle.mig_tool.proofs.Reporting.{as_it_comes, of_same_file}
 use Rattle.mig_tool.proofs.carry.carry_out_file.Goals as goal
@@ -17,6 +17,12 @@ returns-in-Verify g c =
     of_same_file (commands.Verify) _ _ _ (sym c.in-Verify.is)
     (beside ok_line (HasFront AcceptedStream) HasStreamRefusal Verified
     _ (sink_effect g.K.Sink.written g.K.Sink.faults c.args.out.now c.args.out.now) _ _ (record { untouched = refl; quiet = refl }) c.verify_file.ensures)
+
+pub returns-in-Walk : goal.returns-in-Walk
+returns-in-Walk g c =
+    of_same_file (commands.Walk c.in-Walk.vcpu c.in-Walk.address) _ _ _ (sym c.in-Walk.is)
+    (beside walked_line (HasFront (StreamHasFrame c.in-Walk.vcpu c.in-Walk.address)) (HasWalkRefusal c.in-Walk.vcpu c.in-Walk.address) (λ Reported input left. AddressReported (FrameInStream c.in-Walk.vcpu c.in-Walk.address input left) Reported)
+    _ (sink_effect g.K.Sink.written g.K.Sink.faults c.args.out.now c.args.out.now) _ _ (record { untouched = refl; quiet = refl }) c.walk_file.ensures)
 
 pub returns-in_default : goal.returns-in_default
 returns-in_default g c = as_it_comes c.args.command _ _ c.carry_out.ensures
