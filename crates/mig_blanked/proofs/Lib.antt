@@ -1,3 +1,4 @@
 pub mod Behind
+pub mod BesideFile
 pub mod Marks
 pub mod Outlines

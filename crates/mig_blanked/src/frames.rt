@@ -7,16 +7,18 @@ ghost use Rattle.mig_placed.specs.InFile.{page_in_file};
 ghost use Rattle.mig_pvtables.specs.Blank.{zero_page};
 ghost use Rattle.mig_blanked.specs.Behind.{kept_page, page_behind};
 
+use crate::plain::count_plain;
 use mig_bytes::Failed;
 use mig_file::PageFile;
 use mig_guest::Guest;
 use mig_pagestore_index::Index;
 use mig_pagetypes::FrameWord;
-use mig_placed::Places;
+use mig_placed::{PlacedFrames, Places};
 use mig_records_pages::{FrameSequence, pages_with, put_page};
 
 /// The frames of a PV guest in its blank form, one by one: of a P2M frame the page is zeros, of a page table the one in the
-/// outline, and of any other frame the one at its place in the file.
+/// outline, and of any other frame the one at its place in the file. Of the last, pages that stand one behind another there are
+/// read at once.
 #[derive(Clone, Copy)]
 pub struct PagesByNumber<'a, P: PageFile> {
     outline: &'a Guest,
@@ -154,8 +156,13 @@ impl<P: PageFile> FrameSequence for PagesByNumber<'_, P> {
         &self,
         buffer: &mut [u8],
         place: u64,
-        _most: u32,
+        most: u32,
     ) -> Result<(u64, u32, u32), Failed> {
+        let plain = count_plain(self.marks, self.places, place, most);
+        if plain > 0 {
+            let placed = PlacedFrames::new(self.places, self.file);
+            return placed.pages_from(buffer, place, plain);
+        }
         let Some((pfn, cell)) = self.places.next(place) else {
             return Ok((place, 0, 0));
         };
