@@ -66,7 +66,7 @@ def of_many_pages():
     for words in ['normalise'], ['restore', '4096']:
         yield 'HVM', words, hvm
     yield 'HVM, sent again behind a VERIFY', ['verify'], again
-    for words in ['normalise'], ['restore', '4096'], ['verify'], ['walk', '0', '0']:
+    for words in ['normalise'], ['restore', '4096'], ['verify'], program.loaded('walk-a-frame')['words'].split():
         yield 'PV', words, pv
 
 

@@ -88,8 +88,9 @@ def passes_on(words):
 
 
 def reads_by_place(words):
-    """Whether the command reads a file by place, and passes over what it has no need of."""
-    return words in OF_CHECK or words in (['verify'], ['show']) or words[:1] == ['walk'] or copies(words)
+    """Whether the command reads a file by place, and passes over what it has no need of: each that reads a stream, but that
+    which passes it on."""
+    return words in OF_CHECK or not passes_on(words) and words[:1] not in (['save'], ['exercise'], ['walkimage'])
 
 
 def copies(words):
