@@ -36,10 +36,10 @@ pub fn run<S: Source, K: Sink, R: Sink>(
     }
 }
 
-/// Does what the words say, as `run` does, of a file that is read from a place on. What it needs no page of, it reads none
-/// of: `show` and `verify` read those of page tables alone, and `verify` those behind a VERIFY, with the pages that these are
-/// compared with; and `normalise` and `convert`, and `restore` of an HVM guest, read each page where it is written, and keep
-/// none but those of page tables.
+/// Does what the words say, as `run` does, of a file that is read from a place on. It reads no page that nothing depends on.
+/// `show` and `verify` read those of page tables alone, as does a walk, and `verify` those behind a VERIFY, with the pages that
+/// these are compared with. `normalise`, `convert` and `restore` read each page where it is written. They keep none but those of
+/// page tables, and `restore` of a PV guest those of its P2M frames.
 pub fn run_file<P: PageFile, K: Sink, R: Sink>(
     alloc: Global,
     words: &[String],
@@ -63,14 +63,9 @@ pub fn run_file<P: PageFile, K: Sink, R: Sink>(
 
 /// Whether what these words name takes less of a file where it is read by place.
 pub(crate) fn reads_by_place(words: &[String]) -> bool {
-    matches!(
-        command_in(words),
-        Some(
-            Command::Normalise
-                | Command::Convert
-                | Command::Restore(_)
-                | Command::Verify
-                | Command::Show
-        )
-    )
+    match command_in(words) {
+        Some(Command::Save | Command::Exercise { .. } | Command::WalkImage { .. } | Command::Relay)
+        | None => false,
+        Some(_) => true,
+    }
 }
