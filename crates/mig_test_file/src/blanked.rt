@@ -13,7 +13,7 @@ use std::test::Fail;
 
 // Image header, domain header of a PV guest, X86_PV_INFO, STATIC_DATA_END, and X86_PV_P2M_FRAMES: frame 0 for the frame numbers
 // from 0 to 4.
-const FRONT: [u8; 88] = [
+pub(crate) const FRONT: [u8; 88] = [
     0xff, 0xff, 0xff, 0xff, 0xff, 0xff, 0xff, 0xff, 0x58, 0x45, 0x4e, 0x46, 0, 0, 0, 3, 0, 0, 0, 0,
     0, 0, 0, 0, 1, 0, 0, 0, 0x0c, 0, 0, 0, 0, 0, 0, 0, 1, 0, 0, 0, 2, 0, 0, 0, 8, 0, 0, 0, 8, 4, 0,
     0, 0, 0, 0, 0, 0x10, 0, 0, 0, 0, 0, 0, 0, 3, 0, 0, 0, 0x10, 0, 0, 0, 0, 0, 0, 0, 4, 0, 0, 0, 0,
@@ -58,14 +58,14 @@ fn level_1() -> [u8; 4096] {
 }
 
 // The shared page, where the root of the P2M lists isn't 0.
-fn shared() -> [u8; 4096] {
+pub(crate) fn shared() -> [u8; 4096] {
     let mut page = [0; 4096];
     page[3096] = 0x99;
     page
 }
 
 // The context of a vCPU: rdx says frame 2, and ctrlreg[3] frame 1, with bits below that the hypervisor set.
-fn context() -> [u8; 5168] {
+pub(crate) fn context() -> [u8; 5168] {
     let mut context = [0; 5168];
     context[616] = 2;
     context[5008..5016].copy_from_slice(&0x1067u64.to_le_bytes());
@@ -95,9 +95,9 @@ fn stream(alloc: Global) -> Result<Vec<u8>, Fail> {
     Ok(text)
 }
 
-// What is written of the guest with all its pages kept.
-fn kept(alloc: Global) -> Result<MemSink, Fail> {
-    let mut src = MemSource::new(stream(alloc)?, Vec::new(alloc), Vec::new(alloc));
+// What is written of the guest of this stream with all its pages kept.
+pub(crate) fn kept(alloc: Global, text: Vec<u8>) -> Result<MemSink, Fail> {
+    let mut src = MemSource::new(text, Vec::new(alloc), Vec::new(alloc));
     let Ok(reading) = read_any(alloc, &mut src) else {
         return Err("it is refused".into());
     };
@@ -120,15 +120,14 @@ fn write_frames<F: FrameSequence>(
     write_any_with(sink, outline, frames, &mut buffer)
 }
 
-// Writes the guest out of a file, of which these places can't be read in the second reading.
-fn copied(
+// Writes the guest of the stream in a file, of which another reading of the same is given.
+pub(crate) fn copied(
     alloc: Global,
     sink: &mut MemSink,
-    bad: Vec<u64>,
+    file: &MemFile,
+    again: &MemFile,
 ) -> Result<Result<(), CopyFailed>, Fail> {
-    let file = MemFile::new(stream(alloc)?, Vec::new(alloc));
-    let again = MemFile::new(stream(alloc)?, bad);
-    let mut src = FileSource::new(&file, 0);
+    let mut src = FileSource::new(file, 0);
     let Ok(
         PlacedGuest {
             mut outline,
@@ -142,7 +141,7 @@ fn copied(
     let Ok(marks) = blank_outline(alloc, &mut outline) else {
         return Err("no memory".into());
     };
-    let frames = PagesByNumber::new(&outline, &marks, &places, &again);
+    let frames = PagesByNumber::new(&outline, &marks, &places, again);
     Ok(write_frames(sink, &outline, &frames))
 }
 
@@ -151,19 +150,25 @@ fn copied(
 fn a_pv_guest_out_of_a_file_is_that_out_of_memory(rt: HostRuntime) -> Result<(), Fail> {
     let alloc = rt.alloc();
     let bad = vec![in alloc; FIRST, P2M, LEVEL_4, LEVEL_1]?;
+    let file = MemFile::new(stream(alloc)?, Vec::new(alloc));
+    let again = MemFile::new(stream(alloc)?, bad);
     let mut sink = MemSink::new(alloc, Vec::new(alloc));
-    assert_eq!(rt; copied(alloc, &mut sink, bad)?, Ok(()));
-    assert!(rt; sink.bytes() == kept(alloc)?.bytes());
+    assert_eq!(rt; copied(alloc, &mut sink, &file, &again)?, Ok(()));
+    assert!(rt; sink.bytes() == kept(alloc, stream(alloc)?)?.bytes());
     Ok(())
 }
 
 #[test]
 fn a_pv_guest_ends_where_a_page_cant_be_read(rt: HostRuntime) -> Result<(), Fail> {
     let alloc = rt.alloc();
-    let bad = vec![in alloc; LAST]?;
+    let file = MemFile::new(stream(alloc)?, Vec::new(alloc));
+    let again = MemFile::new(stream(alloc)?, vec![in alloc; LAST]?);
     let mut sink = MemSink::new(alloc, Vec::new(alloc));
-    let whole = kept(alloc)?;
-    assert_eq!(rt; copied(alloc, &mut sink, bad)?, Err(CopyFailed::Read));
+    let whole = kept(alloc, stream(alloc)?)?;
+    assert_eq!(rt;
+        copied(alloc, &mut sink, &file, &again)?,
+        Err(CopyFailed::Read)
+    );
     assert!(rt; whole.bytes().starts_with(sink.bytes()));
     assert!(rt; sink.bytes().len() < whole.bytes().len());
     Ok(())

@@ -10,6 +10,8 @@
 #[cfg(test)]
 mod blanked;
 #[cfg(test)]
+mod blanked_runs;
+#[cfg(test)]
 mod comparing;
 #[cfg(test)]
 mod files;
