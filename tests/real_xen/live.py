@@ -9,10 +9,12 @@ from front import headers
 from guests import Broken, Watched, place_configuration, wrong
 from programs import ends_with_parent
 
-PORT = '/dev/vport0p1'
-SENDS = ("xl migrate -s '' %s 'exec 3<> " + PORT + "; cat <&3 & echo $! > /tmp/wire; exec cat >&3'; status=$?; "
+# The number in the port's name depends on what other devices the machine has. A shell that opens a name that isn't there would make a file.
+FINDS = 'port=$(ls /dev/vport*) || exit; '
+SENDS = ("xl migrate -s '' %s '" + FINDS + "exec 3<> $port; cat <&3 & echo $! > /tmp/wire; exec cat >&3'; status=$?; "
          'kill $(cat /tmp/wire); exit $status')
-RECEIVES = 'exec 3<> ' + PORT + '; xl migrate-receive <&3 >&3'
+# xl leaves a daemon behind, which would keep any further descriptor, and a port can be open only once.
+RECEIVES = FINDS + 'xl migrate-receive <> $port >&0'
 MIGRATES, BLOCK, LOOKS = 1800, 1 << 16, 0.2          # seconds, bytes, seconds
 
 
