@@ -4,7 +4,9 @@ import os
 import select
 import subprocess
 import threading
+import time
 
+from faults import Fault
 from front import headers
 from guests import Broken, Watched, place_configuration, wrong
 from programs import ends_with_parent
@@ -15,7 +17,9 @@ SENDS = ("xl migrate -s '' %s '" + FINDS + "exec 3<> $port; cat <&3 & echo $! > 
          'kill $(cat /tmp/wire); exit $status')
 # xl leaves a daemon behind, which would keep any further descriptor, and a port can be open only once.
 RECEIVES = FINDS + 'xl migrate-receive <> $port >&0'
-MIGRATES, BLOCK, LOOKS = 1800, 1 << 16, 0.2          # seconds, bytes, seconds
+GIVES_UP = 'killall xl libxl-save-helper cat'        # each may have the port
+EMPTIES = FINDS + 'cat < $port > /dev/null & sleep 2; kill $!'
+MIGRATES, PATIENCE, BLOCK, LOOKS = 1800, 30, 1 << 16, 0.2  # seconds, seconds, bytes, seconds
 
 
 class Joined:
@@ -23,7 +27,7 @@ class Joined:
 
     def __init__(self, tool, one, other):
         self.tool, self.machines, self.one, self.other = tool, (one, other), one.wire, other.wire
-        self.ended, self.said = threading.Event(), 'nothing'
+        self.ended, self.said, self.refused = threading.Event(), 'nothing', False
         self.threads = [threading.Thread(target=way, daemon=True) for way in (self.forth, self.back)]
 
     def __enter__(self):
@@ -54,22 +58,53 @@ class Joined:
             passed += block if length else b''
         return passed
 
+    def empty(self):
+        """Takes away what a failed migration left, so that the next one doesn't meet it: whoever has a port, and what is in the wires."""
+        for machine in self.machines:
+            machine.run(GIVES_UP)
+        for machine in self.machines:
+            machine.run(EMPTIES)
+            while select.select([machine.wire], [], [], LOOKS)[0]:
+                machine.wire.recv(BLOCK)
+
     def back(self):
         self.copied(self.other, self.one)
 
     def forth(self):
         front = self.copied(self.one, self.other, headers.XL_LENGTH)
-        if len(front) < headers.XL_LENGTH:
-            return
-        self.copied(self.one, self.other, headers.xl_header(front).length)
+        if len(front) == headers.XL_LENGTH:
+            self.copied(self.one, self.other, headers.xl_header(front).length)
+            self.relayed()
+            if not self.refused:
+                self.copied(self.one, self.other)
+
+    def relayed(self):
+        """Lets the program pass on the stream. A wire has no end of file, so where the migration ended the program is ended, too."""
         program = subprocess.Popen([self.tool, 'relay'], stdin=self.one, stdout=self.other, stderr=subprocess.PIPE,
                                    preexec_fn=ends_with_parent)
-        self.said = program.communicate()[1].decode().strip()
-        if program.returncode == 0:
-            self.copied(self.one, self.other)
-            return
-        for machine in self.machines:                # where the program ended, both xl would wait for one another
-            machine.run('killall xl')
+        while program.poll() is None and not self.ended.wait(LOOKS):
+            pass
+        program.kill()
+        self.said = program.communicate()[1].decode().strip() or 'ended by the test'
+        self.refused = program.returncode != 0
+
+
+class Talker(threading.Thread):
+    """One of the two xl that talk, from its start to its end."""
+
+    def __init__(self, machine, command):
+        super().__init__(daemon=True)
+        self.machine, self.command = machine, command
+        self.status, self.said = None, ''
+
+    def run(self):
+        try:
+            self.status, self.said = self.machine.run(self.command, MIGRATES)
+        except (Fault, TimeoutError) as late:
+            self.said = str(late)
+
+    def __str__(self):
+        return 'status %s: %s' % (self.status, wrong(self.said))
 
 
 class Move:
@@ -81,21 +116,28 @@ class Move:
         return '%s is migrated live from %s to %s, its stream through mig_tool relay, and goes on' % (
             self.guest.name, *(os.path.basename(machine.lab) for machine in (self.one, self.other)))
 
-    def received(self, answer):
-        answer.append(self.other.run(RECEIVES, MIGRATES))
+    @staticmethod
+    def talk(joined, *talkers):
+        """Waits for the end of both xl. Where one ended, or the program refused the stream, the other has some time to end, too;
+        it might wait for ever."""
+        for talker in talkers:
+            talker.start()
+        while all(talker.is_alive() for talker in talkers) and not joined.refused:
+            time.sleep(LOOKS)
+        for talker in talkers:
+            talker.join(PATIENCE)
+            if talker.is_alive():
+                talker.machine.run(GIVES_UP)
+                talker.join()
 
     def moved(self):
         """Has the one xl send and the other receive; what the program said."""
-        answer = []
+        here, there = Talker(self.one, SENDS % self.guest.name), Talker(self.other, RECEIVES)
         with Joined(self.tool, self.one, self.other) as joined:
-            receiver = threading.Thread(target=self.received, args=(answer,), daemon=True)
-            receiver.start()
-            status, said = self.one.run(SENDS % self.guest.name, MIGRATES)
-            receiver.join(MIGRATES if not status else 60)
-        there = answer[0] if answer else (None, 'it said nothing')
-        if status or there[0] or not answer or not joined.said.startswith('ok '):
-            raise Broken('xl here: status %s: %s; xl there: status %s: %s; mig_tool: %s' % (
-                status, wrong(said), there[0], wrong(there[1]), joined.said))
+            self.talk(joined, there, here)
+        if here.status != 0 or there.status != 0 or not joined.said.startswith('ok '):
+            joined.empty()
+            raise Broken('xl here: %s; xl there: %s; mig_tool: %s' % (here, there, joined.said))
         return joined.said
 
     def run(self):
@@ -109,5 +151,6 @@ class Move:
             arrived.find_domain()
             return 'up at start %d; %s; mig_tool: %s' % (attempt, arrived.goes_on(mark, last), said)
         finally:
-            for watched in left, arrived:
+            part = self.guest._replace(name=self.guest.name + '--incoming')    # its name until all of it is there
+            for watched in left, arrived, Watched(self.other, part):
                 watched.destroy()
